@@ -1,0 +1,89 @@
+-- The answer to a call that nothing refuses is that of its run; so demand 3 holds of the answers, for rows and for bytes.
+use mathlib.Core.Path.{_≡_, refl, ap, _∙_}
+use mathlib.Core.Bool.{Bool, true, false}
+use mathlib.Core.Option.{Option, none, some}
+use mathlib.Core.List.{List}
+use Prim.Native.Nat.{ℕ, _≤_}
+use native.Mathlib.Omega.{arith}
+use lib.IntN.{ℤ}
+use lib.Dec.{ltb}
+use borrow.Author.Tests.{ltb-true}
+use Rattle.meaning.specs.Basics.{ifElse}
+use Rattle.meaning.specs.Limits.{maxBudget}
+use Rattle.meaning.specs.TableBytes.{Refusal, bytesFault, rowsOf}
+use Rattle.meaning.specs.State.{State}
+use Rattle.meaning.specs.Ready.{Label}
+use Rattle.meaning.specs.Run as R
+use Rattle.meaning.specs.Run.{run}
+use Rattle.meaning.specs.Sheet.{sheetFault, readings}
+use Rattle.meaning.specs.Buffers.{Buffers, tooShort}
+use Rattle.meaning.specs.Answers.{Task, Result, ran, firstFault, check, budgetFault, bufferFault, result, resultOfBytes, Reply, replyOf, reply, replyToBytes}
+use Rattle.meaning.specs.Order.{OrderOf, RestOf, outcomeOf}
+use Rattle.meaning.specs.Accepted.{Accepted}
+use Rattle.agreement.specs.Statements.{NoAlt, OneRest, CallsAnswer, Demand3, Demand3Bytes}
+use Rattle.agreement.proofs.TableFit.{fit}
+use Rattle.agreement.proofs.OneRest.{agreement}
+
+buffers-suffice : (b : Buffers) → tooShort b ≡ false → bufferFault b ≡ none
+unfolding bufferFault
+buffers-suffice b e = rw e
+
+budget-allowed : (budget : ℕ) → budget ≤ maxBudget → budgetFault maxBudget budget ≡ none
+unfolding budgetFault
+budget-allowed budget h = go (ltb maxBudget budget) refl
+  where
+    go : (t : Bool) → ltb maxBudget budget ≡ t → ifElse {A = Option Refusal} t (some (11, 0)) none ≡ none
+    go true e = let l = ltb-true maxBudget budget e in absurd (omega arith)
+    go false e = refl
+
+module _ (rows : List ℤ) (sheet : List ℕ) (accepted : check rows ≡ none) (read : sheetFault rows sheet ≡ none) where
+  -- what runs
+  abbrev ending : List ℕ → ℕ → R.Result
+  ending choices budget = run rows (readings rows sheet) choices budget
+
+  abbrev task : List ℕ → ℕ → Task
+  task choices budget = record { rows = rows; sheet = sheet; choices = choices; budget = budget }
+
+  -- a task that nothing refuses runs
+  runs : (choices : List ℕ) (budget : ℕ) → budget ≤ maxBudget → result (task choices budget) ≡ ran (ending choices budget)
+  unfolding result firstFault
+  runs choices budget h = rw (accepted, read, budget-allowed budget h)
+
+  replies : (choices : List ℕ) (budget : ℕ) (b : Buffers) → tooShort b ≡ false → budget ≤ maxBudget
+      → reply (task choices budget) b ≡ replyOf rows b (ran (ending choices budget))
+  unfolding reply
+  replies choices budget b e h = rw (buffers-suffice b e, runs choices budget h)
+
+  module _ (w : NoAlt rows) (l : List Label) (s : State) (o : OrderOf rows (readings rows sheet) l s) (r : RestOf rows (readings rows sheet) s) where
+    agreed : OneRest rows (readings rows sheet) l s
+    agreed k t q =
+        let (n, z) = agreement Accepted (λ rows sheet a. fit rows (a .0)) rows (readings rows sheet) (accepted, (sheet, (read, refl))) w l s o r .0 k t q in
+        (n, λ y. (z y .0, z y .1, ap (outcomeOf rows) (z y .1)))
+
+    -- a call that answers as its run does
+    answers : (call : List ℕ → ℕ → Buffers → Reply) → ((choices : List ℕ) (budget : ℕ) (b : Buffers) → tooShort b ≡ false → budget ≤ maxBudget → call choices budget b ≡ replyOf rows b (ran (ending choices budget)))
+        → CallsAnswer call rows l s
+    answers call h choices budget b e m =
+        let (enough, less) = agreement Accepted (λ rows sheet a. fit rows (a .0)) rows (readings rows sheet) (accepted, (sheet, (read, refl))) w l s o r .1 choices budget in (
+          λ k. h choices budget b e m ∙ ap (λ (z : R.Result). replyOf rows b (ran z)) (enough k),
+          λ k. ap (λ (z : Reply). z .answer) (h choices budget b e m) ∙ (let (p, q) = less k in rw (p, q)),
+        )
+
+pub demand3 : Demand3
+demand3 rows sheet accepted read w l s o r = (
+  agreed rows sheet accepted read w l s o r,
+  answers rows sheet accepted read w l s o r (λ choices budget b. reply (record { rows = rows; sheet = sheet; choices = choices; budget = budget }) b) (replies rows sheet accepted read),
+)
+
+-- the answer to bytes that are a table is the answer to its rows
+bytes-reply : (table sheet : List ℕ) → bytesFault table ≡ none → check (rowsOf table) ≡ none → sheetFault (rowsOf table) sheet ≡ none
+    → (choices : List ℕ) (budget : ℕ) (b : Buffers) → tooShort b ≡ false → budget ≤ maxBudget
+    → replyToBytes table sheet choices budget b ≡ replyOf (rowsOf table) b (ran (run (rowsOf table) (readings (rowsOf table) sheet) choices budget))
+unfolding replyToBytes resultOfBytes
+bytes-reply table sheet whole accepted read choices budget b e h = rw (buffers-suffice b e, whole, runs (rowsOf table) sheet accepted read choices budget h)
+
+pub demand3-bytes : Demand3Bytes
+demand3-bytes table sheet whole accepted read w l s o r = (
+  agreed (rowsOf table) sheet accepted read w l s o r,
+  answers (rowsOf table) sheet accepted read w l s o r (λ choices budget b. replyToBytes table sheet choices budget b) (bytes-reply table sheet whole accepted read),
+)

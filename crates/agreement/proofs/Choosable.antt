@@ -1,0 +1,92 @@
+-- Every order is some run's: for each of its steps there is a choice below 65,536 that picks it.
+use mathlib.Core.Path.{_≡_, refl, sym, ap, _∙_}
+use mathlib.Core.List.{List, [], _∷_, List·Memᴰ, List·Memᴰ·head, List·Memᴰ·tail, List·Memᴰ·not-nil}
+use Prim.Native.Nat.{ℕ, suc, _+_, _<_, _≤_}
+use native.Mathlib.Omega.{arith}
+use native.Mathlib.Nat.{mod-eq-of-lt}
+use lib.IntN.{ℤ}
+use lib.ListN.{length, getD, drop}
+use Rattle.meaning.specs.Rows.{rowCount}
+use Rattle.meaning.specs.State.{State, program}
+use Rattle.meaning.specs.Intent.{Sheet}
+use Rattle.meaning.specs.Ready.{Label, ready, after}
+use Rattle.meaning.specs.Run.{chosenStep, goFrom, go, run}
+use Rattle.meaning.specs.Order.{Order, halt, then, Chosen, none-left, chosen}
+use Rattle.agreement.proofs.Claims.{Choosable}
+use Rattle.agreement.proofs.Steps.{distinct-options, allowed-ready, offers-rise}
+use Rattle.agreement.proofs.Fit.{Fit}
+use Rattle.agreement.proofs.OptionRows.{OptionRows}
+use Rattle.agreement.proofs.Working.{Inv}
+use Rattle.agreement.proofs.Invariant.{step-inv, start-inv}
+use Rattle.agreement.proofs.Separate.{processes-length}
+use Rattle.agreement.proofs.FewReady.{few-ready}
+
+-- where a step stands in a list
+place : (x d : Label) (l : List Label) → List·Memᴰ x l → (p : ℕ) × (p < length l) × (getD l p d ≡ x)
+place x d (y ∷ l) (List·Memᴰ·head e) = (0, omega arith, sym e)
+place x d (y ∷ l) (List·Memᴰ·tail m) = let (p, h, e) = place x d l m in (suc p, omega arith, e)
+
+-- the choice that is the place of a step picks it
+picks : (p : ℕ) (rest : List ℕ) (x y : Label) (m : List Label) → p < length (y ∷ m) → getD (y ∷ m) p y ≡ x → chosenStep (p ∷ rest) y m ≡ x
+unfolding chosenStep
+picks p rest x y m h e = rw (mod-eq-of-lt h) e
+
+module _ (rows : List ℤ) (sheet : Sheet) (F : Fit (program rows) (rowCount rows)) (O : OptionRows (program rows)) (small : rowCount rows ≤ 65536) where
+  abbrev I : State → Type 0
+  I s = Inv (program rows) (rowCount rows) F sheet s
+
+  -- choices that pick an order from s to t, and what a run does with them after n steps
+  abbrev Follows : State → List Label → State → List ℕ → Type 0
+  Follows s l t choices =
+      ((c : ℕ) → List·Memᴰ c choices → c < 65536) × Chosen (program rows) sheet s choices l
+      × ((n : ℕ) → let r = goFrom (program rows) sheet (length l) n choices s (ready (program rows) sheet s) in (r .state ≡ t) × (r .steps ≡ n + length l))
+
+  stops : (s : State) (n : ℕ) (choices : List ℕ) (l : List Label) → let r = goFrom (program rows) sheet 0 n choices s l in (r .state ≡ s) × (r .steps ≡ n + 0)
+  unfolding goFrom
+  stops s n choices [] = (refl, omega arith)
+  stops s n choices (x ∷ l) = (refl, omega arith)
+
+  below : (p : ℕ) (rest : List ℕ) → p < 65536 → ((c : ℕ) → List·Memᴰ c rest → c < 65536) → (c : ℕ) → List·Memᴰ c (p ∷ rest) → c < 65536
+  below p rest h g c (List·Memᴰ·head e) = rw e h
+  below p rest h g c (List·Memᴰ·tail m) = g c m
+
+  go-on : (b n : ℕ) (choices : List ℕ) (s : State) (y : Label) (m : List Label)
+      → let t = after (program rows) sheet (chosenStep choices y m) s in goFrom (program rows) sheet (suc b) n choices s (y ∷ m) ≡ goFrom (program rows) sheet b (suc n) (drop 1 choices) t (ready (program rows) sheet t)
+  unfolding goFrom
+  go-on b n choices s y m = refl
+
+  -- one more step in front
+  step-first : (s : State) (x : Label) (t u : State) (l : List Label) (y : Label) (m : List Label) → ready (program rows) sheet s ≡ y ∷ m → (p : ℕ) → p < length (y ∷ m) → p < 65536 → getD (y ∷ m) p y ≡ x
+      → t ≡ after (program rows) sheet x s → (rest : List ℕ) → Follows t l u rest → Follows s (x ∷ l) u (p ∷ rest)
+  step-first s x t u l y m e p h g q z rest (b, c, f) =
+      let k = picks p rest x y m h q in
+      let v : after (program rows) sheet (chosenStep (p ∷ rest) y m) s ≡ t = ap (λ (w : Label). after (program rows) sheet w s) k ∙ sym z in
+      let first : Chosen (program rows) sheet s (p ∷ rest) (chosenStep (p ∷ rest) y m ∷ l) = chosen {choices = p ∷ rest} {l = l} e (rw v c) in (
+        below p rest g b,
+        rw k at first,
+        λ n. rw (e, go-on (length l) n (p ∷ rest) s y m, v) (f (suc n) .0, f (suc n) .1 ∙ omega arith),
+      )
+
+  -- by the place of the step among the ready ones
+  by-list : (s : State) (x : Label) (t u : State) (l r : List Label) → ready (program rows) sheet s ≡ r → length r ≤ rowCount rows → List·Memᴰ x r → t ≡ after (program rows) sheet x s → (rest : List ℕ) → Follows t l u rest
+      → (choices : List ℕ) × Follows s (x ∷ l) u choices
+  by-list s x t u l [] e k m z rest f = absurd (List·Memᴰ·not-nil m)
+  by-list s x t u l (y ∷ r) e k m z rest f = let (p, h, q) = place x y (y ∷ r) m in (p ∷ rest, step-first s x t u l y r e p h (omega arith) q z rest f)
+
+  pub follows : {s t : State} {l : List Label} → I s → Order (program rows) sheet s l t → (choices : List ℕ) × Follows s l t choices
+  follows {s} i halt = ([], (λ c m. absurd (List·Memᴰ·not-nil m), none-left, λ n. stops s n [] (ready (program rows) sheet s)))
+  follows i (then {s} {t} {u} {x} {l} h o) =
+      let (a, z) = allowed-ready rows sheet s (i .size) x t h in
+      let j = step-inv (program rows) (rowCount rows) F sheet (distinct-options rows sheet) s x t i h in
+      let few : length (ready (program rows) sheet s) ≤ rowCount rows = few-ready (program rows) (rowCount rows) F sheet s i O (offers-rise rows sheet s) in
+      let (rest, f) = follows j o in
+      by-list s x t u l (ready (program rows) sheet s) refl few a z rest f
+
+-- the claim of `Order`: every step that is allowed can be chosen
+pub choosable : (Accepted : List ℤ → Sheet → Type 0)
+    → ((rows : List ℤ) (sheet : Sheet) → Accepted rows sheet → Fit (program rows) (rowCount rows) × OptionRows (program rows) × (rowCount rows ≤ 65536)) → Choosable Accepted
+unfolding run go
+choosable Accepted fit rows sheet l s a o =
+    let (F, O, k) = fit rows sheet a in
+    let (choices, (b, c, f)) = follows rows sheet F O k (start-inv (program rows) (rowCount rows) F sheet (processes-length rows)) o in
+    (choices, b, c, f 0 .0, f 0 .1 ∙ omega arith)

@@ -1,0 +1,31 @@
+-- Demands 2 and 3 as `Statements` words them, with nothing left to assume.
+use mathlib.Core.Path.{sym, _∙_}
+use native.Mathlib.Omega.{arith}
+use Rattle.meaning.specs.Accepted.{Accepted}
+use Rattle.agreement.specs.Statements.{ReadyExactly, EveryOrderChosen, OneStepDiamond, ListsGrow}
+use Rattle.agreement.proofs.Reached.{ready-steps}
+use Rattle.agreement.proofs.TableFit.{fit, rows-limit}
+use Rattle.agreement.proofs.TableOptions.{option-rows}
+use Rattle.agreement.proofs.Choosable.{choosable}
+use Rattle.agreement.proofs.WithoutAlt
+use Rattle.agreement.proofs.OutputsGrow.{step-grows}
+use Rattle.meaning.specs.State.{program}
+pub use Rattle.agreement.proofs.RowsAscend.{rows-ascend}
+pub use Rattle.agreement.proofs.Elements.{one-per-element}
+pub use Rattle.agreement.proofs.RunTakesOrder.{run-takes-order}
+pub use Rattle.agreement.proofs.Answered.{demand3, demand3-bytes}
+
+pub ready-exactly : ReadyExactly
+ready-exactly rows sheet s (l, o) x =
+    let (both, one) = ready-steps (λ rows sheet. Unit {0}) rows sheet l s tt o x in
+    (both, λ t u h g. one t h ∙ sym (one u g))
+
+pub every-order-chosen : EveryOrderChosen
+every-order-chosen rows sheet a l s o =
+    choosable Accepted (λ rows sheet a. (fit rows (a .0), option-rows rows (a .0), (let h = rows-limit rows (a .0) in omega arith))) rows sheet l s a o
+
+pub one-step-diamond : OneStepDiamond
+one-step-diamond rows sheet a w s (l, o) = WithoutAlt.one-step-diamond rows sheet (fit rows (a .0)) w l s o
+
+pub lists-grow : ListsGrow
+lists-grow rows sheet s t x h port = step-grows (program rows) sheet s x t h port

@@ -1,0 +1,158 @@
+-- Two ready steps with no row in common leave one another ready, and commute.
+use mathlib.Core.Path.{_≡_, refl, sym, ap, ap₂, _∙_}
+use mathlib.Core.Logic.{_≢_}
+use mathlib.Core.Option.{some}
+use mathlib.Core.List.{List, [], _∷_}
+use Prim.Native.Nat.{ℕ}
+use Rattle.meaning.specs.Tree.{Action, Process, node, actionOf}
+use Rattle.meaning.specs.State.{Store, State, Program, processAt, whole, Write, writeCell, writeAll, StateChange, Effect, settled}
+use Rattle.meaning.specs.Intent.{Sheet, openOffer, inputOffer, Intent, intent}
+use Rattle.meaning.specs.Ready.{Label, effectOf, intentAt}
+use Rattle.meaning.specs.Step.{Step}
+use Rattle.agreement.proofs.Commute.{At}
+use Rattle.agreement.proofs.Parts.{Part, Each, Differ, Cross, leap, leap-stays, leap-comm}
+use Rattle.agreement.proofs.Takeable.{takeable, DistinctOptions}
+use Rattle.agreement.proofs.Allowed.{allowed}
+use Rattle.agreement.proofs.Fit.{Apt, Fit}
+use Rattle.agreement.proofs.Near.{near}
+use Rattle.agreement.proofs.Proper.{AllOwned, offer-proper}
+use Rattle.agreement.proofs.Active.{RowOf, its, receiver, sender, chooser, selector, giver, offerAt-is, Active, acts-alone, passes-on, takes-open, takes-input, active, effect-same}
+use Rattle.agreement.proofs.Working.{acts, Inv, Works, works, works-proper, works-apart, frontier-does}
+use Rattle.agreement.proofs.Invariant.{partsOf, step-parts, settled-leaps}
+use Rattle.agreement.proofs.Writes.{AllBy, near-writes, writes-comm}
+
+-- two steps have no row in common
+abbrev pub RowsApart : Label → Label → Type 0
+RowsApart x y = (r q : ℕ) → RowOf x r → RowOf y q → r ≢ q
+
+-- ---- the rows that make a step's changes
+
+abbrev MadeBy : Label → List StateChange → Type 0
+MadeBy x [] = Unit {0}
+MadeBy x (m ∷ l) = RowOf x (m .by) × MadeBy x l
+
+made-by : {w : ℕ → Intent} {x : Label} {e : Effect} → Active w x e → MadeBy x (e .changes)
+made-by (acts-alone h) = (its, tt)
+made-by (passes-on h g) = (receiver, (sender, tt))
+made-by (takes-open h g) = (chooser, tt)
+made-by (takes-input h g f) = (selector, (giver, tt))
+
+differ-of : (x y : Label) → RowsApart x y → (r : ℕ) → RowOf x r → (q : Part) → q .b ≡ r → (m : List StateChange) → MadeBy y m → Differ q (partsOf m)
+differ-of x y d r h q e [] g = tt
+differ-of x y d r h q e (c ∷ m) g = (λ z. d r (c .by) h (g .0) (sym e ∙ z), differ-of x y d r h q e m (g .1))
+
+cross-of : (x y : Label) → RowsApart x y → (l m : List StateChange) → MadeBy x l → MadeBy y m → Cross (partsOf l) (partsOf m)
+cross-of x y d [] m h g = tt
+cross-of x y d (c ∷ l) m h g = (differ-of x y d (c .by) (h .0) (record { b = c .by; x = c .at; v = c .become }) refl m g, cross-of x y d l m (h .1) g)
+
+-- each row of a step makes one of its changes
+row-at : {w : ℕ → Intent} {x : Label} {e : Effect} (p : Process) (s : List ℕ) → Active w x e → (r : ℕ) → RowOf x r → Each p (partsOf (e .changes)) s → (y : ℕ) × ((v : ℕ) × At r y v s p)
+row-at p s (acts-alone {x = y} {v} h) r its k = (y, (v, k .0))
+row-at p s (passes-on h g) r receiver k = (r, (2, k .0))
+row-at p s (passes-on h g) r sender k = (r, (2, k .1 .0))
+row-at p s (takes-open {q} h g) r chooser k = (q, (1, k .0))
+row-at p s (takes-input {q} h g f) r selector k = (q, (1, k .0))
+row-at p s (takes-input h g f) r giver k = (r, (2, k .1 .0))
+
+module _ (P : Program) (n : ℕ) (F : Fit P n) (sheet : Sheet) where
+  -- the actions of the rows of a step
+  abbrev Of : State → Label → Action → Type 0
+  Of s x k = (r : ℕ) × RowOf x r × ((A : Works P n F sheet s r) × (A .action ≡ k))
+
+  row-works : (s : State) {x : Label} {e : Effect} → Inv P n F sheet s → Active (intentAt P sheet s) x e → (r : ℕ) → RowOf x r → Works P n F sheet s r
+  row-works s i (acts-alone h) r its = works P n F sheet s r i (ap acts h)
+  row-works s i (passes-on h g) r receiver = works P n F sheet s r i (ap acts h)
+  row-works s i (passes-on h g) r sender = works P n F sheet s r i (ap acts g)
+  row-works s i (takes-open h g) r chooser = works P n F sheet s r i (ap acts h)
+  row-works s i (takes-input h g f) r selector = works P n F sheet s r i (ap acts h)
+  row-works s i (takes-input h g f) r giver = works P n F sheet s r i (ap acts f)
+
+  owned-by : (s : State) (x : Label) (r : ℕ) → RowOf x r → (A : Works P n F sheet s r) (ws : List Write) → AllOwned (F .source) (F .sink) (A .action) ws → AllBy (F .source) (F .sink) (Of s x) ws
+  owned-by s x r m A [] h = tt
+  owned-by s x r m A (w ∷ ws) h = ((A .action, (r, m, (A, refl)), h .0), owned-by s x r m A ws (h .1))
+
+  -- every write of a step is of one of its rows
+  writes-by : (s : State) {x : Label} {e : Effect} → Inv P n F sheet s → Active (intentAt P sheet s) x e → AllBy (F .source) (F .sink) (Of s x) (e .writes)
+  writes-by s i (acts-alone {r} {ws} h) =
+      let A = works P n F sheet s r i (ap acts h) in
+      owned-by s _ r its A ws (works-proper P n F sheet s r A h .1)
+  writes-by s i (passes-on {i = r} {a} {z} h g) =
+      let A = works P n F sheet s r i (ap acts h) in
+      owned-by s _ r receiver A (writeCell a z ∷ []) (works-proper P n F sheet s r A h .1, tt)
+  writes-by s i (takes-open {r} {j} {q} {i = k} {ws} {os} h g) =
+      let A = works P n F sheet s r i (ap acts h) in
+      owned-by s _ r chooser A ws (offer-proper (F .source) (F .sink) (A .action) (A .members) (openOffer k q ws) os (works-proper P n F sheet s r A h) (offerAt-is j (openOffer k q ws) os g .0) .2)
+  writes-by s i (takes-input {r} {j} {q} {i = k} {e = d} {a} {z} {os} h g f) =
+      let A = works P n F sheet s r i (ap acts h) in
+      owned-by s _ r selector A (writeCell a z ∷ []) (offer-proper (F .source) (F .sink) (A .action) (A .members) (inputOffer k q d a) os (works-proper P n F sheet s r A h) (offerAt-is j (inputOffer k q d a) os g .0) .3, tt)
+
+  store-of : (e : Effect) (s : State) → settled P e s .store ≡ writeAll (e .writes) (s .store)
+  unfolding settled
+  store-of e s = refl
+
+  same-state : {s t : State} → s .states ≡ t .states → s .store ≡ t .store → s ≡ t
+  same-state e f = ap₂ (λ (a : List ℕ) (b : Store). record { states = a; store = b }) e f
+
+  module _ (s : State) (i : Inv P n F sheet s) where
+    actions-apart : (x y : Label) → RowsApart x y → (k j : Action) → Of s x k → Of s y j → Apt k j
+    actions-apart x y d k j (r, h, (A, e)) (q, g, (B, f)) = rw (← e, ← f) (works-apart P n F sheet s r q i A B (d r q h g))
+
+    -- a row of the second step would do the same after the first
+    does-same : {x y : Label} {e f : Effect} → Active (intentAt P sheet s) x e → Active (intentAt P sheet s) y f → RowsApart x y
+        → (q : ℕ) → RowOf y q → intentAt P sheet (settled P e s) q ≡ intentAt P sheet s q
+    does-same {x} {y} {e} {f} A B d q h =
+        let C = row-works s i B q h in
+        let k = C .action in
+        let t = settled P e s in
+        let (ea, pa) = step-parts P n F sheet s i A in
+        let (eb, pb) = step-parts P n F sheet s i B in
+        let stay = leap-stays (whole P) n (F .sound) (partsOf (e .changes)) (partsOf (f .changes)) (s .states) (i .size) ea pa eb pb (cross-of x y d (e .changes) (f .changes) (made-by A) (made-by B)) in
+        let each : Each (whole P) (partsOf (f .changes)) (t .states) = rw (settled-leaps P n F sheet e s) stay in
+        let (y′, (v, at)) = row-at (whole P) (t .states) B q h each in
+        let z : processAt P q ≡ node k q (C .members) = F .placed k q (C .members) (C .sub) in
+        let g = near (F .source) (F .sink) sheet (s .store) (writeAll (e .writes) (s .store)) k q (F .hosts k q (C .members) (C .sub))
+        (near-writes (F .source) (F .sink) (Of s x) k (λ j o. actions-apart x y d j k o (q, h, (C, refl))) (e .writes) (s .store) (writes-by s i A)) in
+        frontier-does P n F sheet t q y′ v at ∙ ap (λ (p : Process). intent sheet (actionOf p) q (t .store)) z ∙ ap (intent sheet k q) (store-of e s) ∙ sym g ∙ sym (C .does)
+
+    module _ (x y : Label) (e f : Effect) (qe : effectOf x (intentAt P sheet s) ≡ some e) (qf : effectOf y (intentAt P sheet s) ≡ some f) (d : RowsApart x y) where
+      abbrev A : Active (intentAt P sheet s) x e
+      A = active (intentAt P sheet s) x e qe
+
+      abbrev B : Active (intentAt P sheet s) y f
+      B = active (intentAt P sheet s) y f qf
+
+      -- the second step does the same after the first
+      pub stays-ready : effectOf y (intentAt P sheet (settled P e s)) ≡ some f
+      stays-ready = effect-same y (intentAt P sheet (settled P e s)) (intentAt P sheet s) (λ q h. does-same A B d q h) ∙ qf
+
+      -- the two, in either order, leave one state
+      pub one-state : settled P f (settled P e s) ≡ settled P e (settled P f s)
+      one-state =
+          let l = partsOf (e .changes) in
+          let m = partsOf (f .changes) in
+          let (ea, pa) = step-parts P n F sheet s i A in
+          let (eb, pb) = step-parts P n F sheet s i B in
+          let back : RowsApart y x = λ r q h g z. d q r g h (sym z) in
+          same-state
+          (settled-leaps P n F sheet f (settled P e s) ∙ ap (leap (whole P) n (F .sound) m) (settled-leaps P n F sheet e s)
+          ∙ leap-comm (whole P) n (F .sound) l m (s .states) (i .size) ea pa eb pb (cross-of x y d (e .changes) (f .changes) (made-by A) (made-by B)) (cross-of y x back (f .changes) (e .changes) (made-by B) (made-by A))
+          ∙ sym (settled-leaps P n F sheet e (settled P f s) ∙ ap (leap (whole P) n (F .sound) l) (settled-leaps P n F sheet f s)))
+          (store-of f (settled P e s) ∙ ap (writeAll (f .writes)) (store-of e s)
+          ∙ writes-comm (F .source) (F .sink) (Of s x) (Of s y) (actions-apart x y d) (e .writes) (f .writes) (s .store) (writes-by s i A) (writes-by s i B)
+          ∙ sym (store-of e (settled P f s) ∙ ap (writeAll (e .writes)) (store-of f s)))
+
+    meet : (x y : Label) (t u : State) (e f : Effect) → effectOf x (intentAt P sheet s) ≡ some e → effectOf y (intentAt P sheet s) ≡ some f → t ≡ settled P e s → u ≡ settled P f s → RowsApart x y
+        → (v : State) × Step P sheet t y v × Step P sheet u x v
+    meet x y t u e f qe qf ze zf d =
+        let back : RowsApart y x = λ r q h g z. d q r g h (sym z) in (
+          settled P f (settled P e s),
+          rw ze (allowed P sheet (settled P e s) y f (stays-ready x y e f qe qf d)),
+          rw (zf, one-state x y e f qe qf d) (allowed P sheet (settled P f s) x e (stays-ready y x f e qf qe back)),
+        )
+
+    -- two steps with no row in common: each is allowed after the other, and they lead to one state
+    pub apart-diamond : DistinctOptions P sheet s → (x y : Label) (t u : State) → Step P sheet s x t → Step P sheet s y u → RowsApart x y → (v : State) × Step P sheet t y v × Step P sheet u x v
+    apart-diamond D x y t u hx hy d =
+        let (e, (qe, ze)) = takeable P sheet s D x t hx in
+        let (f, (qf, zf)) = takeable P sheet s D y u hy in
+        meet x y t u e f qe qf ze zf d

@@ -1,0 +1,162 @@
+-- Missing stays missing, step by step: a cell changes only by what a step hands to it, and only an absent reading unsets one. It holds of every table.
+use mathlib.Core.Path.{_≡_, refl, sym, ap, subst, _∙_}
+use mathlib.Core.Logic.{_⊎_, inl, inr}
+use mathlib.Core.Option.{none, some, Option·none-ne-some, Option·some-injective}
+use mathlib.Core.List.{List, [], _∷_, _++_}
+use Prim.Native.Nat.{ℕ, zero, suc}
+use lib.IntN.{ℤ}
+use lib.ListN.{getD, set, replicate}
+use lib.Seq.{getD-set-same}
+use Rattle.meaning.specs.State.{Message, State, Program, program, start, settled, Effect}
+use Rattle.meaning.specs.Intent.{Sheet}
+use Rattle.meaning.specs.Ready.{Label}
+use Rattle.meaning.specs.Step.{sends, Host, Step, assignment, while-false, while-true, if-true, communication, host-read, host-write, alt-skip, alt-read, alt-communication, stopping}
+use Rattle.meaning.specs.Order.{Order, halt, then}
+use Rattle.agreement.specs.MissingClaims.{cellOf, Delivers, by-assignment, by-communication, by-reading, by-option-reading, by-option-communication, ReadsAbsent, input-absent, option-absent, SetOnly, SetByNumber, OnlyAbsentUnsets, DeliveredHolds, AbsentUnsets, SetInOrder}
+use Rattle.agreement.proofs.Takeable.{takeable}
+use Rattle.agreement.proofs.Steps.{distinct-options}
+
+-- a store into one cell changes that cell or none, and past the end none
+stored-or-same : (l : List Message) (b a : ℕ) (m : Message) → (getD (set l b m) a none ≡ getD l a none) ⊎ ((b ≡ a) × (getD (set l b m) a none ≡ m))
+stored-or-same [] b a m = inl refl
+stored-or-same (x ∷ l) zero zero m = inr (refl, refl)
+stored-or-same (x ∷ l) zero (suc a) m = inl refl
+stored-or-same (x ∷ l) (suc b) zero m = inl refl
+stored-or-same (x ∷ l) (suc b) (suc a) m = go (stored-or-same l b a m)
+  where
+    go : (getD (set l b m) a none ≡ getD l a none) ⊎ ((b ≡ a) × (getD (set l b m) a none ≡ m))
+        → (getD (set l b m) a none ≡ getD l a none) ⊎ ((suc b ≡ suc a) × (getD (set l b m) a none ≡ m))
+    go (inl e) = inl e
+    go (inr (e, h)) = inr (ap suc e, h)
+
+-- an absent reading, stored, leaves none, past the end too
+none-stored : (l : List Message) (a : ℕ) → getD (set l a none) a none ≡ none
+none-stored [] a = refl
+none-stored (x ∷ l) zero = refl
+none-stored (x ∷ l) (suc a) = none-stored l a
+
+module _ (P : Program) (sheet : Sheet) (s : State) (x : Label) where
+  -- the message m handed to cell b, seen at cell a
+  handed : (b a : ℕ) (m : Message) → Delivers P sheet s x b m
+      → (getD (set (s .store .cells) b m) a none ≡ cellOf s a) ⊎ ((n : Message) × Delivers P sheet s x a n × (getD (set (s .store .cells) b m) a none ≡ n))
+  handed b a m d = go (stored-or-same (s .store .cells) b a m)
+    where
+      go : (getD (set (s .store .cells) b m) a none ≡ cellOf s a) ⊎ ((b ≡ a) × (getD (set (s .store .cells) b m) a none ≡ m))
+          → (getD (set (s .store .cells) b m) a none ≡ cellOf s a) ⊎ ((n : Message) × Delivers P sheet s x a n × (getD (set (s .store .cells) b m) a none ≡ n))
+      go (inl e) = inl e
+      go (inr (e, h)) = inr (m, subst (λ (c : ℕ). Delivers P sheet s x c m) e d, h)
+
+-- a step leaves every cell as it was, but for one to which it hands a message
+pub set-only : SetOnly
+unfolding settled
+set-only P sheet s x t (assignment {r} {a = b} {z} g p q) a = handed P sheet s x b a (some z) (by-assignment g p q)
+set-only P sheet s x t (while-false g h) a = inl refl
+set-only P sheet s x t (while-true g h) a = inl refl
+set-only P sheet s x t (if-true g h) a = inl refl
+set-only P sheet s x t (communication {a = b} {m} g k h w) a = handed P sheet s x b a m (by-communication g k h w)
+set-only P sheet s x t (host-read {a = b} {v} g h) a = handed P sheet s x b a v (by-reading g h)
+set-only P sheet s x t (host-write g h p q o m) a = inl refl
+set-only P sheet s x t (alt-skip g c m h q) a = inl refl
+set-only P sheet s x t (alt-read {a = b} {v} g c m h q k) a = handed P sheet s x b a v (by-option-reading g c m h q k)
+set-only P sheet s x t (alt-communication {a = b} {m = z} g c m k h q w y) a = handed P sheet s x b a z (by-option-communication g c m k h q w y)
+set-only P sheet s x t (stopping g h) a = inl refl
+
+-- a cell that holds a number after a step held it before, or was handed it
+pub set-by-number : SetByNumber
+set-by-number P sheet s x t h a z e = go (set-only P sheet s x t h a)
+  where
+    go : (cellOf t a ≡ cellOf s a) ⊎ ((m : Message) × Delivers P sheet s x a m × (cellOf t a ≡ m)) → (cellOf s a ≡ some z) ⊎ Delivers P sheet s x a (some z)
+    go (inl q) = inl (sym q ∙ e)
+    go (inr (m, d, q)) = inr (subst (λ (n : Message). Delivers P sheet s x a n) (sym q ∙ e) d)
+
+-- only a host read hands over no number: an assignment and an output have one
+absent-delivery : (P : Program) (sheet : Sheet) (s : State) (x : Label) (a : ℕ) (m : Message) → Delivers P sheet s x a m → m ≡ none → ReadsAbsent P sheet s x a
+absent-delivery P sheet s x a m (by-assignment {z} g p q) e = absurd (Option·none-ne-some z (sym e))
+absent-delivery P sheet s x a m (by-communication g k h (sends {v} u p q)) e = absurd (Option·none-ne-some v (sym e))
+absent-delivery P sheet s x a m (by-reading {n} {i} g h) e = input-absent g (subst (λ (v : Message). Host sheet (s .store) i a v n) e h)
+absent-delivery P sheet s x a m (by-option-reading {n} {i} g c b h q k) e = option-absent g c b h q (subst (λ (v : Message). Host sheet (s .store) i a v n) e k)
+absent-delivery P sheet s x a m (by-option-communication g c b k h q w (sends {v} u p y)) e = absurd (Option·none-ne-some v (sym e))
+
+-- a cell that is unset after a step was unset before, or the step took an absent reading for it
+pub only-absent-unsets : OnlyAbsentUnsets
+only-absent-unsets P sheet s x t h a e = go (set-only P sheet s x t h a)
+  where
+    go : (cellOf t a ≡ cellOf s a) ⊎ ((m : Message) × Delivers P sheet s x a m × (cellOf t a ≡ m)) → (cellOf s a ≡ none) ⊎ ReadsAbsent P sheet s x a
+    go (inl q) = inl (sym q ∙ e)
+    go (inr (m, d, q)) = inr (absent-delivery P sheet s x a m d (sym q ∙ e))
+
+module _ (rows : List ℤ) (sheet : Sheet) (s : State) where
+  -- a label's step leaves one state
+  pub one-state : (x : Label) (t u : State) → Step (program rows) sheet s x t → Step (program rows) sheet s x u → t ≡ u
+  one-state x t u h k =
+      let (e, (p, q)) = takeable (program rows) sheet s (distinct-options rows sheet s) x t h in
+      let (f, (v, w)) = takeable (program rows) sheet s (distinct-options rows sheet s) x u k in
+      q ∙ ap (λ (g : Effect). settled (program rows) g s) (Option·some-injective e f (sym p ∙ v)) ∙ sym w
+
+  -- a message is handed over by a step that stores it
+  stores : (x : Label) (a : ℕ) (m : Message) → Delivers (program rows) sheet s x a m
+      → (t : State) × Step (program rows) sheet s x t × (t .store .cells ≡ set (s .store .cells) a m)
+  unfolding settled
+  stores x a m (by-assignment g p q) = (_, assignment g p q, refl)
+  stores x a m (by-communication g k h w) = (_, communication g k h w, refl)
+  stores x a m (by-reading g h) = (_, host-read g h, refl)
+  stores x a m (by-option-reading g c b h q k) = (_, alt-read g c b h q k, refl)
+  stores x a m (by-option-communication g c b k h q w y) = (_, alt-communication g c b k h q w y, refl)
+
+  delivery-of-absent : (x : Label) (a : ℕ) → ReadsAbsent (program rows) sheet s x a → Delivers (program rows) sheet s x a none
+  delivery-of-absent x a (input-absent g h) = by-reading g h
+  delivery-of-absent x a (option-absent g c b h q k) = by-option-reading g c b h q k
+
+  stored-at : (x : Label) (a : ℕ) (m : Message) (t : State) → Step (program rows) sheet s x t → Delivers (program rows) sheet s x a m → t .store .cells ≡ set (s .store .cells) a m
+  stored-at x a m t h d =
+      let (u, k, e) = stores x a m d in
+      ap (λ (w : State). w .store .cells) (one-state x t u h k) ∙ e
+
+-- a step that hands a message to a cell leaves that message in it
+pub delivered-holds : DeliveredHolds
+delivered-holds rows sheet s x t h a m d l =
+    ap (λ (c : List Message). getD c a none) (stored-at rows sheet s x a m t h d) ∙ getD-set-same (s .store .cells) a m none l
+
+-- an input of an absent reading takes place and leaves its target unset
+pub absent-unsets : AbsentUnsets
+absent-unsets rows sheet s x a r =
+    let d = delivery-of-absent rows sheet s x a r in (
+      let (t, h, e) = stores rows sheet s x a none d in (t, h),
+      λ t h. ap (λ (c : List Message). getD c a none) (stored-at rows sheet s x a none t h d) ∙ none-stored (s .store .cells) a,
+    )
+
+-- at the start every cell is unset
+start-unset : (rows : List ℤ) (a : ℕ) → cellOf (start (program rows)) a ≡ none
+unfolding start
+start-unset rows a = go (program rows .cells) a
+  where
+    go : (n a : ℕ) → _≡_ {A = Message} (getD (replicate n none) a none) none
+    go zero a = refl
+    go (suc n) zero = refl
+    go (suc n) (suc a) = go n a
+
+module _ (rows : List ℤ) (sheet : Sheet) (a : ℕ) (z : ℤ) where
+  -- the step of an order that handed the number to the cell, with the steps before and after it
+  abbrev HandedIn : State → List Label → Type 0
+  HandedIn s l = (before : List Label) × ((x : Label) × ((later : List Label) × ((u : State)
+      × ((l ≡ before ++ (x ∷ later)) × Order (program rows) sheet s before u × Delivers (program rows) sheet u x a (some z)))))
+
+  handed-in : {s t : State} {l : List Label} → Order (program rows) sheet s l t → cellOf t a ≡ some z → (cellOf s a ≡ some z) ⊎ HandedIn s l
+  handed-in halt e = inl e
+  handed-in {s} (then {t} {x} {l} h o) e = go (handed-in o e)
+    where
+      first : (cellOf s a ≡ some z) ⊎ Delivers (program rows) sheet s x a (some z) → (cellOf s a ≡ some z) ⊎ HandedIn s (x ∷ l)
+      first (inl q) = inl q
+      first (inr d) = inr ([], (x, (l, (s, (refl, halt, d)))))
+
+      go : (cellOf t a ≡ some z) ⊎ HandedIn t l → (cellOf s a ≡ some z) ⊎ HandedIn s (x ∷ l)
+      go (inl q) = first (set-by-number (program rows) sheet s x t h a z q)
+      go (inr (before, (y, (later, (u, (q, k, d)))))) = inr (x ∷ before, (y, (later, (u, (ap (λ (m : List Label). x ∷ m) q, then h k, d)))))
+
+-- a number that a cell holds after an order was handed to it by one of its steps
+pub set-in-order : SetInOrder
+set-in-order rows sheet l s o a z e = go (handed-in rows sheet a z o e)
+  where
+    go : (cellOf (start (program rows)) a ≡ some z) ⊎ HandedIn rows sheet a z (start (program rows)) l → HandedIn rows sheet a z (start (program rows)) l
+    go (inl q) = absurd (Option·none-ne-some z (sym (start-unset rows a) ∙ q))
+    go (inr h) = h

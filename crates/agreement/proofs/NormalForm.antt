@@ -1,0 +1,197 @@
+-- Each change that a rule of settling makes keeps a state good, and to settle after it is to settle before it: so the rules have one normal form.
+use mathlib.Core.Path.{_≡_, refl, sym, ap, subst, _∙_}
+use mathlib.Core.Bool.{Bool, true, false}
+use mathlib.Core.List.{List, _∷_, List·Memᴰ, List·Memᴰ·head, List·Memᴰ·tail, Memᴰ·cast}
+use Prim.Native.Nat.{ℕ, _+_, _<_, _≤_}
+use native.Mathlib.Omega.{arith}
+use lib.ListN.{length, getD, set, length-set}
+use lib.Seq.{getD-set-other, getD-set-same}
+use Rattle.meaning.specs.Tree.{Action, skip, sequence, parallel, conditional, loop, alternation, Process, node, Members, empty, also, rowOf, rowsIn, rowsBeneath}
+use Rattle.meaning.specs.Settle.{stateOf, statesOf, Mode, inTurn, together, byStep, mode, starts, nextMode, complete, makeIdle, endsWhenClosed, settleMembers, settle}
+use Rattle.meaning.specs.SettlingRules.{Among, All, Next, Inside, Settles, skip-ends, seq-starts, par-starts, seq-ends, par-ends, if-ends, alt-ends, while-again, Settling, rest, then}
+use Rattle.agreement.proofs.Frame.{Local, body-node, walk-none, walk-also, row-in, see-local, zeros-local, length-local, off-look, off-put}
+use Rattle.agreement.proofs.Again.{Out, Sound, SoundM, sound-row, see-run, see-idle, see-start, see-over, idle-walk, idle-body, zeros-idle}
+use Rattle.agreement.proofs.Reach.{Good, GoodM, run, each, past, now, pass, pick, Agree, good-agree, goodM-agree, goodM-idle, goodM-head, goodM-tail, good-start, good-end, Sub}
+use Rattle.agreement.proofs.Settled.{Plain, settles}
+use Rattle.agreement.proofs.Inside.{within-of, among-row, next-among}
+use Rattle.agreement.proofs.NoRuleLeft.{may-close, ended-closes, skip-empty, plain-at, no-rule-left}
+use Rattle.agreement.proofs.ChangesLeft.{left, leftM, left-bound, less-around, less-ended, less-beneath, less-started, less-idle}
+use Rattle.agreement.specs.SettlingClaims.{Final, changesIn, NormalForm}
+use Rattle.agreement.proofs.RulesAbsorbed.{wider, set-local, sound-at, good-at, settle-around, good-around}
+
+-- ---- members that settling leaves alone
+
+ended-walk : {s : List ℕ} (ms : Members) (m : Mode) → All 2 s ms → settleMembers ms m s ≡ s
+ended-walk {s} empty m h = walk-none m s
+ended-walk {s} (also p ms) m (All.and-then e h) = rw (walk-also p ms m s, see-over p (starts m) s 0 e) (ended-walk ms (nextMode m (stateOf s p)) h)
+
+chosen-walk : {s : List ℕ} (ms : Members) → GoodM s byStep ms → {q : Process} → Among q ms → stateOf s q ≡ 2 → settleMembers ms byStep s ≡ s
+chosen-walk empty h a e = elim a [ ]
+chosen-walk (also p ms) (pass i h) Among.first e = absurd (omega (arith, i (rowOf p) (row-in p)))
+chosen-walk {s} (also p ms) (pass i h) (Among.later a) e = rw (walk-also p ms byStep s, see-idle p s (i (rowOf p) (row-in p))) (chosen-walk ms h a e)
+chosen-walk {s} (also p ms) (pick g i) Among.first e = rw (walk-also p ms byStep s, see-over p false s 0 e) (idle-walk ms s i)
+chosen-walk (also p ms) (pick g i) {q} (Among.later a) e = absurd (omega (arith, i (rowOf q) (among-row a)))
+
+-- ---- members of which one is started
+
+start-twice : (p : Process) (s : List ℕ) → rowOf p < length s → stateOf s p ≡ 0 → settle p true (set s (rowOf p) 1) ≡ settle p true s
+start-twice p s h e = see-run p true (set s (rowOf p) 1) (getD-set-same s (rowOf p) 1 0 h) ∙ sym (see-start p s e)
+
+start-here : (p : Process) (ms : Members) (m : Mode) → starts m ≡ true → (s : List ℕ) → rowOf p < length s → stateOf s p ≡ 0 → settleMembers (also p ms) m (set s (rowOf p) 1) ≡ settleMembers (also p ms) m s
+start-here p ms m b s h e = rw (walk-also p ms m (set s (rowOf p) 1), b, start-twice p s h e, walk-also p ms m s, b)
+
+module _ (n : ℕ) where
+  next-walk : {q : Process} (ms : Members) → SoundM ms n → (s : List ℕ) → length s ≡ n → Next s q ms → stateOf s q ≡ 0 → settleMembers ms inTurn (set s (rowOf q) 1) ≡ settleMembers ms inTurn s
+  next-walk empty d s l x z = elim x [ ]
+  next-walk (also p ms) d s l Next.here z = start-here p ms inTurn refl s (rw l (sound-row p n (d .0))) z
+  next-walk {q} (also p ms) d s l (Next.after e x) z =
+      let t = set s (rowOf q) 1 in
+      let e′ : stateOf t p ≡ 2 = getD-set-other s (rowOf q) (rowOf p) 1 0 (λ u. d .2 (rowOf p) (row-in p) (Memᴰ·cast u (among-row (next-among x)))) ∙ e in
+      rw (walk-also p ms inTurn t, see-over p true t 0 e′, e′, walk-also p ms inTurn s, see-over p true s 0 e, e) (next-walk ms (d .1) s l x z)
+
+  among-walk : {q : Process} (ms : Members) → SoundM ms n → (s : List ℕ) → length s ≡ n → Among q ms → stateOf s q ≡ 0 → settleMembers ms together (set s (rowOf q) 1) ≡ settleMembers ms together s
+  among-walk (also p ms) d s l Among.first z = start-here p ms together refl s (rw l (sound-row p n (d .0))) z
+  among-walk {q} (also p ms) d s l (Among.later a) z =
+      let s1 = settle p true s in
+      let o : Out (rowOf q) (rowsIn p) = λ m. d .2 (rowOf q) m (among-row a) in
+      rw (walk-also p ms together (set s (rowOf q) 1), off-put (see-local p true) s (rowOf q) 1 o, walk-also p ms together s)
+      (among-walk ms (d .1) s1 (length-local (see-local p true) s ∙ l) a (off-look (see-local p true) s (rowOf q) o ∙ z))
+
+  -- a SEQ or PAR of which a member is started is good
+  next-good : {q : Process} (ms : Members) → SoundM ms n → (s : List ℕ) → length s ≡ n → GoodM s inTurn ms → Next s q ms → stateOf s q ≡ 0 → GoodM (set s (rowOf q) 1) inTurn ms
+  next-good empty d s l h x z = elim x [ ]
+  next-good (also p ms) d s l (past e g h) Next.here z = absurd (omega arith)
+  next-good (also p ms) d s l (now g i) Next.here z =
+      now (good-start p n (d .0) s l g z) (λ y q. getD-set-other s (rowOf p) y 1 0 (λ u. d .2 y (Memᴰ·cast u (row-in p)) q) ∙ i y q)
+  next-good {q} (also p ms) d s l h (Next.after e x) z =
+      let a : Agree (rowsIn p) s (set s (rowOf q) 1) = λ y m. getD-set-other s (rowOf q) y 1 0 (λ u. d .2 y m (Memᴰ·cast u (among-row (next-among x)))) in
+      past (a (rowOf p) (row-in p) ∙ e) (good-agree (goodM-head h) a) (next-good ms (d .1) s l (goodM-tail h) x z)
+
+  among-good : {q : Process} (ms : Members) → SoundM ms n → (s : List ℕ) → length s ≡ n → GoodM s together ms → Among q ms → stateOf s q ≡ 0 → GoodM (set s (rowOf q) 1) together ms
+  among-good (also p ms) d s l (each g h) Among.first z =
+      each (good-start p n (d .0) s l g z) (goodM-agree h (λ y q. getD-set-other s (rowOf p) y 1 0 (λ u. d .2 y (Memᴰ·cast u (row-in p)) q)))
+  among-good {q} (also p ms) d s l (each g h) (Among.later a) z =
+      each (good-agree g (λ y m. getD-set-other s (rowOf q) y 1 0 (λ u. d .2 y m (Memᴰ·cast u (among-row a))))) (among-good ms (d .1) s l h a z)
+
+-- what is to be shown of a change, of the process that makes it and of every process around it
+abbrev Absorbed : Process → List ℕ → List ℕ → Type 0
+Absorbed p s t = ((b : Bool) → settle p b t ≡ settle p b s) × Good t p × ((b : Bool) → left p b t < left p b s)
+
+module _ (k : Action) (r : ℕ) (ms : Members) (n : ℕ) (d : Sound (node k r ms) n) (s : List ℕ) (l : length s ≡ n) (e : getD s r 0 ≡ 1) (h : GoodM s (mode k) ms) where
+  -- the process ends
+  end-absorbed : settleMembers ms (mode k) s ≡ s → complete (mode k) (statesOf ms s) ≡ true → endsWhenClosed k ≡ true → Absorbed (node k r ms) s (set s r 2)
+  end-absorbed w c x =
+      let two : getD (set s r 2) r 0 ≡ 2 = getD-set-same s r 2 0 (rw l (d .0)) in (
+        λ b. rw (see-over (node k r ms) b (set s r 2) 0 two, see-run (node k r ms) b s e, body-node k r ms s, w, c, x),
+        good-end k r ms s (rw l (d .0)) (d .1) h c x,
+        less-ended k r ms s (set s r 2) e two,
+      )
+
+  -- it sets all beneath it to idle
+  idle-absorbed : mode k ≡ byStep → {q : Process} → Among q ms → stateOf s q ≡ 2 → settleMembers ms (mode k) s ≡ s → complete (mode k) (statesOf ms s) ≡ true → endsWhenClosed k ≡ false → Absorbed (node k r ms) s (makeIdle (rowsBeneath ms) s)
+  idle-absorbed m a f w c x =
+      let z = makeIdle (rowsBeneath ms) s in
+      let one : getD z r 0 ≡ 1 = off-look (zeros-local (rowsBeneath ms)) s r (d .1) ∙ e in (
+        λ b. rw (see-run (node k r ms) b z one, idle-body k r ms z m (zeros-idle (rowsBeneath ms) s), see-run (node k r ms) b s e, body-node k r ms s, w, c, x),
+        run one (goodM-idle ms (mode k) z (zeros-idle (rowsBeneath ms) s)),
+        less-beneath k r ms s z e one (rw m (less-idle ms s z a f (zeros-idle (rowsBeneath ms) s))),
+      )
+
+  -- it starts a member
+  start-absorbed : (q : ℕ) → List·Memᴰ q (rowsBeneath ms) → settleMembers ms (mode k) (set s q 1) ≡ settleMembers ms (mode k) s → GoodM (set s q 1) (mode k) ms
+      → leftM ms (starts (mode k)) (set s q 1) < leftM ms (starts (mode k)) s → Absorbed (node k r ms) s (set s q 1)
+  start-absorbed q m w g x =
+      let one : getD (set s q 1) r 0 ≡ 1 = getD-set-other s q r 1 0 (λ u. d .1 (Memᴰ·cast u m)) ∙ e in (
+        λ b. rw (see-run (node k r ms) b (set s q 1) one, see-run (node k r ms) b s e, body-node k r ms (set s q 1), w, ← body-node k r ms s),
+        run one g,
+        less-beneath k r ms s (set s q 1) e one x,
+      )
+
+module _ (whole : Process) (n : ℕ) (d : Sound whole n) (plain : Plain whole) where
+  -- a change that its own process absorbs is absorbed by the whole process
+  around : (k : Action) (r : ℕ) (ms : Members) (f : List ℕ → List ℕ) → Local (r ∷ rowsBeneath ms) f → (s : List ℕ) → Good s whole → getD s r 0 ≡ 1 → Sub k r ms whole
+      → Absorbed (node k r ms) s (f s) → Absorbed whole s (f s)
+  around k r ms f F s g e u (a, c, x) = (settle-around k r ms f F s e n a whole u d g, good-around k r ms f F s e n c whole u d g, less-around k r ms f F s e n x whole u d g)
+
+  module _ (s : List ℕ) (l : length s ≡ n) (g : Good s whole) where
+    module _ (k : Action) (r : ℕ) (ms : Members) (i : Inside whole (node k r ms)) (e : getD s r 0 ≡ 1) where
+      -- a running process that stands in the whole one
+      sub : Sub k r ms whole
+      sub = within-of i
+
+      fit : Sound (node k r ms) n
+      fit = sound-at whole n sub d
+
+      good : GoodM s (mode k) ms
+      good = good-at s e whole sub g
+
+      ends : settleMembers ms (mode k) s ≡ s → complete (mode k) (statesOf ms s) ≡ true → endsWhenClosed k ≡ true → Absorbed whole s (set s r 2)
+      ends w c x = around k r ms (λ (t : List ℕ). set t r 2) (set-local (r ∷ rowsBeneath ms) r 2 (List·Memᴰ·head refl)) s g e sub (end-absorbed k r ms n fit s l e good w c x)
+
+      begins : (q : ℕ) → List·Memᴰ q (rowsBeneath ms) → settleMembers ms (mode k) (set s q 1) ≡ settleMembers ms (mode k) s → GoodM (set s q 1) (mode k) ms
+          → leftM ms (starts (mode k)) (set s q 1) < leftM ms (starts (mode k)) s → Absorbed whole s (set s q 1)
+      begins q m w h x =
+          around k r ms (λ (t : List ℕ). set t q 1) (set-local (r ∷ rowsBeneath ms) q 1 (List·Memᴰ·tail m)) s g e sub (start-absorbed k r ms n fit s l e good q m w h x)
+
+      repeats : mode k ≡ byStep → {q : Process} → Among q ms → stateOf s q ≡ 2 → settleMembers ms (mode k) s ≡ s → complete (mode k) (statesOf ms s) ≡ true → endsWhenClosed k ≡ false → Absorbed whole s (makeIdle (rowsBeneath ms) s)
+      repeats m a f w c x =
+          around k r ms (makeIdle (rowsBeneath ms)) (wider (λ y q. List·Memᴰ·tail q) (zeros-local (rowsBeneath ms))) s g e sub (idle-absorbed k r ms n fit s l e good m a f w c x)
+
+    rule-absorbed : (t : List ℕ) → Settles whole s t → Absorbed whole s t
+    rule-absorbed t (skip-ends {r} {ms} (i, e)) =
+        let z : ms ≡ empty = skip-empty ms (plain-at whole (within-of i) plain) in
+        ends skip r ms i e (ap (λ (q : Members). settleMembers q inTurn s) z ∙ walk-none inTurn s) (ap (λ (q : Members). complete inTurn (statesOf q s)) z) refl
+    rule-absorbed t (seq-starts {r} {ms} {q} (i, e) x z) =
+        begins sequence r ms i e (rowOf q) (among-row (next-among x)) (next-walk n ms (fit sequence r ms i e .2) s l x z) (next-good n ms (fit sequence r ms i e .2) s l (good sequence r ms i e) x z)
+        (less-started n ms (fit sequence r ms i e .2) s l inTurn (good sequence r ms i e) (next-among x) z)
+    rule-absorbed t (par-starts {r} {ms} {q} (i, e) x z) =
+        begins parallel r ms i e (rowOf q) (among-row x) (among-walk n ms (fit parallel r ms i e .2) s l x z) (among-good n ms (fit parallel r ms i e .2) s l (good parallel r ms i e) x z)
+        (less-started n ms (fit parallel r ms i e .2) s l together (good parallel r ms i e) x z)
+    rule-absorbed t (seq-ends {r} {ms} (i, e) x) = ends sequence r ms i e (ended-walk ms inTurn x) (ended-closes x) refl
+    rule-absorbed t (par-ends {r} {ms} (i, e) x) = ends parallel r ms i e (ended-walk ms together x) (ended-closes x) refl
+    rule-absorbed t (if-ends {ts} {r} {ms} {q} (i, e) x z) =
+        let h = good (conditional ts) r ms i e in
+        ends (conditional ts) r ms i e (chosen-walk ms h x z) (may-close ms s h x z) refl
+    rule-absorbed t (alt-ends {bs} {r} {ms} {q} (i, e) x z) =
+        let h = good (alternation bs) r ms i e in
+        ends (alternation bs) r ms i e (chosen-walk ms h x z) (may-close ms s h x z) refl
+    rule-absorbed t (while-again {e = c} {b} {r} {ms} {q} (i, e) x z) =
+        let h = good (loop c b) r ms i e in
+        repeats (loop c b) r ms i e refl x z (chosen-walk ms h x z) (may-close ms s h x z) refl
+
+  makeIdle-length : (rs s : List ℕ) → length (makeIdle rs s) ≡ length s
+  makeIdle-length rs s = length-local (zeros-local rs) s
+
+  -- a rule keeps the number of row states
+  rule-length : (s t : List ℕ) → Settles whole s t → length t ≡ length s
+  rule-length s t (skip-ends {r} x) = length-set s r 2
+  rule-length s t (seq-starts {q} x y z) = length-set s (rowOf q) 1
+  rule-length s t (par-starts {q} x y z) = length-set s (rowOf q) 1
+  rule-length s t (seq-ends {r} x y) = length-set s r 2
+  rule-length s t (par-ends {r} x y) = length-set s r 2
+  rule-length s t (if-ends {r} x y z) = length-set s r 2
+  rule-length s t (alt-ends {r} x y z) = length-set s r 2
+  rule-length s t (while-again {ms} x y z) = makeIdle-length (rowsBeneath ms) s
+
+  -- after any number of changes: the same normal form, a good state, and less left
+  pub settle-same : (s t : List ℕ) (h : Settling whole s t) → length s ≡ n → Good s whole
+      → (settle whole false t ≡ settle whole false s) × Good t whole × (length t ≡ n) × (changesIn whole h + left whole false t ≤ left whole false s)
+  settle-same s t rest l g = (refl, g, l, omega arith)
+  settle-same s t (then {t = m} h k) l g =
+      let (a, c, x) = rule-absorbed s l g m h in
+      let (b, f, j, y) = settle-same m t k (rule-length s m h ∙ l) c in
+      (b ∙ a false, f, j, omega (arith, x false))
+
+  pub final-is : (t u : List ℕ) → Settling whole t u → Final whole t → t ≡ u
+  final-is t u rest f = refl
+  final-is t u (then h k) f = absurd (f _ h)
+
+  -- to settle a good state gives its one normal form
+  pub normal-form : (s : List ℕ) → length s ≡ n → Good s whole → NormalForm whole s (settle whole false s)
+  normal-form s l g = record {
+    reached = settles whole n d plain s l;
+    final = no-rule-left whole n d plain s l g false;
+    always = λ t h. let (e, f, j, x) = settle-same s t h l g in subst (λ (u : List ℕ). Settling whole t u) e (settles whole n d plain t j);
+    only = λ t h z. let (e, f, j, x) = settle-same s t h l g in final-is t (settle whole false t) (settles whole n d plain t j) z ∙ e;
+    ends = λ t h. let (e, f, j, x) = settle-same s t h l g in omega (arith, left-bound whole false s);
+  }

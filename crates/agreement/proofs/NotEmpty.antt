@@ -1,0 +1,182 @@
+-- The statements about orders are not empty: PAR of x := 1 and y := 2 has two orders to rest; WHILE 1 SKIP never comes to rest.
+use mathlib.Core.Path.{_≡_, refl, sym, ap, subst, _∙_}
+use mathlib.Core.Option.{none}
+use mathlib.Core.List.{List, [], _∷_, List·Memᴰ, List·Memᴰ·head, List·Memᴰ·tail, List·Memᴰ·not-nil, List·Memᴰ·eq-of-singleton}
+use Prim.Native.Nat.{ℕ, zero, suc}
+use native.Mathlib.Omega.{arith}
+use lib.IntN.{ℤ, pos, negsuc}
+use lib.ListN.{length}
+use Rattle.meaning.specs.State.{State, program, start}
+use Rattle.meaning.specs.Intent.{Sheet}
+use Rattle.meaning.specs.Ready.{Label, own, orderRow, ready, after}
+use Rattle.meaning.specs.Step.{Step}
+use Rattle.meaning.specs.Order.{Order, halt, then, OrderOf, RestOf}
+use Rattle.meaning.specs.Sheet.{sheetFault, readings}
+use Rattle.meaning.specs.Answers.{check}
+use Rattle.meaning.proofs.ComputesAnswers.{computesAnswers}
+use Rattle.agreement.specs.NotEmptyClaims.{LongOrder, TwoOrders, NeverRests}
+use Rattle.agreement.proofs.Steps.{ready-allowed, allowed-ready}
+use Rattle.agreement.proofs.Reached.{reached-length, start-length}
+
+-- a sheet for a table with no role 1 channel: one empty line
+abbrev emptySheet : List ℕ
+emptySheet = 10 ∷ []
+
+module _ (rows : List ℤ) (sheet : Sheet) where
+  -- a step that the list of ready steps holds, by an equation
+  ready-step : (s : State) (x : Label) (l : List Label) → ready (program rows) sheet s ≡ l → List·Memᴰ x l → Step (program rows) sheet s x (after (program rows) sheet x s)
+  ready-step s x l e m = ready-allowed rows sheet s x (subst (λ (k : List Label). List·Memᴰ x k) (sym e) m)
+
+  -- with no ready step an order is at rest
+  rests : (l : List Label) (s : State) → OrderOf rows sheet l s → ready (program rows) sheet s ≡ [] → RestOf rows sheet s
+  rests l s o e x t h = List·Memᴰ·not-nil (subst (λ (k : List Label). List·Memᴰ x k) e (allowed-ready rows sheet s (reached-length rows sheet l s o) x t h .0))
+
+-- ---- PAR of x := 1 and y := 2
+
+abbrev parRows : List ℤ
+parRows =
+    pos 1 ∷ pos 1 ∷ pos 0 ∷ pos 0 ∷ pos 1 ∷ pos 1 ∷ pos 0 ∷ pos 0 ∷ pos 31 ∷ pos 3 ∷ pos 0 ∷ pos 0
+    ∷ pos 40 ∷ pos 4 ∷ pos 7 ∷ pos 0 ∷ pos 22 ∷ pos 0 ∷ pos 5 ∷ pos 6 ∷ pos 10 ∷ pos 0 ∷ pos 0 ∷ pos 0 ∷ pos 10 ∷ pos 1 ∷ pos 0 ∷ pos 0
+    ∷ pos 40 ∷ pos 8 ∷ negsuc 0 ∷ pos 0 ∷ pos 22 ∷ pos 1 ∷ pos 9 ∷ pos 10 ∷ pos 10 ∷ pos 0 ∷ pos 0 ∷ pos 0 ∷ pos 10 ∷ pos 2 ∷ pos 0 ∷ pos 0 ∷ []
+
+par-accepted : check parRows ≡ none
+unfolding computesAnswers
+par-accepted = refl
+
+par-sheet : sheetFault parRows emptySheet ≡ none
+unfolding computesAnswers
+par-sheet = refl
+
+abbrev parStart : State
+parStart = start (program parRows)
+
+-- the state after a step of row r by itself
+abbrev parAfter : ℕ → State → State
+parAfter r s = after (program parRows) (readings parRows emptySheet) (own r) s
+
+abbrev parReady : State → List Label
+parReady s = ready (program parRows) (readings parRows emptySheet) s
+
+both-ready : parReady parStart ≡ own 4 ∷ own 8 ∷ []
+unfolding computesAnswers
+both-ready = refl
+
+second-left : parReady (parAfter 4 parStart) ≡ own 8 ∷ []
+unfolding computesAnswers
+second-left = refl
+
+first-left : parReady (parAfter 8 parStart) ≡ own 4 ∷ []
+unfolding computesAnswers
+first-left = refl
+
+none-left : parReady (parAfter 8 (parAfter 4 parStart)) ≡ []
+unfolding computesAnswers
+none-left = refl
+
+none-left-too : parReady (parAfter 4 (parAfter 8 parStart)) ≡ []
+unfolding computesAnswers
+none-left-too = refl
+
+-- an order of the steps of rows r and q
+two-steps : (r q : ℕ) (l m : List Label) → parReady parStart ≡ l → List·Memᴰ (own r) l → parReady (parAfter r parStart) ≡ m → List·Memᴰ (own q) m → parReady (parAfter q (parAfter r parStart)) ≡ []
+    → LongOrder parRows emptySheet
+two-steps r q l m e h d g z =
+    let sheet = readings parRows emptySheet in
+    let o : OrderOf parRows sheet (own r ∷ own q ∷ []) (parAfter q (parAfter r parStart)) =
+    then (ready-step parRows sheet parStart (own r) l e h) (then (ready-step parRows sheet (parAfter r parStart) (own q) m d g) halt) in
+    record {
+      labels = own r ∷ own q ∷ [];
+      end = parAfter q (parAfter r parStart);
+      long = omega arith;
+      order = o;
+      rest = rests parRows sheet (own r ∷ own q ∷ []) (parAfter q (parAfter r parStart)) o z;
+    }
+
+-- the row of an order's first step
+firstRow : List Label → ℕ
+firstRow [] = 0
+firstRow (x ∷ l) = orderRow x
+
+-- an accepted table and sheet with two different orders of length 2 that both come to rest
+pub two-orders : TwoOrders
+unfolding two-steps firstRow
+two-orders =
+    record {
+      rows = parRows;
+      sheet = emptySheet;
+      table-accepted = par-accepted;
+      sheet-accepted = par-sheet;
+      one = two-steps 4 8 _ _ both-ready (List·Memᴰ·head refl) second-left (List·Memᴰ·head refl) none-left;
+      two = two-steps 8 4 _ _ both-ready (List·Memᴰ·tail (List·Memᴰ·head refl)) first-left (List·Memᴰ·head refl) none-left-too;
+      differ = λ e. let h : _≡_ {A = ℕ} 4 8 = ap firstRow e in omega arith;
+    }
+
+-- ---- WHILE 1 SKIP
+
+abbrev loopRows : List ℤ
+loopRows = pos 33 ∷ pos 1 ∷ pos 2 ∷ pos 0 ∷ pos 10 ∷ pos 1 ∷ pos 0 ∷ pos 0 ∷ pos 21 ∷ pos 0 ∷ pos 0 ∷ pos 0 ∷ []
+
+loop-accepted : check loopRows ≡ none
+unfolding computesAnswers
+loop-accepted = refl
+
+loop-sheet : sheetFault loopRows emptySheet ≡ none
+unfolding computesAnswers
+loop-sheet = refl
+
+abbrev loopStart : State
+loopStart = start (program loopRows)
+
+abbrev loopSheet : Sheet
+loopSheet = readings loopRows emptySheet
+
+loop-ready : ready (program loopRows) loopSheet loopStart ≡ own 0 ∷ []
+unfolding computesAnswers
+loop-ready = refl
+
+-- the body starts and ends within the settling of the step, and is idle again
+loop-again : after (program loopRows) loopSheet (own 0) loopStart ≡ loopStart
+unfolding computesAnswers
+loop-again = refl
+
+-- the step of the WHILE leads from the start to the start
+loop-step : Step (program loopRows) loopSheet loopStart (own 0) loopStart
+loop-step = subst (λ (s : State). Step (program loopRows) loopSheet loopStart (own 0) s) loop-again (ready-step loopRows loopSheet loopStart (own 0) _ loop-ready (List·Memᴰ·head refl))
+
+-- every step from the start leads to the start
+back-at-start : (x : Label) (t : State) → Step (program loopRows) loopSheet loopStart x t → t ≡ loopStart
+back-at-start x t h =
+    let (m, e) = allowed-ready loopRows loopSheet loopStart (start-length loopRows loopSheet) x t h in
+    let w : x ≡ own 0 = List·Memᴰ·eq-of-singleton (subst (λ (l : List Label). List·Memᴰ x l) loop-ready m) in
+    e ∙ ap (λ (y : Label). after (program loopRows) loopSheet y loopStart) w ∙ loop-again
+
+-- so every order from the start is at the start
+at-start : {s t : State} {l : List Label} → Order (program loopRows) loopSheet s l t → s ≡ loopStart → t ≡ loopStart
+at-start halt e = e
+at-start (then {t} {x} h o) e = at-start o (back-at-start x t (subst (λ (u : State). Step (program loopRows) loopSheet u x t) e h))
+
+times : ℕ → List Label
+times zero = []
+times (suc n) = own 0 ∷ times n
+
+times-length : (n : ℕ) → length (times n) ≡ n
+unfolding times
+times-length zero = refl
+times-length (suc n) = ap suc (times-length n)
+
+times-order : (n : ℕ) → OrderOf loopRows loopSheet (times n) loopStart
+unfolding times
+times-order zero = halt
+times-order (suc n) = then loop-step (times-order n)
+
+-- an accepted table whose orders have every length and never rest
+pub never-rests : NeverRests
+never-rests =
+    record {
+      rows = loopRows;
+      sheet = emptySheet;
+      table-accepted = loop-accepted;
+      sheet-accepted = loop-sheet;
+      every-length = λ n. (times n, times-length n, (loopStart, times-order n));
+      goes-on = λ l s o. (own 0, (loopStart, subst (λ (u : State). Step (program loopRows) loopSheet u (own 0) loopStart) (sym (at-start o refl)) loop-step));
+    }

@@ -1,0 +1,64 @@
+-- A run takes the order that its choices pick; rest is reported exactly if no step is allowed, spent exactly if one is and the budget is used.
+use mathlib.Core.Path.{_≡_, sym, ap, _∙_}
+use mathlib.Core.Logic.{_≢_, inl, inr, _↔_}
+use mathlib.Core.Bool.{Bool, true, false}
+use mathlib.Core.List.{List}
+use Prim.Native.Nat.{ℕ}
+use native.Mathlib.Omega.{arith}
+use lib.IntN.{ℤ}
+use lib.ListN.{getD}
+use lib.Dec.{eqb}
+use Rattle.meaning.specs.declared.Outcome.{Outcome}
+use Rattle.meaning.specs.declared.Outcome.the-variants.{Ended, Stuck, Broken, Spent}
+use Rattle.meaning.specs.Rows.{ifElse}
+use Rattle.meaning.specs.Settle.{anyOf}
+use Rattle.meaning.specs.State.{State, Program, program}
+use Rattle.meaning.specs.Intent.{Sheet}
+use Rattle.meaning.specs.Ready.{Label}
+use Rattle.meaning.specs.Run.{Result, isStopped, outcomeAtRest, run}
+use Rattle.meaning.specs.Order.{RestOf, outcomeOf}
+use Rattle.agreement.proofs.Claims.{Finish}
+use Rattle.agreement.specs.Statements.{StepOf, RunTakesOrder}
+use Rattle.agreement.proofs.Running.{runs}
+
+-- any table and any readings
+abbrev Any : List ℤ → Sheet → Type 0
+Any rows sheet = Unit {0}
+
+tag : Outcome → ℕ
+tag Ended = 0
+tag Stuck = 0
+tag Broken = 0
+tag Spent = 1
+
+-- the outcome of rest is not spent
+rest-not-spent : (P : Program) (s : State) → outcomeAtRest P s ≢ Spent
+unfolding outcomeAtRest tag
+rest-not-spent P s = go (eqb (getD (s .states) (P .root) 0) 2) (anyOf isStopped (s .states))
+  where
+    go : (t u : Bool) → ifElse t Ended (ifElse u Broken Stuck) ≢ Spent
+    go true u e = let z : _≡_ {A = ℕ} 0 1 = ap tag e in omega arith
+    go false true e = let z : _≡_ {A = ℕ} 0 1 = ap tag e in omega arith
+    go false false e = let z : _≡_ {A = ℕ} 0 1 = ap tag e in omega arith
+
+module _ (rows : List ℤ) (sheet : Sheet) (budget : ℕ) (r : Result) where
+  abbrev Left : Type 0
+  Left = (x : Label) × ((t : State) × StepOf rows sheet (r .state) x t)
+
+  rest-exactly : Finish Any rows sheet budget r → (r .outcome ≢ Spent) ↔ RestOf rows sheet (r .state)
+  rest-exactly (inl (h, e)) = (λ n. h, λ k z. rest-not-spent (program rows) (r .state) (sym e ∙ z))
+  rest-exactly (inr (n, e, (x, (t, h)))) = (λ k. absurd (k e), λ k. absurd (k x t h))
+
+  rest-outcome : Finish Any rows sheet budget r → RestOf rows sheet (r .state) → r .outcome ≡ outcomeOf rows (r .state)
+  rest-outcome (inl (h, e)) k = e
+  rest-outcome (inr (n, e, (x, (t, h)))) k = absurd (k x t h)
+
+  spent-exactly : Finish Any rows sheet budget r → (r .outcome ≡ Spent) ↔ ((r .steps ≡ budget) × Left)
+  spent-exactly (inl (h, e)) = (λ z. absurd (rest-not-spent (program rows) (r .state) (sym e ∙ z)), λ k. (let (x, (t, q)) = k .1 in absurd (h x t q)))
+  spent-exactly (inr (n, e, k)) = (λ z. (n, k), λ z. e)
+
+pub run-takes-order : RunTakesOrder
+run-takes-order rows sheet choices budget =
+    let r = run rows sheet choices budget in
+    let (l, o, c, n, b, f) = runs Any rows sheet choices budget tt in
+    (l, o, c, n, b, rest-exactly rows sheet budget r f, rest-outcome rows sheet budget r f, spent-exactly rows sheet budget r f)

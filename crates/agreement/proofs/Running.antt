@@ -1,0 +1,91 @@
+-- A run takes the order that its choices pick, up to rest or its budget, and reports its length. It holds of every table.
+use mathlib.Core.Path.{_≡_, refl, sym, ap, subst, _∙_}
+use mathlib.Core.Logic.{_⊎_, inl, inr}
+use mathlib.Core.List.{List, [], _∷_, List·Memᴰ, List·Memᴰ·head, List·Memᴰ·tail, List·Memᴰ·not-nil}
+use Prim.Native.Nat.{ℕ, zero, suc, _+_, _≤_, _%_}
+use native.Mathlib.Omega.{arith}
+use lib.IntN.{ℤ}
+use lib.ListN.{length, getD, drop}
+use Rattle.meaning.specs.declared.Outcome.the-variants.{Spent}
+use Rattle.meaning.specs.Rows.{rowCount}
+use Rattle.meaning.specs.State.{State, Program, program, start}
+use Rattle.meaning.specs.Intent.{Sheet}
+use Rattle.meaning.specs.Ready.{Label, ready, after}
+use Rattle.meaning.specs.Step.{Step}
+use Rattle.meaning.specs.Run.{Result, outcomeAtRest, chosenStep, goFrom, go, run}
+use Rattle.meaning.specs.Order.{Order, halt, then, Chosen, none-left, chosen, RestOf, outcomeOf}
+use Rattle.agreement.proofs.Claims.{Finish, Runs}
+use Rattle.agreement.proofs.Steps.{ready-allowed, allowed-ready}
+use Rattle.agreement.proofs.Reached.{start-length, step-length}
+
+mem-getD : (x : Label) (l : List Label) (i : ℕ) → List·Memᴰ (getD l i x) (x ∷ l)
+mem-getD x [] i = List·Memᴰ·head refl
+mem-getD x (y ∷ l) zero = List·Memᴰ·tail (List·Memᴰ·head refl)
+mem-getD x (y ∷ l) (suc i) = elim (mem-getD x l i) [ List·Memᴰ·head e ↦ List·Memᴰ·head e | List·Memᴰ·tail m ↦ List·Memᴰ·tail (List·Memᴰ·tail m) ]
+
+fold : (x y : Label) (l : List Label) → List·Memᴰ y (x ∷ x ∷ l) → List·Memᴰ y (x ∷ l)
+fold x y l (List·Memᴰ·head e) = List·Memᴰ·head e
+fold x y l (List·Memᴰ·tail m) = m
+
+picked-mem : (choices : List ℕ) (x : Label) (l : List Label) → List·Memᴰ (chosenStep choices x l) (x ∷ l)
+unfolding chosenStep
+picked-mem choices x l = fold x _ l (mem-getD x (x ∷ l) (getD choices 0 0 % length (x ∷ l)))
+
+module _ (rows : List ℤ) (sheet : Sheet) where
+  abbrev P : Program
+  P = program rows
+
+  -- what holds of the rest of a run, from s with n steps taken and b left
+  abbrev Goes : ℕ → ℕ → List ℕ → State → Result → Type 0
+  Goes b n choices s r =
+      (l : List Label) × (Order P sheet s l (r .state) × Chosen P sheet s choices l × (n + length l ≡ r .steps) × (length l ≤ b)
+      × ((RestOf rows sheet (r .state) × (r .outcome ≡ outcomeOf rows (r .state)))
+      ⊎ ((length l ≡ b) × (r .outcome ≡ Spent) × ((x : Label) × ((t : State) × Step P sheet (r .state) x t)))))
+
+  at-rest : (s : State) → length (s .states) ≡ rowCount rows → ready P sheet s ≡ [] → RestOf rows sheet s
+  at-rest s n e x t h = List·Memᴰ·not-nil (subst (λ (l : List Label). List·Memᴰ x l) e (allowed-ready rows sheet s n x t h .0))
+
+  stays : (b n : ℕ) (choices : List ℕ) (s : State) → length (s .states) ≡ rowCount rows → ready P sheet s ≡ [] → Goes b n choices s (record { outcome = outcomeAtRest P s; steps = n; state = s })
+  stays b n choices s k e = ([], (halt, none-left, omega arith, omega arith, inl (at-rest s k e, refl)))
+
+  -- one more step in front
+  longer : (b n : ℕ) (choices : List ℕ) (s : State) (x : Label) (m : List Label) (r : Result) → ready P sheet s ≡ x ∷ m → Step P sheet s (chosenStep choices x m) (after P sheet (chosenStep choices x m) s)
+      → Goes b (suc n) (drop 1 choices) (after P sheet (chosenStep choices x m) s) r → Goes (suc b) n choices s r
+  longer b n choices s x m r e h (l, (o, c, q, k, f)) = (chosenStep choices x m ∷ l, (then h o, chosen e c, omega arith, omega arith, ends f))
+    where
+      ends : (RestOf rows sheet (r .state) × (r .outcome ≡ outcomeOf rows (r .state))) ⊎ ((length l ≡ b) × (r .outcome ≡ Spent) × ((x : Label) × ((t : State) × Step P sheet (r .state) x t)))
+          → (RestOf rows sheet (r .state) × (r .outcome ≡ outcomeOf rows (r .state))) ⊎ ((suc (length l) ≡ suc b) × (r .outcome ≡ Spent) × ((x : Label) × ((t : State) × Step P sheet (r .state) x t)))
+      ends (inl z) = inl z
+      ends (inr z) = inr (ap suc (z .0), z .1, z .2)
+
+  goes : (b n : ℕ) (choices : List ℕ) (s : State) → length (s .states) ≡ rowCount rows → (l : List Label) → ready P sheet s ≡ l → Goes b n choices s (goFrom P sheet b n choices s l)
+  unfolding goFrom
+  goes zero n choices s k [] e = stays zero n choices s k e
+  goes (suc b) n choices s k [] e = stays (suc b) n choices s k e
+  goes zero n choices s k (x ∷ l) e =
+      ([], (halt, none-left, omega arith, omega arith, inr (refl, refl, (x, (after P sheet x s, ready-allowed rows sheet s x (rw e (List·Memᴰ·head refl)))))))
+  goes (suc b) n choices s k (x ∷ m) e =
+      let y = chosenStep choices x m in
+      let t = after P sheet y s in
+      let h = ready-allowed rows sheet s y (rw e (picked-mem choices x m)) in
+      longer b n choices s x m (goFrom P sheet b (suc n) (drop 1 choices) t (ready P sheet t)) e h
+      (goes b (suc n) (drop 1 choices) t (step-length rows sheet s y t h ∙ k) (ready P sheet t) refl)
+
+  run-goes : (choices : List ℕ) (budget : ℕ) → Goes budget 0 choices (start P) (run rows sheet choices budget)
+  unfolding run go
+  run-goes choices budget = goes budget 0 choices (start P) (start-length rows sheet) (ready P sheet (start P)) refl
+
+-- the end of a run, as `Order` words it
+ending : (Accepted : List ℤ → Sheet → Type 0) (rows : List ℤ) (sheet : Sheet) (b n : ℕ) (r : Result) → n ≡ r .steps
+    → (RestOf rows sheet (r .state) × (r .outcome ≡ outcomeOf rows (r .state))) ⊎ ((n ≡ b) × (r .outcome ≡ Spent) × ((x : Label) × ((t : State) × Step (program rows) sheet (r .state) x t)))
+    → Finish Accepted rows sheet b r
+ending Accepted rows sheet b n r e (inl z) = inl z
+ending Accepted rows sheet b n r e (inr z) = inr (sym e ∙ z .0, z .1, z .2)
+
+-- the claim of `Order`, for any meaning of accepted
+pub runs : (Accepted : List ℤ → Sheet → Type 0) → Runs Accepted
+runs Accepted rows sheet choices budget a =
+    let r = run rows sheet choices budget in
+    let (l, g) = run-goes rows sheet choices budget in
+    let e : length l ≡ r .steps = omega (arith, g .2) in
+    (l, g .0, g .1, e, omega (arith, g .3), ending Accepted rows sheet budget (length l) r e (g .4))

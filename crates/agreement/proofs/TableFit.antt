@@ -1,0 +1,54 @@
+-- An accepted table is fit: what the proofs about orders use of it holds.
+use mathlib.Core.Path.{_≡_, sym, ap, subst, _∙_}
+use mathlib.Core.Option.{Option, none, some}
+use mathlib.Core.List.{List}
+use Prim.Native.Nat.{ℕ, _≤_}
+use lib.IntN.{ℤ}
+use Rattle.meaning.specs.Rows.{rowCount, root}
+use Rattle.meaning.specs.Tree.{Action, parallel, Process, node, Members, partAt, orStop, actionOf}
+use Rattle.meaning.specs.State.{program, processAt, whole}
+use Rattle.meaning.specs.Answers.{check}
+use Rattle.meaning.proofs.AnswerLaws.{RightRows, accepted}
+use Rattle.agreement.proofs.Reach.{Sub}
+use Rattle.agreement.proofs.Fit.{Fit}
+use Rattle.agreement.proofs.TableTree.{SubO, process-is, stands, plain}
+use Rattle.agreement.proofs.TableReferences.{few-rows}
+use Rattle.agreement.proofs.TableRows.{SoundO, sound-at}
+use Rattle.agreement.proofs.TableStarts.{root-process, starts-at}
+use Rattle.agreement.proofs.TableUsage.{clear}
+use Rattle.agreement.proofs.TableApart.{apart-apt}
+use Rattle.agreement.proofs.TableHosts.{sourceOf, sinkOf, hosts-at}
+
+module _ (rows : List ℤ) (A : RightRows rows) where
+  -- the whole process is that of the root
+  pub whole-is : partAt rows (root rows) .process ≡ some (whole (program rows))
+  unfolding whole program
+  whole-is = let (k, ms, e) = root-process rows A in e ∙ ap some (sym (process-is rows (root rows) ∙ ap orStop e))
+
+  -- a process inside it is what stands at its row
+  pub inside-stands : (k : Action) (r : ℕ) (ms : Members) → Sub k r ms (whole (program rows)) → partAt rows r .process ≡ some (node k r ms)
+  inside-stands k r ms h = stands rows (root rows) k r ms (subst (SubO k r ms) (sym whole-is) h)
+
+  pub inside-placed : (k : Action) (r : ℕ) (ms : Members) → Sub k r ms (whole (program rows)) → processAt (program rows) r ≡ node k r ms
+  inside-placed k r ms h = process-is rows r ∙ ap orStop (inside-stands k r ms h)
+
+  pub fit-rows : Fit (program rows) (rowCount rows)
+  unfolding whole
+  fit-rows =
+      record {
+        sound = subst (λ (o : Option Process). SoundO o (rowCount rows)) whole-is (sound-at rows A (root rows));
+        plain = plain rows (program rows .root);
+        placed = inside-placed;
+        starts = λ k r ms h. starts-at rows A r k ms (inside-stands k r ms h);
+        apart = apart-apt (whole (program rows)) (λ r. actionOf (processAt (program rows) r)) (λ k r ms h. ap actionOf (inside-placed k r ms h)) (λ r ms h c. clear rows (A .4) r ms (inside-stands parallel r ms h) c);
+        source = sourceOf rows;
+        sink = sinkOf rows;
+        hosts = λ k r ms h. hosts-at rows A r k ms (inside-stands k r ms h);
+      }
+
+pub fit : (rows : List ℤ) → check rows ≡ none → Fit (program rows) (rowCount rows)
+fit rows e = fit-rows rows (accepted rows .0 e)
+
+-- there are at most 1,024 rows
+pub rows-limit : (rows : List ℤ) → check rows ≡ none → rowCount rows ≤ 1024
+rows-limit rows e = few-rows rows (accepted rows .0 e)

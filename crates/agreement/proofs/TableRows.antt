@@ -1,0 +1,142 @@
+-- In an accepted table the rows of a process are each another and below the number of rows: each is referred to once, by a lower row.
+use mathlib.Core.Path.{_≡_, sym, subst}
+use mathlib.Core.Logic.{inl, inr, ⊎-elim}
+use mathlib.Core.Option.{Option, none, some}
+use mathlib.Core.List.{List, [], _∷_, List·Memᴰ, List·Memᴰ·head, List·Memᴰ·tail, List·Memᴰ·append-cases, List·Memᴰ·not-nil}
+use Prim.Native.Nat.{ℕ, _<_}
+use native.Mathlib.Omega.{arith}
+use lib.IntN.{ℤ}
+use Rattle.meaning.specs.declared.Node.{Node}
+use Rattle.meaning.specs.declared.Node.the-variants.{Literal, Element, Monadic, Dyadic, Stop, Skip, Assignment, Input, Output, Seq, Par, If, While, Alt, Member, Choice, Option as Alternative, Guard, Other}
+use Rattle.meaning.specs.Rows.{rowCount, nodeAt}
+use Rattle.meaning.specs.Kinds.{Shape}
+use Rattle.meaning.specs.Faults.{Place, of-a, of-b, fieldOf, Refers}
+use Rattle.meaning.specs.Tree.{Action, stop, skip, sequence, parallel, assign, receive, send, conditional, loop, alternation, Process, node, Members, empty, Part, noPart, andMember, receiveOf, partOf, partAt, rowsIn, rowsBeneath}
+use Rattle.meaning.specs.Declarations.{variableAt, sinkAt}
+use Rattle.meaning.proofs.AnswerLaws.{RightRows}
+use Rattle.meaning.proofs.ReferenceCounts.{a-not-b}
+use Rattle.agreement.proofs.Frame.{Off}
+use Rattle.agreement.proofs.Again.{Out, Sound, SoundM}
+use Rattle.agreement.proofs.TableTree.{above, Known, every-row}
+use Rattle.agreement.proofs.TableReferences.{members-shape, while-shape, member-shape, choice-shape, option-shape, Leading, Shaped, Holding, Fields, fields-are, refers-to, refers-up, once, Desc, self, desc-le, desc-from, parted}
+
+abbrev rowsOf : Option Process → List ℕ
+rowsOf none = []
+rowsOf (some p) = rowsIn p
+
+abbrev pub SoundO : Option Process → ℕ → Type 0
+SoundO none n = Unit {0}
+SoundO (some p) n = Sound p n
+
+module _ (rows : List ℤ) (A : RightRows rows) where
+  -- all these rows are at row r, or beneath it
+  abbrev Down : ℕ → List ℕ → Type 0
+  Down r R = (x : ℕ) → List·Memᴰ x R → Desc rows A r x
+
+  -- so are the rows of a process and of members, and they are each another
+  abbrev Here : ℕ → Option Process → Members → Type 0
+  Here r o ms = Down r (rowsOf o) × SoundO o (rowCount rows) × Down r (rowsBeneath ms) × SoundM ms (rowCount rows)
+
+  abbrev RowsOk : ℕ → Part → Type 0
+  RowsOk r p = Here r (p .process) (p .members)
+
+  nothing : (r : ℕ) → RowsOk r noPart
+  nothing r = (λ x m. absurd (List·Memᴰ·not-nil m), tt, λ x m. absurd (List·Memᴰ·not-nil m), tt)
+
+  -- all these rows are at a row to which field p of row r refers, or beneath it
+  abbrev By : ℕ → Place → List ℕ → Type 0
+  By r p R = (x : ℕ) → List·Memᴰ x R → (b : ℕ) × Refers rows r p b × Desc rows A b x
+
+  by-down : (r : ℕ) (p : Place) (R : List ℕ) → By r p R → Down r R
+  by-down r p R f x m = let (b, g, d) = f x m in desc-from rows A p g d
+
+  -- a row of its own before members that hang at a field
+  row-out : (r : ℕ) (p : Place) (R : List ℕ) → By r p R → Out r R
+  row-out r p R f m = let (b, g, d) = f r m in let l = desc-le rows A d in let u = refers-up rows A r b p g in omega arith
+
+  with-row : (r : ℕ) (R : List ℕ) → Down r R → Down r (r ∷ R)
+  with-row r R f x (List·Memᴰ·head e) = rw e self
+  with-row r R f x (List·Memᴰ·tail m) = f x m
+
+  apart : (r : ℕ) (p o : Place) (R Q : List ℕ) → (p ≡ o → ⊥) → By r p R → By r o Q → Off R Q
+  apart r p o R Q ne f g x m n =
+      let (b, i, d) = f x m in
+      let (c, j, e) = g x n in
+      parted rows A r p o i j (λ s. ne (once rows A r r b p o i (subst (λ (y : ℕ). Refers rows r o y) (sym s) j) .1)) d e
+
+  abbrev ProcessBy : ℕ → Place → Option Process → Type 0
+  ProcessBy r p o = By r p (rowsOf o) × SoundO o (rowCount rows)
+
+  abbrev MembersBy : ℕ → Place → Members → Type 0
+  MembersBy r p ms = By r p (rowsBeneath ms) × SoundM ms (rowCount rows)
+
+  none-by : (r : ℕ) (p : Place) → MembersBy r p empty
+  none-by r p = (λ x m. absurd (List·Memᴰ·not-nil m), tt)
+
+  -- a process and members that hang at two fields of a row
+  join : (r : ℕ) (p o : Place) → (p ≡ o → ⊥) → (q : Option Process) (ms : Members) → ProcessBy r p q → MembersBy r o ms
+      → Down r (rowsBeneath (andMember q ms)) × SoundM (andMember q ms) (rowCount rows)
+  join r p o ne none ms f g = (by-down r o (rowsBeneath ms) (g .0), g .1)
+  join r p o ne (some q) ms f g = (
+    λ x m. ⊎-elim (by-down r p (rowsIn q) (f .0) x) (by-down r o (rowsBeneath ms) (g .0) x) (List·Memᴰ·append-cases (rowsIn q) m),
+    (f .1, g .1, apart r p o (rowsIn q) (rowsBeneath ms) ne (f .0) (g .0)),
+  )
+
+  -- one process that hangs at a field
+  single : (r : ℕ) (p : Place) (q : Option Process) → ProcessBy r p q → MembersBy r p (andMember q empty)
+  single r p none f = none-by r p
+  single r p (some q) f = (λ x m. ⊎-elim (f .0 x) (λ n. absurd (List·Memᴰ·not-nil n)) (List·Memᴰ·append-cases (rowsIn q) m), (f .1, tt, λ x m n. List·Memᴰ·not-nil n))
+
+  -- the process of a row, by its members; a row of members
+  group : (r : ℕ) (k : Action) (p : Place) (ms : Members) → r < rowCount rows → MembersBy r p ms → Here r (some (node k r ms)) empty
+  group r k p ms l f = (with-row r (rowsBeneath ms) (by-down r p (rowsBeneath ms) (f .0)), (l, row-out r p (rowsBeneath ms) (f .0), f .1), λ x m. absurd (List·Memᴰ·not-nil m), tt)
+
+  alone : (r : ℕ) (k : Action) → r < rowCount rows → Here r (some (node k r empty)) empty
+  alone r k l = group r k of-a empty l (none-by r of-a)
+
+  linked : (r : ℕ) (q : Option Process) (ms : Members) → ProcessBy r of-a q → MembersBy r of-b ms → Here r none (andMember q ms)
+  linked r q ms f g = let h = join r of-a of-b a-not-b q ms f g in (λ x m. absurd (List·Memᴰ·not-nil m), tt, h .0, h .1)
+
+  module _ (r : ℕ) (l : r < rowCount rows) (at : ℕ → Part) (known : (b : ℕ) → Known rows RowsOk r b (at b)) where
+    -- what stands at the row that a field holds hangs at that field
+    process-by : (k : ℕ) (s : Shape) (p : Place) (b : ℕ) → Shaped rows r k s → Leading (fieldOf s p) → Holding rows r p b → ProcessBy r p (at b .process)
+    process-by k s p b h u e = go (at b) (known b)
+      where
+        go : (q : Part) → Known rows RowsOk r b q → ProcessBy r p (q .process)
+        go q (inl z) = rw z (λ x m. absurd (List·Memᴰ·not-nil m), tt)
+        go q (inr i) = (λ x m. (b, refers-to rows A r k b s p l h u e (i .1), i .3 .0 x m), i .3 .1)
+
+    members-by : (k : ℕ) (s : Shape) (p : Place) (b : ℕ) → Shaped rows r k s → Leading (fieldOf s p) → Holding rows r p b → MembersBy r p (at b .members)
+    members-by k s p b h u e = go (at b) (known b)
+      where
+        go : (q : Part) → Known rows RowsOk r b q → MembersBy r p (q .members)
+        go q (inl z) = rw z (none-by r p)
+        go q (inr i) = (λ x m. (b, refers-to rows A r k b s p l h u e (i .1), i .3 .2 x m), i .3 .3)
+
+    part-ok : (k : Node) → Fields rows r k → RowsOk r (partOf rows r at k)
+    part-ok (Literal x) f = nothing r
+    part-ok (Element a b) f = nothing r
+    part-ok (Monadic a b) f = nothing r
+    part-ok (Dyadic a b c) f = nothing r
+    part-ok Stop f = alone r stop l
+    part-ok Skip f = alone r skip l
+    part-ok (Assignment a b c) f = alone r (assign (variableAt rows a) (at b .expr) (at c .expr)) l
+    part-ok (Input a b c) f = alone r (receive (receiveOf rows r at a b c)) l
+    part-ok (Output a b c) f = alone r (send (sinkAt rows a) (at b .expr) (at c .expr)) l
+    part-ok (Seq a) f = group r sequence of-a (at a .members) l (members-by 30 (members-shape 30 40) of-a a (f .0) tt (f .1))
+    part-ok (Par a) f = group r parallel of-a (at a .members) l (members-by 31 (members-shape 31 40) of-a a (f .0) tt (f .1))
+    part-ok (If a) f = group r (conditional (at a .tests)) of-a (at a .members) l (members-by 32 (members-shape 32 41) of-a a (f .0) tt (f .1))
+    part-ok (While a b) f = group r (loop (at a .expr) b) of-b (andMember (at b .process) empty) l (single r of-b (at b .process) (process-by 33 while-shape of-b b (f .0) tt (f .1)))
+    part-ok (Alt a) f = group r (alternation (at a .branches)) of-a (at a .members) l (members-by 34 (members-shape 34 42) of-a a (f .0) tt (f .1))
+    part-ok (Member a b) f = linked r (at a .process) (at b .members) (process-by 40 member-shape of-a a (f .0) tt (f .1)) (members-by 40 member-shape of-b b (f .0) tt (f .2))
+    part-ok (Choice a b c) f = linked r (at a .process) (at b .members) (process-by 41 choice-shape of-a a (f .0) tt (f .1)) (members-by 41 choice-shape of-b b (f .0) tt (f .2))
+    part-ok (Alternative a b c) f = linked r (at a .process) (at b .members) (process-by 42 option-shape of-a a (f .0) tt (f .1)) (members-by 42 option-shape of-b b (f .0) tt (f .2))
+    part-ok (Guard a b) f = nothing r
+    part-ok Other f = nothing r
+
+  every-part : (r : ℕ) → RowsOk r (partAt rows r)
+  every-part = every-row rows RowsOk nothing (λ r l e h. part-ok r l (above rows r) h (nodeAt rows r) (fields-are rows r))
+
+  -- the rows of the process at a row are each another, and below the number of rows
+  pub sound-at : (r : ℕ) → SoundO (partAt rows r .process) (rowCount rows)
+  sound-at r = every-part r .1

@@ -1,0 +1,225 @@
+-- The first clash of one number is that of the lowest PAR that has one.
+use mathlib.Core.Path.{_≡_, refl, sym, ap, _∙_, subst}
+use mathlib.Core.Logic.{⊎-elim, _↔_}
+use mathlib.Core.Bool.{Bool, true, false, false≢true}
+use mathlib.Core.List.{List, [], _∷_, _++_, map, List·Memᴰ, List·Memᴰ·head, List·Memᴰ·tail, List·Memᴰ·not-nil, List·Memᴰ·cases-cons, Memᴰ·map, Memᴰ·of-map}
+use mathlib.Core.Option.{Option, none, some, Option·none-ne-some, Option·some-injective}
+use Prim.Native.Nat.{ℕ, suc, _+_, _≤_, _<_}
+use native.Mathlib.Nat.{eq-or-lt-of-le}
+use native.Mathlib.Omega.{arith}
+use lib.IntN.{ℤ}
+use lib.ListN.{length, getD}
+use Rattle.meaning.specs.declared.Node.{Node}
+use Rattle.meaning.specs.declared.Node.the-variants.{Literal, Element, Monadic, Dyadic, Stop, Skip, Assignment, Input, Output, Seq, Par, If, While, Alt, Member, Choice, Option as Alternative, Guard, Other}
+use Rattle.meaning.specs.Rows.{ifElse, rowCount, nodeAt}
+use Rattle.meaning.specs.Tree.{Process, Part, noPart, partOf, partAt}
+use Rattle.meaning.specs.Usage.{Pair, pairs, Comparison, ofProcess, comparisonsOf, clashes, firstClash}
+use Rattle.meaning.specs.Clash.{references, IsMember, first, next, Components, components, Clash}
+use Rattle.meaning.proofs.Decides.{Decides, holding, failing}
+use Rattle.agreement.proofs.UsageRows.{Fits}
+use Rattle.agreement.proofs.UsageParts.{part-is}
+use Rattle.agreement.proofs.UsageNames.{test-true}
+use Rattle.agreement.proofs.UsageClashes.{IsProcess}
+use Rattle.agreement.proofs.UsageMembers.{Chain, process-at, chain-at, Apart, apart, pairs-to, member-from, pairs-from}
+
+-- what the search through a list of comparisons gives
+data Search (l : List Comparison) : Option Comparison → Type 0 where
+  nothing : ((c : Comparison) → List·Memᴰ c l → clashes c ≡ false) → Search l none
+  something : (c : Comparison) → List·Memᴰ c l → clashes c ≡ true → Search l (some c)
+
+search-is : (l : List Comparison) → Search l (firstClash l)
+unfolding firstClash
+search-is [] = nothing (λ c m. absurd (List·Memᴰ·not-nil m))
+search-is (c ∷ l) = go (clashes c) refl (search-is l)
+  where
+    later : {o : Option Comparison} → clashes c ≡ false → Search l o → Search (c ∷ l) o
+    later e (nothing f) = nothing (λ d m. ⊎-elim (λ i. ap clashes i ∙ e) (f d) (List·Memᴰ·cases-cons m))
+    later e (something d m h) = something d (List·Memᴰ·tail m) h
+
+    go : (t : Bool) → clashes c ≡ t → Search l (firstClash l) → Search (c ∷ l) (ifElse t (some c) (firstClash l))
+    go true e s = something c (List·Memᴰ·head refl) e
+    go false e s = later e s
+
+abbrev pub orElse : Option Comparison → Option Comparison → Option Comparison
+orElse none o = o
+orElse (some c) o = some c
+
+pub first-append : (l m : List Comparison) → firstClash (l ++ m) ≡ orElse (firstClash l) (firstClash m)
+unfolding firstClash
+first-append [] m = refl
+first-append (c ∷ l) m = go (clashes c) (first-append l m)
+  where
+    go : (t : Bool) → firstClash (l ++ m) ≡ orElse (firstClash l) (firstClash m) → ifElse t (some c) (firstClash (l ++ m)) ≡ orElse (ifElse t (some c) (firstClash l)) (firstClash m)
+    go true e = refl
+    go false e = e
+
+-- the first member of a PAR
+parOf : Node → Option ℕ
+parOf (Literal x) = none
+parOf (Element a b) = none
+parOf (Monadic a b) = none
+parOf (Dyadic a b c) = none
+parOf Stop = none
+parOf Skip = none
+parOf (Assignment a b c) = none
+parOf (Input a b c) = none
+parOf (Output a b c) = none
+parOf (Seq a) = none
+parOf (Par a) = some a
+parOf (If a) = none
+parOf (While a b) = none
+parOf (Alt a) = none
+parOf (Member a b) = none
+parOf (Choice a b c) = none
+parOf (Alternative a b c) = none
+parOf (Guard a b) = none
+parOf Other = none
+
+module _ (rows : List ℤ) where
+  -- a row is a PAR, or has nothing to compare
+  data Looks (number r : ℕ) (x : Node) : Type 0 where
+    a-par : (a : ℕ) → x ≡ Par a → Looks number r x
+    no-par : parOf x ≡ none → ofProcess number (partOf rows r (partAt rows) x .process) ≡ [] → Looks number r x
+
+  looks : (number r : ℕ) (x : Node) → Looks number r x
+  unfolding parOf
+  looks k r (Literal x) = no-par refl refl
+  looks k r (Element a b) = no-par refl refl
+  looks k r (Monadic a b) = no-par refl refl
+  looks k r (Dyadic a b c) = no-par refl refl
+  looks k r Stop = no-par refl refl
+  looks k r Skip = no-par refl refl
+  looks k r (Assignment a b c) = no-par refl refl
+  looks k r (Input a b c) = no-par refl refl
+  looks k r (Output a b c) = no-par refl refl
+  looks k r (Seq a) = no-par refl refl
+  looks k r (Par a) = a-par a refl
+  looks k r (If a) = no-par refl refl
+  looks k r (While a b) = no-par refl refl
+  looks k r (Alt a) = no-par refl refl
+  looks k r (Member a b) = no-par refl refl
+  looks k r (Choice a b c) = no-par refl refl
+  looks k r (Alternative a b c) = no-par refl refl
+  looks k r (Guard a b) = no-par refl refl
+  looks k r Other = no-par refl refl
+
+  member-below : {r m : ℕ} → IsMember rows r m → m < rowCount rows
+  member-below (first e h) = h .2
+  member-below (next h e g) = g .2
+
+  -- a row with members is a PAR within the table
+  pub member-par : {r m : ℕ} → IsMember rows r m → (a : ℕ) × (nodeAt rows r ≡ Par a) × (r < rowCount rows)
+  member-par (first {m} e h) = (m, e, (let u = h .1 in let v = h .2 in omega arith))
+  member-par (next h e g) = member-par h
+
+  par-one : (r a c : ℕ) → nodeAt rows r ≡ Par a → nodeAt rows r ≡ Par c → c ≡ a
+  unfolding parOf
+  par-one r a c e f = Option·some-injective c a (ap parOf (sym f ∙ e))
+
+  -- what is found of a number from row j on
+  abbrev pub FromRow : ℕ → ℕ → Option Comparison → Type 0
+  FromRow number j none = (q : ℕ) → j ≤ q → ¬ Clash rows q number
+  FromRow number j (some c) = (c .number ≡ number) × (j ≤ c .row) × Clash rows (c .row) number × ((q : ℕ) → j ≤ q → q < c .row → ¬ Clash rows q number)
+
+  module _ (fits : (r : ℕ) → r < rowCount rows → Fits rows r (nodeAt rows r)) (number : ℕ) (test : Process → Process → Bool) (tests : (c : Comparison) → c .number ≡ number → clashes c ≡ test (c .pair .one) (c .pair .other))
+      (Rel : ℕ → ℕ → Type 0) (decides-rel : (p q : ℕ) (x y : Process) → IsProcess rows p x → IsProcess rows q y → Decides (Rel p q) (test x y)) (turned : (p q : ℕ) → Rel p q → Rel q p)
+      (clash-is : (r : ℕ) → Clash rows r number ↔ ((p : ℕ) × ((q : ℕ) × Components rows r p q × Rel p q))) where
+    -- what is found at one row
+    abbrev AtRow : ℕ → Option Comparison → Type 0
+    AtRow r none = ¬ Clash rows r number
+    AtRow r (some c) = (c .number ≡ number) × (c .row ≡ r) × Clash rows r number
+
+    -- a pair compared at row r
+    abbrev compared : ℕ → Pair → Comparison
+    compared r d = record { number = number; row = r; pair = d }
+
+    holds-true : {A : Type 0} {t : Bool} → Decides A t → t ≡ true → A
+    holds-true (holding a) e = a
+    holds-true (failing f) e = absurd (false≢true e)
+
+    module _ (r a : ℕ) (l : r < rowCount rows) (e : nodeAt rows r ≡ Par a) where
+      chain : Chain rows a (partAt rows a .members)
+      chain = chain-at rows fits (rowCount rows) a (omega arith) (subst (Fits rows r) e (fits r l) .1)
+
+      first-member : a < rowCount rows → IsMember rows r a
+      first-member i = first e (subst (λ (x : Node). List·Memᴰ a (references x)) (sym e) (List·Memᴰ·head refl), subst (Fits rows r) e (fits r l) .0, i)
+
+      -- a pair that clashes is a clash of components
+      pair-clash : (d : Pair) → List·Memᴰ d (pairs 0 (partAt rows a .members)) → test (d .one) (d .other) ≡ true → Clash rows r number
+      pair-clash d m t = go (pairs-to rows r 0 chain first-member d m)
+        where
+          go : Apart rows r (d .one) (d .other) → Clash rows r number
+          go (apart {p} {q} c u v) = clash-is r .1 (p, (q, c, holds-true (decides-rel p q (d .one) (d .other) u v) t))
+
+      -- a clash of components is that of a pair
+      clash-pair : Clash rows r number → (d : Pair) × List·Memᴰ d (pairs 0 (partAt rows a .members)) × (test (d .one) (d .other) ≡ true)
+      clash-pair h = let w = clash-is r .0 h in go (w .0) (w .1 .0) (w .1 .1) (w .1 .2)
+        where
+          runs : (p m b : ℕ) → IsMember rows r m → nodeAt rows m ≡ Member p b → (x : Process) × IsProcess rows p x
+          runs p m b i f = let w = subst (Fits rows m) f (fits m (member-below i)) in process-at rows fits p (w .0 .1) (w .0 .2)
+
+          go : (p q : ℕ) → Components rows r p q → Rel p q → (d : Pair) × List·Memᴰ d (pairs 0 (partAt rows a .members)) × (test (d .one) (d .other) ≡ true)
+          go p q (components {m} {n} {b} {c} i j ne f g) rel =
+              let x = runs p m b i f in
+              let y = runs q n c j g in
+              let one-par : (k : ℕ) → nodeAt rows r ≡ Par k → k ≡ a = λ k u. par-one r a k e u in
+              let s = pairs-from rows 0 (x .0) (y .0) chain (member-from rows r a one-par i) (member-from rows r a one-par j) ne (p, (b, member-below i, f, x .1)) (q, (c, member-below j, g, y .1)) in (
+                s .0,
+                s .1,
+                ⊎-elim
+                    (λ k. ap (λ (z : Process). test z (s .0 .other)) (k .0) ∙ ap (test (x .0)) (k .1) ∙ test-true (decides-rel p q (x .0) (y .0) (x .1) (y .1)) rel)
+                    (λ k. ap (λ (z : Process). test z (s .0 .other)) (k .0) ∙ ap (test (y .0)) (k .1) ∙ test-true (decides-rel q p (y .0) (x .0) (y .1) (x .1)) (turned p q rel))
+                    (s .2),
+              )
+
+      par-row : {o : Option Comparison} → Search (map (compared r) (pairs 0 (partAt rows a .members))) o → AtRow r o
+      par-row (nothing f) = λ h.
+          let w = clash-pair h in
+          false≢true (sym (f (compared r (w .0)) (Memᴰ·map (compared r) (w .1))) ∙ tests (compared r (w .0)) refl ∙ w .2)
+      par-row (something c m h) =
+          let w = Memᴰ·of-map (compared r) (pairs 0 (partAt rows a .members)) m in
+          (sym (ap (λ (z : Comparison). z .number) (w .2)), sym (ap (λ (z : Comparison). z .row) (w .2)), pair-clash (w .0) (w .1) (sym (tests (compared r (w .0)) refl) ∙ ap clashes (w .2) ∙ h))
+
+    some-member : {r p q : ℕ} → Components rows r p q → (m : ℕ) × IsMember rows r m
+    some-member (components {m} i j ne f g) = (m, i)
+
+    clash-par : (r : ℕ) → Clash rows r number → (a : ℕ) × (nodeAt rows r ≡ Par a) × (r < rowCount rows)
+    clash-par r h = member-par (some-member (clash-is r .0 h .1 .1) .1)
+
+    at-row : (r : ℕ) → r < rowCount rows → AtRow r (firstClash (ofProcess number (partAt rows r .process)))
+    unfolding firstClash parOf
+    at-row r l = subst (λ (x : Part). AtRow r (firstClash (ofProcess number (x .process)))) (sym (part-is rows r l (fits r l))) (go (nodeAt rows r) refl (looks number r (nodeAt rows r)))
+      where
+        go : (x : Node) → nodeAt rows r ≡ x → Looks number r x → AtRow r (firstClash (ofProcess number (partOf rows r (partAt rows) x .process)))
+        go x e (a-par a f) =
+            subst (λ (y : Node). AtRow r (firstClash (ofProcess number (partOf rows r (partAt rows) y .process)))) (sym f)
+            (par-row r a l (e ∙ f) (search-is (map (compared r) (pairs 0 (partAt rows a .members)))))
+        go x e (no-par f g) =
+            subst (λ (y : List Comparison). AtRow r (firstClash y)) (sym g)
+            (λ h. let w = clash-par r h in Option·none-ne-some (w .0) (sym f ∙ ap parOf (sym e ∙ w .1)))
+
+    onward : (j : ℕ) (o u : Option Comparison) → AtRow j o → FromRow number (suc j) u → FromRow number j (orElse o u)
+    onward j none none f g = λ q i. ⊎-elim (λ e. subst (λ (k : ℕ). ¬ Clash rows k number) e f) (λ l. g q l) (eq-or-lt-of-le i)
+    onward j none (some c) f g = (
+      g .0,
+      (let l = g .1 in omega arith),
+      g .2,
+      λ q i u. ⊎-elim (λ e. subst (λ (k : ℕ). ¬ Clash rows k number) e f) (λ l. g .3 q l u) (eq-or-lt-of-le i),
+    )
+    onward j (some c) u f g = let e = f .1 in (f .0, omega arith, subst (λ (k : ℕ). Clash rows k number) (sym e) (f .2), λ q i l. absurd (omega arith))
+
+    -- of the parts of the rows from j on
+    pub from-row : (l : List Part) (j : ℕ) → length l + j ≡ rowCount rows → ((k : ℕ) → k < length l → getD l k noPart ≡ partAt rows (k + j)) → FromRow number j (firstClash (comparisonsOf number l))
+    unfolding firstClash
+    from-row [] j e f = λ q i h. let w = clash-par q h .2 in absurd (omega arith)
+    from-row (x ∷ l) j e f =
+        subst (FromRow number j) (sym (first-append (ofProcess number (x .process)) (comparisonsOf number l)))
+        (onward j (firstClash (ofProcess number (x .process))) (firstClash (comparisonsOf number l))
+        (subst (λ (y : Part). AtRow j (firstClash (ofProcess number (y .process)))) (sym here) (at-row j (omega arith)))
+        (from-row l (suc j) (omega arith) later))
+      where
+        here : x ≡ partAt rows j
+        here = f 0 (omega arith) ∙ ap (partAt rows) (omega arith)
+
+        later : (k : ℕ) → k < length l → getD l k noPart ≡ partAt rows (k + suc j)
+        later k i = f (suc k) (omega arith) ∙ ap (partAt rows) (omega arith)

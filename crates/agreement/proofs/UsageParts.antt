@@ -1,0 +1,116 @@
+-- What stands at a row whose references lead to higher rows: it follows from what stands at those, and by the row's kind.
+use mathlib.Core.Path.{_≡_, refl, sym, ap, _∙_, subst}
+use mathlib.Core.Logic.{⊎-elim}
+use mathlib.Core.Bool.{Bool}
+use mathlib.Core.List.{List, [], _∷_, List·Memᴰ, List·Memᴰ·head, List·Memᴰ·tail, List·Memᴰ·not-nil, List·Memᴰ·cases-cons}
+use mathlib.Core.Option.{some}
+use Prim.Native.Nat.{ℕ, _≤_, _<_}
+use lib.IntN.{ℤ}
+use lib.Dec.{ltb}
+use borrow.Author.Tests.{lt-ltb}
+use Rattle.meaning.specs.declared.Node.{Node}
+use Rattle.meaning.specs.declared.Node.the-variants.{Literal, Element, Monadic, Dyadic, Stop, Skip, Assignment, Input, Output, Seq, Par, If, While, Alt, Member, Choice, Option as Alternative, Guard, Other}
+use Rattle.meaning.specs.Rows.{ifElse, rowCount, fieldAt, naturalAt, kindAt, nodeAt}
+use Rattle.meaning.specs.Declarations.{variableAt, sourceAt, sinkAt}
+use Rattle.meaning.specs.Tree.{monadic, dyadic, sequence, parallel, assign, receive, send, conditional, loop, alternation, node, empty, Receive, Part, noPart, andMember, ofExpr, ofElement, ofProcess, ofGuarded, ofGuardRow, ofLink, partOf, partAt}
+use Rattle.meaning.specs.Clash.{references}
+use Rattle.meaning.proofs.HigherRows.{atRow-at, atRow-past}
+use Rattle.agreement.proofs.UsageRows.{nodeOf, node-of-kind, Fits}
+
+-- what is shown of each element of a list of one, two, three
+pub one : (P : ℕ → Type 0) (x : ℕ) → P x → (c : ℕ) → List·Memᴰ c (x ∷ []) → P c
+one P x f c m = ⊎-elim (λ e. subst P (sym e) f) (λ i. absurd (List·Memᴰ·not-nil i)) (List·Memᴰ·cases-cons m)
+
+pub two : (P : ℕ → Type 0) (x y : ℕ) → P x → P y → (c : ℕ) → List·Memᴰ c (x ∷ y ∷ []) → P c
+two P x y f g c m = ⊎-elim (λ e. subst P (sym e) f) (λ i. one P y g c i) (List·Memᴰ·cases-cons m)
+
+pub three : (P : ℕ → Type 0) (x y z : ℕ) → P x → P y → P z → (c : ℕ) → List·Memᴰ c (x ∷ y ∷ z ∷ []) → P c
+three P x y z f g h c m = ⊎-elim (λ e. subst P (sym e) f) (λ i. two P y z g h c i) (List·Memᴰ·cases-cons m)
+
+-- the first, the second, the third of a list
+pub m0 : {x : ℕ} {l : List ℕ} → List·Memᴰ x (x ∷ l)
+m0 = List·Memᴰ·head refl
+
+pub m1 : {x y : ℕ} {l : List ℕ} → List·Memᴰ x (y ∷ x ∷ l)
+m1 = List·Memᴰ·tail m0
+
+pub m2 : {x y z : ℕ} {l : List ℕ} → List·Memᴰ x (y ∷ z ∷ x ∷ l)
+m2 = List·Memᴰ·tail m1
+
+-- something of each number of a list
+abbrev pub OfEach : (ℕ → Type 0) → List ℕ → Type 0
+OfEach P [] = Unit {0}
+OfEach P (k ∷ ks) = P k × OfEach P ks
+
+pub of-each : (P : ℕ → Type 0) (k : ℕ) (ks : List ℕ) → List·Memᴰ k ks → OfEach P ks → P k
+of-each P k [] m h = absurd (List·Memᴰ·not-nil m)
+of-each P k (j ∷ ks) m h = ⊎-elim (λ e. subst P (sym e) (h .0)) (λ i. of-each P k ks i (h .1)) (List·Memᴰ·cases-cons m)
+
+module _ (rows : List ℤ) where
+  -- parts at higher rows that agree on a row's references give one part
+  part-agree : (r : ℕ) (f g : ℕ → Part) (x : Node) → ((c : ℕ) → List·Memᴰ c (references x) → f c ≡ g c) → partOf rows r f x ≡ partOf rows r g x
+  part-agree r f g (Literal x) h = refl
+  part-agree r f g (Element a b) h = λ i. ofElement (variableAt rows a) (h b m0 i .expr)
+  part-agree r f g (Monadic a b) h = λ i. ofExpr (monadic a (h b m0 i .expr))
+  part-agree r f g (Dyadic a b c) h = λ i. ofExpr (dyadic a (h b m0 i .expr) (h c m1 i .expr))
+  part-agree r f g Stop h = refl
+  part-agree r f g Skip h = refl
+  part-agree r f g (Assignment a b c) h = λ i. ofProcess (node (assign (variableAt rows a) (h b m0 i .expr) (h c m1 i .expr)) r empty)
+  part-agree r f g (Input a b c) h =
+      ap (λ (j : Receive). ofGuarded (node (receive j) r empty) (some j)) (λ i. record { channel = sourceAt rows a; subscript = h b m0 i .expr; target = h c m1 i .target })
+  part-agree r f g (Output a b c) h = λ i. ofProcess (node (send (sinkAt rows a) (h b m0 i .expr) (h c m1 i .expr)) r empty)
+  part-agree r f g (Seq a) h = λ i. ofProcess (node sequence r (h a m0 i .members))
+  part-agree r f g (Par a) h = λ i. ofProcess (node parallel r (h a m0 i .members))
+  part-agree r f g (If a) h = λ i. ofProcess (node (conditional (h a m0 i .tests)) r (h a m0 i .members))
+  part-agree r f g (While a b) h = λ i. ofProcess (node (loop (h a m0 i .expr) b) r (andMember (h b m1 i .process) empty))
+  part-agree r f g (Alt a) h = λ i. ofProcess (node (alternation (h a m0 i .branches)) r (h a m0 i .members))
+  part-agree r f g (Member a b) h = λ i. ofLink (andMember (h a m0 i .process) (h b m1 i .members)) [] []
+  part-agree r f g (Choice a b c) h =
+      λ i. ofLink (andMember (h a m0 i .process) (h b m1 i .members)) (record { boolean = h c m2 i .expr; process = a } ∷ h b m1 i .tests) []
+  part-agree r f g (Alternative a b c) h =
+      λ i. ofLink (andMember (h a m0 i .process) (h b m1 i .members)) [] (record { row = r; guard = h c m2 i .guard; process = a } ∷ h b m1 i .branches)
+  part-agree r f g (Guard a b) h = λ i. ofGuardRow (record { boolean = h a m0 i .expr; input = h b m1 i .guard .input })
+  part-agree r f g Other h = refl
+
+  -- references go to higher rows
+  pub fits-higher : (r : ℕ) (x : Node) → Fits rows r x → (c : ℕ) → List·Memᴰ c (references x) → r < c
+  fits-higher r (Literal x) f = λ c m. absurd (List·Memᴰ·not-nil m)
+  fits-higher r (Element a b) f = one (_<_ r) b (f .0)
+  fits-higher r (Monadic a b) f = one (_<_ r) b (f .0)
+  fits-higher r (Dyadic a b c) f = two (_<_ r) b c (f .0 .0) (f .1 .0)
+  fits-higher r Stop f = λ c m. absurd (List·Memᴰ·not-nil m)
+  fits-higher r Skip f = λ c m. absurd (List·Memᴰ·not-nil m)
+  fits-higher r (Assignment a b c) f = two (_<_ r) b c (f .0 .0) (f .1 .0)
+  fits-higher r (Input a b c) f = two (_<_ r) b c (f .1 .0) (f .2 .0)
+  fits-higher r (Output a b c) f = two (_<_ r) b c (f .1 .0) (f .2 .0)
+  fits-higher r (Seq a) f = one (_<_ r) a (f .0)
+  fits-higher r (Par a) f = one (_<_ r) a (f .0)
+  fits-higher r (If a) f = one (_<_ r) a (f .0)
+  fits-higher r (While a b) f = two (_<_ r) a b (f .0 .0) (f .1 .0)
+  fits-higher r (Alt a) f = one (_<_ r) a (f .0)
+  fits-higher r (Member a b) f = two (_<_ r) a b (f .0 .0) (f .1 .0)
+  fits-higher r (Choice a b c) f = three (_<_ r) a b c (f .0 .0) (f .1 .0) (f .2 .0)
+  fits-higher r (Alternative a b c) f = three (_<_ r) a b c (f .0 .0) (f .1 .0) (f .2 .0)
+  fits-higher r (Guard a b) f = two (_<_ r) a b (f .0 .0) (f .1 .0)
+  fits-higher r Other f = λ c m. absurd (List·Memᴰ·not-nil m)
+
+  -- past the table nothing stands
+  pub part-past : (r : ℕ) → rowCount rows ≤ r → partAt rows r ≡ noPart
+  unfolding partAt
+  part-past r h = atRow-past noPart (λ q at. partOf rows q at (nodeAt rows q)) (rowCount rows) r h
+
+  -- what stands at a row, from what stands at any row
+  pub part-is : (r : ℕ) → r < rowCount rows → Fits rows r (nodeAt rows r) → partAt rows r ≡ partOf rows r (partAt rows) (nodeAt rows r)
+  unfolding partAt
+  part-is r l f =
+      atRow-at noPart (λ q at. partOf rows q at (nodeAt rows q)) (rowCount rows) r l
+      ∙ part-agree r (λ b. ifElse (ltb r b) (partAt rows b) noPart) (partAt rows) (nodeAt rows r)
+      (λ c m. ap (λ (t : Bool). ifElse t (partAt rows c) noPart) (lt-ltb r c (fits-higher r (nodeAt rows r) f c m)))
+
+  -- what stands at row r, if it is of kind k
+  abbrev pub partBy : ℕ → ℕ → Part
+  partBy r k = partOf rows r (partAt rows) (nodeOf k (fieldAt rows r 1) (naturalAt rows r 1) (naturalAt rows r 2) (naturalAt rows r 3))
+
+  pub part-by-kind : (P : Part → Type 0) (r : ℕ) → r < rowCount rows → Fits rows r (nodeAt rows r) → (kinds : List ℕ) → List·Memᴰ (kindAt rows r) kinds → OfEach (λ k. P (partBy r k)) kinds → P (partAt rows r)
+  part-by-kind P r l f kinds m h =
+      subst P (sym (part-is r l f ∙ ap (partOf rows r (partAt rows)) (node-of-kind rows r (kindAt rows r) refl))) (of-each (λ k. P (partBy r k)) (kindAt rows r) kinds m h)

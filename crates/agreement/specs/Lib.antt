@@ -1,0 +1,6 @@
+pub mod MissingClaims
+pub mod Statements
+pub mod NotEmptyClaims
+pub mod SettlingClaims
+pub mod VerdictClaims
+pub mod Coherence

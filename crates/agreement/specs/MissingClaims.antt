@@ -1,0 +1,224 @@
+-- Missing stays missing, as types: which steps set and unset a cell, what a step does that needs a value which does not exist,
+-- that the number stored for an unset cell is never looked at, and that its printed field is empty.
+use mathlib.Core.Path.{_≡_}
+use mathlib.Core.Logic.{_⊎_, _↔_, _≢_}
+use mathlib.Core.Bool.{false}
+use mathlib.Core.Option.{none, some}
+use mathlib.Core.List.{List, [], _∷_, _++_, List·Memᴰ}
+use Prim.Native.Nat.{ℕ, zero, suc, _+_, _<_, _≤_}
+use lib.IntN.{ℤ, pos}
+use lib.ListN.{length, getD, take as front}
+use Rattle.meaning.specs.declared.Value.the-variants.{Number, Missing}
+use Rattle.meaning.specs.declared.Index.the-variants.{At, Fails}
+use Rattle.meaning.specs.Limits.{maxCells}
+use Rattle.meaning.specs.Declarations.{Variable, Channel, sumBelow, cellsAt, variables}
+use Rattle.meaning.specs.Tree.{Expr, element, monadic, dyadic, Receive, IfChoice, AltOption, Action, assign, receive, send, conditional, loop, alternation}
+use Rattle.meaning.specs.Values.{decides, value, index}
+use Rattle.meaning.specs.State.{Message, State, Program, program, settled}
+use Rattle.meaning.specs.Intent.{Sheet, intent}
+use Rattle.meaning.specs.Ready.{Label, own, pass, take, takeFrom, ready, after}
+use Rattle.meaning.specs.Order.{OrderOf}
+use Rattle.meaning.specs.Run.{Result, go}
+use Rattle.meaning.specs.Buffers.{Buffers, sized, mark, numberIn, encode}
+use Rattle.meaning.specs.Printing.{Line, line, var, runLines, valueBytes}
+use Rattle.meaning.specs.Step.{channelOf, Holds, Refuted, Complete, AllComplete, Lacks, Inner, Host, Sends, Live, becomes, effect, Step}
+
+-- a cell of a state: none where it is unset
+abbrev pub cellOf : State → ℕ → Message
+cellOf s a = getD (s .store .cells) a none
+
+module _ (P : Program) (sheet : Sheet) (s : State) where
+  -- the step of a label hands a message to a cell: a rule for each way
+  pub data Delivers : Label → ℕ → Message → Type 0 where
+    by-assignment : {r a : ℕ} {v : Variable} {e f : Expr} {z : ℤ} → Live P s r (assign v e f)
+        → index (s .store .cells) (v .first) (v .size) e ≡ At a → value (s .store .cells) f ≡ Number z → Delivers (own r) a (some z)
+    by-communication : {r o d a : ℕ} {i : Receive} {c : Channel} {e f : Expr} {m : Message} → Live P s r (receive i) → Live P s o (send c e f)
+        → Inner (s .store) i d a → Sends (s .store) c e f d m → Delivers (pass r o) a m
+    by-reading : {r a n : ℕ} {i : Receive} {v : Message} → Live P s r (receive i) → Host sheet (s .store) i a v n → Delivers (own r) a v
+    by-option-reading : {r a n : ℕ} {bs : List AltOption} {b : AltOption} {i : Receive} {v : Message} → Live P s r (alternation bs)
+        → AllComplete (s .store .cells) bs → List·Memᴰ b bs → Holds (s .store .cells) (b .guard .boolean) → b .guard .input ≡ some i
+        → Host sheet (s .store) i a v n → Delivers (take r (b .row)) a v
+    by-option-communication : {r o d a : ℕ} {bs : List AltOption} {b : AltOption} {i : Receive} {c : Channel} {e f : Expr} {m : Message}
+        → Live P s r (alternation bs) → AllComplete (s .store .cells) bs → List·Memᴰ b bs → Live P s o (send c e f)
+        → Holds (s .store .cells) (b .guard .boolean) → b .guard .input ≡ some i → Inner (s .store) i d a → Sends (s .store) c e f d m
+        → Delivers (takeFrom r (b .row) o) a m
+
+  -- the step of a label takes an absent reading from the host for a cell
+  pub data ReadsAbsent : Label → ℕ → Type 0 where
+    input-absent : {r a n : ℕ} {i : Receive} → Live P s r (receive i) → Host sheet (s .store) i a none n → ReadsAbsent (own r) a
+    option-absent : {r a n : ℕ} {bs : List AltOption} {b : AltOption} {i : Receive} → Live P s r (alternation bs)
+        → AllComplete (s .store .cells) bs → List·Memᴰ b bs → Holds (s .store .cells) (b .guard .boolean) → b .guard .input ≡ some i
+        → Host sheet (s .store) i a none n → ReadsAbsent (take r (b .row)) a
+
+-- a step leaves every cell as it was, but for one to which it hands a message: that cell holds the message
+abbrev pub SetOnly : Type 0
+SetOnly = (P : Program) (sheet : Sheet) (s : State) (x : Label) (t : State) → Step P sheet s x t → (a : ℕ)
+    → (cellOf t a ≡ cellOf s a) ⊎ ((m : Message) × Delivers P sheet s x a m × (cellOf t a ≡ m))
+
+-- a cell that holds a number after a step held it before, or the step assigned or input that number
+abbrev pub SetByNumber : Type 0
+SetByNumber = (P : Program) (sheet : Sheet) (s : State) (x : Label) (t : State) → Step P sheet s x t → (a : ℕ) (z : ℤ)
+    → cellOf t a ≡ some z → (cellOf s a ≡ some z) ⊎ Delivers P sheet s x a (some z)
+
+-- a cell that is unset after a step was unset before, or the step took an absent reading for it
+abbrev pub OnlyAbsentUnsets : Type 0
+OnlyAbsentUnsets = (P : Program) (sheet : Sheet) (s : State) (x : Label) (t : State) → Step P sheet s x t → (a : ℕ)
+    → cellOf t a ≡ none → (cellOf s a ≡ none) ⊎ ReadsAbsent P sheet s x a
+
+-- a step that hands a message to a cell leaves that message in it
+abbrev pub DeliveredHolds : Type 0
+DeliveredHolds = (rows : List ℤ) (sheet : Sheet) (s : State) (x : Label) (t : State) → Step (program rows) sheet s x t → (a : ℕ) (m : Message)
+    → Delivers (program rows) sheet s x a m → a < length (s .store .cells) → cellOf t a ≡ m
+
+-- "An empty field is an absent reading: the input takes place and makes its target unset"
+abbrev pub AbsentUnsets : Type 0
+AbsentUnsets = (rows : List ℤ) (sheet : Sheet) (s : State) (x : Label) (a : ℕ) → ReadsAbsent (program rows) sheet s x a
+    → ((t : State) × Step (program rows) sheet s x t) × ((t : State) → Step (program rows) sheet s x t → cellOf t a ≡ none)
+
+-- a number that a cell holds after an order of steps was handed to it by one of them, in the state that the steps before it left
+abbrev pub SetInOrder : Type 0
+SetInOrder = (rows : List ℤ) (sheet : Sheet) (l : List Label) (s : State) → OrderOf rows sheet l s → (a : ℕ) (z : ℤ) → cellOf s a ≡ some z
+    → (before : List Label) × ((x : Label) × ((later : List Label) × ((u : State)
+    × ((l ≡ before ++ (x ∷ later)) × OrderOf rows sheet before u × Delivers (program rows) sheet u x a (some z)))))
+
+-- the value of an expression needs a cell that is unset: operands are taken left to right, and one that is not looked at is not needed
+pub data NeedsUnset (cells : List Message) : Expr → Type 0 where
+  cell-unset : {v : Variable} {e : Expr} {i : ℕ} → index cells (v .first) (v .size) e ≡ At i → getD cells i none ≡ none → NeedsUnset cells (element v e)
+  in-subscript : {v : Variable} {e : Expr} → NeedsUnset cells e → NeedsUnset cells (element v e)
+  in-operand : {op : ℕ} {e : Expr} → NeedsUnset cells e → NeedsUnset cells (monadic op e)
+  in-first : {op : ℕ} {e f : Expr} → NeedsUnset cells e → NeedsUnset cells (dyadic op e f)
+  in-second : {op : ℕ} {e f : Expr} {x : ℤ} → value cells e ≡ Number x → decides op x ≡ false → NeedsUnset cells f → NeedsUnset cells (dyadic op e f)
+
+-- an expression has no value for reason 1 exactly if it needs an unset cell; so has a subscript
+abbrev pub UnsetRead : Type 0
+UnsetRead = (cells : List Message) (e : Expr) → (value cells e ≡ Missing 1) ↔ NeedsUnset cells e
+
+abbrev pub UnsetSubscript : Type 0
+UnsetSubscript = (cells : List Message) (first n : ℕ) (e : Expr) → (index cells first n e ≡ Fails 1) ↔ NeedsUnset cells e
+
+-- a step's label names row r: its own row, an input's or an output's, an ALT's
+abbrev pub OfRow : ℕ → Label → Type 0
+OfRow r (own q) = q ≡ r
+OfRow r (pass i o) = (i ≡ r) ⊎ (o ≡ r)
+OfRow r (take q j) = q ≡ r
+OfRow r (takeFrom q j o) = (q ≡ r) ⊎ (o ≡ r)
+
+-- an action lacks a value for one reason
+abbrev pub OneReason : Type 0
+OneReason = (cells : List Message) (a : Action) (k l : ℕ) → Lacks cells a k → Lacks cells a l → k ≡ l
+
+-- the state after a stop of row r for a reason
+abbrev pub stopped : Program → State → ℕ → ℕ → State
+stopped P s r reason = settled P (effect (becomes r r (10 + reason) ∷ []) []) s
+
+-- "An ALT, input or output that would stop offers nothing else": a running row that lacks a value has one step, the stop
+abbrev pub LackingOnlyStops : Type 0
+LackingOnlyStops = (rows : List ℤ) (sheet : Sheet) (s : State) (r reason : ℕ) (a : Action) → Live (program rows) s r a → Lacks (s .store .cells) a reason
+    → Step (program rows) sheet s (own r) (stopped (program rows) s r reason)
+    × ((x : Label) (t : State) → Step (program rows) sheet s x t → OfRow r x → (x ≡ own r) × (t ≡ stopped (program rows) s r reason))
+
+-- an input needs an unset cell: for its channel's subscript, then for its target's
+pub data InputNeedsUnset (cells : List Message) (i : Receive) : Type 0 where
+  in-channel : NeedsUnset cells (i .subscript) → InputNeedsUnset cells i
+  in-target : {e : ℕ} → channelOf cells i ≡ At e → NeedsUnset cells (i .target .subscript) → InputNeedsUnset cells i
+
+-- so do the tests of an IF: the first that is not false
+pub data TestNeedsUnset (cells : List Message) : List IfChoice → Type 0 where
+  in-test : {t : IfChoice} {l : List IfChoice} → NeedsUnset cells (t .boolean) → TestNeedsUnset cells (t ∷ l)
+  in-later-test : {t : IfChoice} {l : List IfChoice} → Refuted cells (t .boolean) → TestNeedsUnset cells l → TestNeedsUnset cells (t ∷ l)
+
+-- and the options of an ALT: the first that lacks a value
+pub data OptionNeedsUnset (cells : List Message) : List AltOption → Type 0 where
+  in-boolean : {b : AltOption} {l : List AltOption} → NeedsUnset cells (b .guard .boolean) → OptionNeedsUnset cells (b ∷ l)
+  in-input : {b : AltOption} {l : List AltOption} {i : Receive} → Holds cells (b .guard .boolean) → b .guard .input ≡ some i → InputNeedsUnset cells i
+      → OptionNeedsUnset cells (b ∷ l)
+  in-later-option : {b : AltOption} {l : List AltOption} → Complete cells b → OptionNeedsUnset cells l → OptionNeedsUnset cells (b ∷ l)
+
+-- an action, test or guard needs an unset cell, before any other value that it lacks
+pub data ActionNeedsUnset (cells : List Message) : Action → Type 0 where
+  assign-to : {v : Variable} {e f : Expr} → NeedsUnset cells e → ActionNeedsUnset cells (assign v e f)
+  assign-from : {v : Variable} {e f : Expr} {a : ℕ} → index cells (v .first) (v .size) e ≡ At a → NeedsUnset cells f → ActionNeedsUnset cells (assign v e f)
+  in-receive : {i : Receive} → InputNeedsUnset cells i → ActionNeedsUnset cells (receive i)
+  send-to : {c : Channel} {e f : Expr} → NeedsUnset cells e → ActionNeedsUnset cells (send c e f)
+  send-from : {c : Channel} {e f : Expr} {a : ℕ} → index cells (c .first) (c .size) e ≡ At a → NeedsUnset cells f → ActionNeedsUnset cells (send c e f)
+  in-while : {e : Expr} {b : ℕ} → NeedsUnset cells e → ActionNeedsUnset cells (loop e b)
+  in-if : {ts : List IfChoice} → TestNeedsUnset cells ts → ActionNeedsUnset cells (conditional ts)
+  in-alt : {bs : List AltOption} → OptionNeedsUnset cells bs → ActionNeedsUnset cells (alternation bs)
+
+-- an action lacks a value for reason 1 exactly if it needs an unset cell
+abbrev pub UnsetLacks : Type 0
+UnsetLacks = (cells : List Message) (a : Action) → Lacks cells a 1 ↔ ActionNeedsUnset cells a
+
+-- reading an unset cell where a value is needed makes the step a stop with reason 1: it is the row's one step
+abbrev pub UnsetStops : Type 0
+UnsetStops = (rows : List ℤ) (sheet : Sheet) (s : State) (r : ℕ) (a : Action) → Live (program rows) s r a → ActionNeedsUnset (s .store .cells) a
+    → Step (program rows) sheet s (own r) (stopped (program rows) s r 1)
+    × ((x : Label) (t : State) → Step (program rows) sheet s x t → OfRow r x → (x ≡ own r) × (t ≡ stopped (program rows) s r 1))
+
+-- a cell by its mark and its stored number: none where the mark is 0, whatever is stored
+abbrev pub decodedCell : ℕ → ℤ → Message
+decodedCell zero z = none
+decodedCell (suc m) z = some z
+
+-- the cells that an array of marks and an array of numbers stand for
+abbrev pub decoded : List ℕ → List ℤ → List Message
+decoded [] zs = []
+decoded (m ∷ ms) [] = []
+decoded (m ∷ ms) (z ∷ zs) = decodedCell m z ∷ decoded ms zs
+
+-- cell by cell, the lent buffers hold the mark of the cell and its number
+abbrev pub EncodedCells : Type 0
+EncodedCells = (rows : List ℤ) (s : State) (b : Buffers) (i : ℕ) → i < maxCells
+    → (getD (encode rows s b .marks) i 0 ≡ mark (cellOf s i)) × (getD (encode rows s b .cells) i (pos 0) ≡ numberIn (cellOf s i))
+
+-- the lent buffers stand for the cells: filled up with unset ones to the limit; and just these, at their number
+abbrev pub EncodedDecodes : Type 0
+EncodedDecodes = (rows : List ℤ) (s : State) (b : Buffers)
+    → (decoded (front maxCells (encode rows s b .marks)) (front maxCells (encode rows s b .cells)) ≡ sized maxCells none (s .store .cells))
+    × (length (s .store .cells) ≤ maxCells
+    → let n = length (s .store .cells) in
+    decoded (front n (encode rows s b .marks)) (front n (encode rows s b .cells)) ≡ s .store .cells)
+
+-- two arrays of numbers that are equal wherever the mark is not 0
+abbrev pub AgreeWhereSet : List ℕ → List ℤ → List ℤ → Type 0
+AgreeWhereSet marks v w = (length v ≡ length w) × ((i : ℕ) → getD marks i 0 ≢ 0 → getD v i (pos 0) ≡ getD w i (pos 0))
+
+-- they stand for the same cells: the number stored for an unset cell is never looked at
+abbrev pub StoredZeroUnseen : Type 0
+StoredZeroUnseen = (marks : List ℕ) (v w : List ℤ) → AgreeWhereSet marks v w → decoded marks v ≡ decoded marks w
+
+-- a state whose cells are given by marks and numbers
+abbrev pub stateWith : List ℕ → List ℕ → List ℤ → List ℕ → List (List Message) → State
+stateWith states marks v places outputs = record { states = states; store = record { cells = decoded marks v; places = places; outputs = outputs } }
+
+-- so every value, intent, list of ready steps, step and run from them is the same
+abbrev pub SameAnswers : Type 0
+SameAnswers = (P : Program) (sheet : Sheet) (states marks places : List ℕ) (outputs : List (List Message)) (v w : List ℤ) → AgreeWhereSet marks v w
+    → let s = stateWith states marks v places outputs in
+    let t = stateWith states marks w places outputs in
+    ((e : Expr) → value (s .store .cells) e ≡ value (t .store .cells) e)
+    × ((a : Action) (r : ℕ) → intent sheet a r (s .store) ≡ intent sheet a r (t .store))
+    × (ready P sheet s ≡ ready P sheet t)
+    × ((x : Label) → after P sheet x s ≡ after P sheet x t)
+    × ((budget n : ℕ) (choices : List ℕ) → go P sheet budget n choices s ≡ go P sheet budget n choices t)
+
+-- a printed value is empty exactly if its mark is 0
+abbrev pub PrintedEmpty : Type 0
+PrintedEmpty = (m : Message) → (valueBytes m ≡ []) ↔ (mark m ≡ 0)
+
+-- the number of a variable's cell, through the table
+abbrev pub cellNumber : List ℤ → ℕ → ℕ → ℕ
+cellNumber rows v i = sumBelow (cellsAt rows) v + i
+
+-- each printed line of a variable is of one of its cells, with that cell's value; its field is empty exactly if the cell's mark in the lent buffers is 0
+abbrev pub VariableLines : Type 0
+VariableLines = (rows : List ℤ) (r : Result) (l : Line) → List·Memᴰ l (runLines rows r) → l .what ≡ var
+    → let a = cellNumber rows (l .name) (l .at) in
+    (l .at < cellsAt rows (l .name))
+    × (l .value ≡ cellOf (r .state) a)
+    × ((b : Buffers) → a < maxCells → (valueBytes (l .value) ≡ []) ↔ (getD (encode rows (r .state) b .marks) a 0 ≡ 0))
+
+-- and each cell of a variable has its line
+abbrev pub CellsPrinted : Type 0
+CellsPrinted = (rows : List ℤ) (r : Result) (v i : ℕ) → List·Memᴰ v (variables rows) → i < cellsAt rows v → cellNumber rows v i < length (r .state .store .cells)
+    → List·Memᴰ (line var v i (cellOf (r .state) (cellNumber rows v i))) (runLines rows r)

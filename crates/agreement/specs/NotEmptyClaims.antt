@@ -1,0 +1,41 @@
+-- The statements about orders are not empty, as types: accepted tables with two orders to rest, and with none.
+use mathlib.Core.Path.{_≡_}
+use mathlib.Core.Logic.{_≢_}
+use mathlib.Core.Option.{none}
+use mathlib.Core.List.{List}
+use Prim.Native.Nat.{ℕ, _≤_}
+use lib.IntN.{ℤ}
+use lib.ListN.{length}
+use Rattle.meaning.specs.State.{State, program}
+use Rattle.meaning.specs.Ready.{Label}
+use Rattle.meaning.specs.Step.{Step}
+use Rattle.meaning.specs.Order.{OrderOf, RestOf}
+use Rattle.meaning.specs.Sheet.{sheetFault, readings}
+use Rattle.meaning.specs.Answers.{check}
+
+-- an order of a table on a sheet, of two steps or more, that comes to rest
+pub record LongOrder (rows : List ℤ) (sheet : List ℕ) : Type 0 where
+  pub labels : List Label
+  pub end : State
+  pub long : 2 ≤ length labels
+  pub order : OrderOf rows (readings rows sheet) labels end
+  pub rest : RestOf rows (readings rows sheet) end
+
+-- an accepted table and sheet with two different orders of length at least 2 that both come to rest
+pub record TwoOrders : Type 0 where
+  pub rows : List ℤ
+  pub sheet : List ℕ
+  pub table-accepted : check rows ≡ none
+  pub sheet-accepted : sheetFault rows sheet ≡ none
+  pub one : LongOrder rows sheet
+  pub two : LongOrder rows sheet
+  pub differ : one .labels ≢ two .labels
+
+-- an accepted table and sheet with orders of every length, after each of which some step is ready
+pub record NeverRests : Type 0 where
+  pub rows : List ℤ
+  pub sheet : List ℕ
+  pub table-accepted : check rows ≡ none
+  pub sheet-accepted : sheetFault rows sheet ≡ none
+  pub every-length : (n : ℕ) → (l : List Label) × (length l ≡ n) × ((s : State) × OrderOf rows (readings rows sheet) l s)
+  pub goes-on : (l : List Label) (s : State) → OrderOf rows (readings rows sheet) l s → (x : Label) × ((t : State) × Step (program rows) (readings rows sheet) s x t)

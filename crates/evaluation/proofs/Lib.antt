@@ -1,0 +1,3 @@
+pub mod CellLaws
+pub mod Expressions
+pub mod Evaluated

@@ -1,0 +1,34 @@
+-- What the tests of 4 come to where some of them are known.
+use mathlib.Core.Path.{_≡_, refl, sym, ap, _∙_}
+use mathlib.Core.Bool.{Bool, true, false, not, _&&_, _||_}
+use mathlib.Core.List.{List}
+use mathlib.Core.Option.{Option}
+use Prim.Native.Nat.{ℕ, _≤_, _<_}
+use lib.IntN.{ℤ}
+use lib.Dec.{ltb, eqb, leb}
+use borrow.Author.Tests.{ltb-true, le-leb, lt-leb}
+use Rattle.meaning.specs.Rows.{kindAt, declares, declarations}
+use Rattle.meaning.specs.Declarations.{isChannel}
+use Rattle.meaning.specs.Kinds.{Shape, shapeOf}
+use Rattle.meaning.specs.Verdict.{fits, misformed}
+use Rattle.kinds.proofs.Truth.{and-false, both-true}
+
+-- a channel is one of the declarations
+pub channel-below : (rows : List ℤ) (q : ℕ) → isChannel rows q ≡ true → q < declarations rows
+channel-below rows q e = ltb-true q (declarations rows) (both-true _ (eqb (kindAt rows q) 2) e .0)
+
+module _ (rows : List ℤ) (d r : ℕ) where
+  -- a late declaration
+  pub late : declares rows r ≡ true → d ≤ r → true ≡ misformed rows d r
+  late e h = simp (e, le-leb d r h)
+
+  module _ (t : Bool) (o : Option Shape) (f : t ≡ fits rows d r o) (s : o ≡ shapeOf (kindAt rows r)) where
+    by-fits : (declares rows r && leb d r) ≡ false → not t ≡ misformed rows d r
+    by-fits e = rw (e, ← s) (ap not f)
+
+    -- a declaration in its place, and a row that is none
+    pub early : r < d → not t ≡ misformed rows d r
+    early h = by-fits (rw (lt-leb d r h) (and-false (declares rows r)))
+
+    pub none-declared : declares rows r ≡ false → not t ≡ misformed rows d r
+    none-declared e = by-fits (rw e)

@@ -1,0 +1,52 @@
+// The form of a table's rows: refusals 3 to 6. Each function is its definition in the crate `meaning`.
+ghost use mathlib.Core.Path.{_≡_};
+ghost use mathlib.Core.List.{[], _∷_};
+ghost use Rattle.meaning.specs.Answers.{firstFault, verdictOf};
+ghost use Rattle.meaning.specs.Basics.{lowest};
+ghost use Rattle.meaning.specs.Rows.{rowCount, declarations};
+ghost use Rattle.meaning.specs.TableBytes.{numbersFault};
+ghost use Rattle.meaning.specs.Verdict.{misformed, formFault, treeFault, limitFault};
+ghost use Rattle.rows.specs.Places.{placeOf};
+
+mod fields; // fields.rt: refusal 4
+
+use meaning::Verdict;
+use rows::Place;
+
+// Refusal 4: the lowest row of unknown kind, declared late, or not as its kind says.
+pub fn form_fault(rows: &[i32]) -> Place
+    ensures { λ p. ⌜ p ≡ placeOf (lowest (misformed (now (rows .entry)) (declarations (now (rows .entry)))) (rowCount (now (rows .entry)))) ⌝ }
+{
+    let table = kinds::kind_table();
+    fields::first_misformed(&table, rows, rows::declarations(rows))
+}
+
+// The verdict on rows lent as numbers by the stages 3 to 6, in their order.
+pub fn check_form(rows: &[i32]) -> Verdict
+    ensures { λ v. ⌜ v ≡ verdictOf (firstFault (numbersFault ∷ formFault ∷ treeFault ∷ limitFault ∷ []) (now (rows .entry))) ⌝ }
+{
+    let n = rows::row_count(rows);
+    if 1024 < n {
+        return Verdict::Rejected(3, 1024);
+    }
+    if rows.len() % 4 != 0 {
+        return Verdict::Rejected(3, n as u32);
+    }
+    let form = form_fault(rows);
+    match form {
+        Place::Fault(r) => Verdict::Rejected(4, r as u32),
+        Place::Nowhere => {
+            let tree = tree::tree_fault(rows);
+            match tree {
+                Place::Fault(r) => Verdict::Rejected(5, r as u32),
+                Place::Nowhere => {
+                    let limit = rows::limits::limit_fault(rows);
+                    match limit {
+                        Place::Fault(r) => Verdict::Rejected(6, r as u32),
+                        Place::Nowhere => Verdict::Accepted,
+                    }
+                }
+            }
+        }
+    }
+}

@@ -1,0 +1,4 @@
+pub mod Actions
+pub mod Found
+pub mod Choices
+pub mod Stands

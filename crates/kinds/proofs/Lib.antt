@@ -1,0 +1,4 @@
+pub mod Masks
+pub mod Sorts
+pub mod Tables
+pub mod Truth

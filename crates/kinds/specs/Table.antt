@@ -1,0 +1,55 @@
+-- What the entries of the code's constant table mean: the fields and shapes of the definition's table of kinds.
+use mathlib.Core.Path.{_≡_}
+use mathlib.Core.Bool.{Bool}
+use mathlib.Core.List.{List, []}
+use mathlib.Core.Option.{Option, none, some}
+use Prim.Native.Nat.{ℕ, _/_, _%_, _^_}
+use lib.IntN.{pos}
+use lib.ListN.{length, getD}
+use lib.Dec.{ltb, eqb}
+use Rattle.meaning.specs.Basics.{ifElse, allBelow}
+use Rattle.meaning.specs.Kinds as K
+use Rattle.kinds.specs.declared.Shape.{Shape}
+use Rattle.meaning.specs.Kinds.{Field, unused, value, within, elements, capacity, variable, channel, reference, link, shape, shapeOf}
+
+-- a set of numbers below 64 as a mask: bit k is set
+abbrev pub inMask : ℕ → ℕ → Bool
+inMask mask k = eqb (mask / 2 ^ k % 2) 1
+
+unfoldable pub numbersIn : ℕ → List ℕ
+numbersIn mask = allBelow (inMask mask) 64
+
+-- a field by the number of its sort, with its numbers
+abbrev pub sorted : ℕ → ℕ → Field
+sorted sort m =
+    ifElse (eqb sort 1) value
+    (ifElse (eqb sort 2) (within (pos (m % 256)) (pos (m / 256 % 256)))
+    (ifElse (eqb sort 3) elements
+    (ifElse (eqb sort 4) capacity
+    (ifElse (eqb sort 5) variable
+    (ifElse (eqb sort 6) (channel (numbersIn m))
+    (ifElse (eqb sort 7) (reference (numbersIn m))
+    (ifElse (eqb sort 8) (link (numbersIn m))
+    unused)))))))
+
+-- the field that an entry means: its sort is in the last four bits
+unfoldable pub fieldOf : ℕ → Field
+fieldOf entry = sorted (entry % 16) (entry / 16)
+
+-- the shape that three entries mean; those of no kind begin with sort 9
+unfoldable pub meantShape : ℕ → Shape → Option K.Shape
+meantShape k s = ifElse (eqb (s .a) 9) none (some (shape k (fieldOf (s .a)) (fieldOf (s .b)) (fieldOf (s .c))))
+
+-- the entries of a kind in a table
+abbrev pub entriesOf : List (List ℕ) → ℕ → Shape
+entriesOf table k = let line = getD table k [] in record { a = getD line 0 0; b = getD line 1 0; c = getD line 2 0 }
+
+abbrev pub noEntries : Shape
+noEntries = record { a = 9; b = 9; c = 9 }
+
+unfoldable pub tableShape : List (List ℕ) → ℕ → Shape
+tableShape table k = ifElse (ltb k (length table)) (entriesOf table k) noEntries
+
+-- a table means the definition's table: of every kind the same shape, and of no other
+unfoldable pub KindTable : List (List ℕ) → Type 0
+KindTable table = (k : ℕ) → meantShape k (tableShape table k) ≡ shapeOf k

@@ -1,0 +1,6 @@
+pub mod RowNodes
+pub mod Declared
+pub mod RowSums
+pub mod NameLists
+pub mod Layouts
+pub mod Parts

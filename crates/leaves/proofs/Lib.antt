@@ -1,0 +1,5 @@
+pub mod Copies
+pub mod Packing
+pub mod Verdicts
+pub mod Values
+pub mod SheetAnswers

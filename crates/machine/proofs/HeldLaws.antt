@@ -1,0 +1,188 @@
+-- The machine's arrays: what is read from them, and that they hold a changed state after the matching change of one element.
+use mathlib.Core.Path.{_≡_, refl, sym, ap, ap₂, _∙_}
+use mathlib.Core.Option.{none, some}
+use mathlib.Core.List.{List, [], _∷_, _++_, map}
+use Prim.Native.Nat.{ℕ, suc, _+_, _<_, _≤_}
+use native.Mathlib.Omega.{arith}
+use lib.IntN.{ℤ, pos}
+use lib.ListN.{length, getD, set, take, replicate, length-append, length-map, List·getD-map}
+use Rattle.meaning.specs.Limits.{maxRows, maxCells, maxPorts, maxCapacity}
+use Rattle.meaning.specs.Rows.{rowCount}
+use Rattle.meaning.specs.Declarations.{totalCells, totalPorts}
+use Rattle.meaning.specs.State.{Message, State, program, start, writeCell, writePlace, writeOutput}
+use Rattle.meaning.specs.Buffers.{Buffers, lent, mark, numberIn, capacities, strips, encode}
+use Rattle.machine.specs.Held.{blank, Holds, cellOf, sumOf, stripStart, withWrite, withState, putCell, putPlace, putState, putOutput, Lengths, Room}
+use Rattle.machine.proofs.LentLists.{lent-at, lent-length, lent-set, lent-defaults, map-set, map-replicate}
+use Rattle.machine.proofs.Strips.{strip-within, strips-length, strips-more, strips-empty}
+use Rattle.machine.proofs.Declared.{capacities-length}
+
+-- buffers with equal fields
+pub buffers-path : (b c : Buffers) → b .cells ≡ c .cells → b .marks ≡ c .marks → b .states ≡ c .states → b .places ≡ c .places → b .numbers ≡ c .numbers → b .counts ≡ c .counts → b ≡ c
+buffers-path b c p q r t u v = λ i. record { cells = p i; marks = q i; states = r i; places = t i; numbers = u i; counts = v i }
+
+cell-back : (m : Message) → cellOf (numberIn m) (mark m) ≡ m
+cell-back none = refl
+cell-back (some x) = refl
+
+-- ---- the arrays
+
+module _ (rows : List ℤ) (s : State) (b : Buffers) (h : Holds rows s b) where
+  cells-are : b .cells ≡ lent maxCells (pos 0) (map numberIn (s .store .cells)) (replicate maxCells (pos 0))
+  unfolding encode blank
+  cells-are = ap (λ (c : Buffers). c .cells) h
+
+  marks-are : b .marks ≡ lent maxCells 0 (map mark (s .store .cells)) (replicate maxCells 0)
+  unfolding encode blank
+  marks-are = ap (λ (c : Buffers). c .marks) h
+
+  pub states-are : b .states ≡ lent maxRows 0 (s .states) (replicate maxRows 0)
+  unfolding encode blank
+  states-are = ap (λ (c : Buffers). c .states) h
+
+  places-are : b .places ≡ lent maxPorts 0 (s .store .places) (replicate maxPorts 0)
+  unfolding encode blank
+  places-are = ap (λ (c : Buffers). c .places) h
+
+  counts-are : b .counts ≡ lent maxPorts 0 (map (λ (l : List Message). length l) (s .store .outputs)) (replicate maxPorts 0)
+  unfolding encode blank
+  counts-are = ap (λ (c : Buffers). c .counts) h
+
+  numbers-are : b .numbers ≡ lent maxCapacity (pos 0) (strips (capacities rows) (s .store .outputs)) (replicate maxCapacity (pos 0))
+  unfolding encode blank
+  numbers-are = ap (λ (c : Buffers). c .numbers) h
+
+  -- each array is as long as its limit
+  pub cells-long : length (b .cells) ≡ maxCells
+  cells-long = rw cells-are (lent-length maxCells (pos 0) (map numberIn (s .store .cells)))
+
+  pub marks-long : length (b .marks) ≡ maxCells
+  marks-long = rw marks-are (lent-length maxCells 0 (map mark (s .store .cells)))
+
+  pub states-long : length (b .states) ≡ maxRows
+  states-long = rw states-are (lent-length maxRows 0 (s .states))
+
+  pub places-long : length (b .places) ≡ maxPorts
+  places-long = rw places-are (lent-length maxPorts 0 (s .store .places))
+
+  pub numbers-long : length (b .numbers) ≡ maxCapacity
+  numbers-long = rw numbers-are (lent-length maxCapacity (pos 0) (strips (capacities rows) (s .store .outputs)))
+
+  pub counts-long : length (b .counts) ≡ maxPorts
+  counts-long = rw counts-are (lent-length maxPorts 0 (map (λ (l : List Message). length l) (s .store .outputs)))
+
+module _ (rows : List ℤ) (R : Room rows) (s : State) (L : Lengths rows s) (b : Buffers) (h : Holds rows s b) where
+  cells-fit : length (map numberIn (s .store .cells)) ≤ maxCells
+  cells-fit = omega (arith, length-map (s .store .cells) numberIn, L .cells, R .cells)
+
+  marks-fit : length (map mark (s .store .cells)) ≤ maxCells
+  marks-fit = omega (arith, length-map (s .store .cells) mark, L .cells, R .cells)
+
+  states-fit : length (s .states) ≤ maxRows
+  states-fit = omega (arith, L .states, R .states)
+
+  places-fit : length (s .store .places) ≤ maxPorts
+  places-fit = omega (arith, L .places, R .places)
+
+  counts-fit : length (map (λ (l : List Message). length l) (s .store .outputs)) ≤ maxPorts
+  counts-fit = omega (arith, length-map (s .store .outputs) (λ (l : List Message). length l), L .outputs, R .outputs)
+
+  same-count : length (capacities rows) ≡ length (s .store .outputs)
+  same-count = capacities-length rows ∙ sym (L .outputs)
+
+  -- ---- reading
+
+  -- a cell
+  pub read-cell : (i : ℕ) → getD (s .store .cells) i none ≡ cellOf (getD (b .cells) i (pos 0)) (getD (b .marks) i 0)
+  read-cell i =
+      let x : getD (b .cells) i (pos 0) ≡ numberIn (getD (s .store .cells) i none) =
+      ap (λ (l : List ℤ). getD l i (pos 0)) (cells-are rows s b h) ∙ lent-at maxCells i (pos 0) (map numberIn (s .store .cells)) cells-fit ∙ List·getD-map numberIn (s .store .cells) i none in
+      let m : getD (b .marks) i 0 ≡ mark (getD (s .store .cells) i none) =
+      ap (λ (l : List ℕ). getD l i 0) (marks-are rows s b h) ∙ lent-at maxCells i 0 (map mark (s .store .cells)) marks-fit ∙ List·getD-map mark (s .store .cells) i none in
+      sym (ap₂ cellOf x m ∙ cell-back (getD (s .store .cells) i none))
+
+  -- the state of a row
+  pub read-state : (r : ℕ) → getD (s .states) r 0 ≡ getD (b .states) r 0
+  read-state r = sym (ap (λ (l : List ℕ). getD l r 0) (states-are rows s b h) ∙ lent-at maxRows r 0 (s .states) states-fit)
+
+  -- the place of a channel from the host
+  pub read-place : (p : ℕ) → getD (s .store .places) p 0 ≡ getD (b .places) p 0
+  read-place p = sym (ap (λ (l : List ℕ). getD l p 0) (places-are rows s b h) ∙ lent-at maxPorts p 0 (s .store .places) places-fit)
+
+  -- how many messages a channel to the host has been given
+  pub read-count : (p : ℕ) → length (getD (s .store .outputs) p []) ≡ getD (b .counts) p 0
+  read-count p =
+      sym (ap (λ (l : List ℕ). getD l p 0) (counts-are rows s b h) ∙ lent-at maxPorts p 0 (map (λ (l : List Message). length l) (s .store .outputs)) counts-fit ∙ List·getD-map (λ (l : List Message). length l) (s .store .outputs) p [])
+
+  -- ---- writing
+
+  -- a field after a change of one element
+  changed : {A : Type 0} (n i : ℕ) (d a : A) (xs : List A) (l old : List A) → l ≡ lent n d xs old → i < length xs → length xs ≤ n → set l i a ≡ lent n d (set xs i a) old
+  changed n i d a xs l old e k f = ap (λ (m : List _). set m i a) e ∙ lent-set n i d a xs old k f
+
+  -- a cell
+  pub hold-cell : (a : ℕ) (m : Message) → a < totalCells rows → Holds rows (withWrite (writeCell a m) s) (putCell a m b)
+  unfolding encode blank
+  hold-cell a m k =
+      buffers-path (putCell a m b) (encode rows (withWrite (writeCell a m) s) blank)
+      (changed maxCells a (pos 0) (numberIn m) (map numberIn (s .store .cells)) (b .cells) (replicate maxCells (pos 0)) (cells-are rows s b h) (omega (arith, length-map (s .store .cells) numberIn, L .cells)) cells-fit
+      ∙ ap (λ (l : List ℤ). lent maxCells (pos 0) l (replicate maxCells (pos 0))) (sym (map-set numberIn (s .store .cells) a m)))
+      (changed maxCells a 0 (mark m) (map mark (s .store .cells)) (b .marks) (replicate maxCells 0) (marks-are rows s b h) (omega (arith, length-map (s .store .cells) mark, L .cells)) marks-fit
+      ∙ ap (λ (l : List ℕ). lent maxCells 0 l (replicate maxCells 0)) (sym (map-set mark (s .store .cells) a m)))
+      (ap (λ (c : Buffers). c .states) h) (ap (λ (c : Buffers). c .places) h) (ap (λ (c : Buffers). c .numbers) h) (ap (λ (c : Buffers). c .counts) h)
+
+  -- a place
+  pub hold-place : (p k : ℕ) → p < totalPorts 1 rows → Holds rows (withWrite (writePlace p k) s) (putPlace p k b)
+  unfolding encode blank
+  hold-place p k l =
+      buffers-path (putPlace p k b) (encode rows (withWrite (writePlace p k) s) blank)
+      (ap (λ (c : Buffers). c .cells) h) (ap (λ (c : Buffers). c .marks) h) (ap (λ (c : Buffers). c .states) h)
+      (changed maxPorts p 0 k (s .store .places) (b .places) (replicate maxPorts 0) (places-are rows s b h) (omega (arith, L .places)) places-fit)
+      (ap (λ (c : Buffers). c .numbers) h) (ap (λ (c : Buffers). c .counts) h)
+
+  -- the state of a row
+  pub hold-state : (r v : ℕ) → r < rowCount rows → Holds rows (withState r v s) (putState r v b)
+  unfolding encode blank
+  hold-state r v l =
+      buffers-path (putState r v b) (encode rows (withState r v s) blank)
+      (ap (λ (c : Buffers). c .cells) h) (ap (λ (c : Buffers). c .marks) h)
+      (changed maxRows r 0 v (s .states) (b .states) (replicate maxRows 0) (states-are rows s b h) (omega (arith, L .states)) states-fit)
+      (ap (λ (c : Buffers). c .places) h) (ap (λ (c : Buffers). c .numbers) h) (ap (λ (c : Buffers). c .counts) h)
+
+  -- one more message for a channel to the host that has room
+  pub hold-output : (p : ℕ) (l : List Message) (m : Message) → p < totalPorts 2 rows → getD (s .store .outputs) p [] ≡ l → length l < getD (capacities rows) p 0
+      → Holds rows (withWrite (writeOutput p (l ++ (m ∷ []))) s) (putOutput rows p (length l) m b)
+  unfolding encode blank stripStart
+  hold-output p l m k e c =
+      let n = strips-length (capacities rows) (s .store .outputs) same-count in
+      let w = strip-within (capacities rows) p (omega (arith, capacities-length rows)) in
+      let counts = map (λ (x : List Message). length x) (s .store .outputs) in
+      let one : length (l ++ (m ∷ [])) ≡ suc (length l) = omega (arith, length-append l (m ∷ [])) in
+      buffers-path (putOutput rows p (length l) m b) (encode rows (withWrite (writeOutput p (l ++ (m ∷ []))) s) blank)
+      (ap (λ (x : Buffers). x .cells) h) (ap (λ (x : Buffers). x .marks) h) (ap (λ (x : Buffers). x .states) h) (ap (λ (x : Buffers). x .places) h)
+      (changed maxCapacity (sumOf (take p (capacities rows)) + length l) (pos 0) (numberIn m) (strips (capacities rows) (s .store .outputs)) (b .numbers) (replicate maxCapacity (pos 0))
+      (numbers-are rows s b h) (omega (arith, n, w)) (omega (arith, n, R .numbers))
+      ∙ ap (λ (x : List ℤ). lent maxCapacity (pos 0) x (replicate maxCapacity (pos 0))) (sym (strips-more (capacities rows) (s .store .outputs) p l m same-count (omega (arith, L .outputs)) e c)))
+      (changed maxPorts p 0 (suc (length l)) counts (b .counts) (replicate maxPorts 0) (counts-are rows s b h) (omega (arith, length-map (s .store .outputs) (λ (x : List Message). length x), L .outputs)) counts-fit
+      ∙ ap (λ (x : List ℕ). lent maxPorts 0 x (replicate maxPorts 0)) (ap (set counts p) (sym one) ∙ sym (map-set (λ (x : List Message). length x) (s .store .outputs) p (l ++ (m ∷ [])))))
+
+-- ---- the start
+
+-- at the start all arrays hold zeros, but for the row states
+pub hold-start : (rows : List ℤ) → Holds rows (start (program rows)) (record {
+  cells = blank .cells;
+  marks = blank .marks;
+  states = lent maxRows 0 (start (program rows) .states) (blank .states);
+  places = blank .places;
+  numbers = blank .numbers;
+  counts = blank .counts;
+})
+unfolding encode blank start program
+hold-start rows =
+    let (q, e) = strips-empty (capacities rows) (totalPorts 2 rows) in
+    buffers-path _ (encode rows (start (program rows)) blank)
+    (sym (ap (λ (l : List ℤ). lent maxCells (pos 0) l (replicate maxCells (pos 0))) (map-replicate numberIn (totalCells rows) none) ∙ lent-defaults maxCells (totalCells rows) (pos 0)))
+    (sym (ap (λ (l : List ℕ). lent maxCells 0 l (replicate maxCells 0)) (map-replicate mark (totalCells rows) none) ∙ lent-defaults maxCells (totalCells rows) 0))
+    refl
+    (sym (lent-defaults maxPorts (totalPorts 1 rows) 0))
+    (sym (ap (λ (l : List ℤ). lent maxCapacity (pos 0) l (replicate maxCapacity (pos 0))) e ∙ lent-defaults maxCapacity q (pos 0)))
+    (sym (ap (λ (l : List ℕ). lent maxPorts 0 l (replicate maxPorts 0)) (map-replicate (λ (x : List Message). length x) (totalPorts 2 rows) []) ∙ lent-defaults maxPorts (totalPorts 2 rows) 0))

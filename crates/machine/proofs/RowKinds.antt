@@ -1,0 +1,140 @@
+-- The kind of a row tells where to look for its step: an option orders a step of its ALT, any other row only one of its own. It holds of every table and state.
+use mathlib.Core.Path.{_≡_, refl, sym, ap, _∙_}
+use mathlib.Core.Logic.{inl, inr}
+use mathlib.Core.Bool.{Bool, true, false, true≢false}
+use mathlib.Core.Option.{Option, none, some}
+use mathlib.Core.List.{List, [], _∷_, List·Memᴰ, List·Memᴰ·head, List·Memᴰ·tail, List·Memᴰ·not-nil}
+use Prim.Native.Nat.{ℕ, _<_}
+use native.Mathlib.Omega.{arith}
+use native.Mathlib.Decide.{decLt}
+use lib.IntN.{ℤ}
+use Rattle.meaning.specs.declared.Node.{Node}
+use Rattle.meaning.specs.declared.Node.the-variants.{Literal, Element, Monadic, Dyadic, Stop, Skip, Assignment, Input, Output, Seq, Par, If, While, Alt, Member, Choice, Option as Alternative, Guard, Other}
+use Rattle.meaning.specs.Rows.{ifElse, rowCount, nodeAt}
+use Rattle.meaning.specs.Tree.{Process, Part, noPart, partOf, partAt, orStop, actionOf}
+use Rattle.meaning.specs.State.{State, program, processAt}
+use Rattle.meaning.specs.Intent.{Sheet, intent}
+use Rattle.meaning.specs.Ready.{Label}
+use Rattle.agreement.proofs.OptionRows.{rowsOf, optionRows}
+use Rattle.agreement.proofs.TableTree.{above, part-at, part-past, process-is, Known, every-row}
+use Rattle.machine.specs.RowSteps.{isOption, altOf, ownStepBy, orElse, waitingAt, ownStep, optionStep, stepAt}
+use Rattle.machine.proofs.LiveRows.{intent-waits}
+use Rattle.machine.proofs.RowReady.{alt-is}
+
+module _ (rows : List ℤ) where
+  -- ---- the rows of options are options
+
+  abbrev Options : List ℕ → Type 0
+  Options l = (j : ℕ) → List·Memᴰ j l → isOption (nodeAt rows j) ≡ true
+
+  abbrev ofProcess : Option Process → List ℕ
+  ofProcess none = []
+  ofProcess (some p) = optionRows (actionOf p)
+
+  abbrev PartOk : ℕ → Part → Type 0
+  PartOk r p = Options (rowsOf (p .branches)) × Options (ofProcess (p .process))
+
+  no-options : Options []
+  no-options j m = absurd (List·Memᴰ·not-nil m)
+
+  nothing : (r : ℕ) → PartOk r noPart
+  nothing r = (no-options, no-options)
+
+  one-more : (r : ℕ) (l : List ℕ) → isOption (nodeAt rows r) ≡ true → Options l → Options (r ∷ l)
+  one-more r l e h j (List·Memᴰ·head q) = ap (λ (i : ℕ). isOption (nodeAt rows i)) q ∙ e
+  one-more r l e h j (List·Memᴰ·tail m) = h j m
+
+  part-ok : (r : ℕ) (at : ℕ → Part) → ((b : ℕ) → PartOk b (at b)) → (k : Node) → isOption (nodeAt rows r) ≡ isOption k → PartOk r (partOf rows r at k)
+  part-ok r at h (Literal x) e = nothing r
+  part-ok r at h (Element a b) e = nothing r
+  part-ok r at h (Monadic a b) e = nothing r
+  part-ok r at h (Dyadic a b c) e = nothing r
+  part-ok r at h Stop e = nothing r
+  part-ok r at h Skip e = nothing r
+  part-ok r at h (Assignment a b c) e = nothing r
+  part-ok r at h (Input a b c) e = nothing r
+  part-ok r at h (Output a b c) e = nothing r
+  part-ok r at h (Seq a) e = nothing r
+  part-ok r at h (Par a) e = nothing r
+  part-ok r at h (If a) e = nothing r
+  part-ok r at h (While a b) e = nothing r
+  part-ok r at h (Alt a) e = (no-options, h a .0)
+  part-ok r at h (Member a b) e = nothing r
+  part-ok r at h (Choice a b c) e = nothing r
+  part-ok r at h (Alternative a b c) e = (one-more r (rowsOf (at b .branches)) e (h b .0), no-options)
+  part-ok r at h (Guard a b) e = nothing r
+  part-ok r at h Other e = nothing r
+
+  of-known : (r b : ℕ) (p : Part) → Known rows PartOk r b p → PartOk b p
+  of-known r b p (inl e) = rw e (nothing b)
+  of-known r b p (inr h) = h .3
+
+  every-part : (r : ℕ) → PartOk r (partAt rows r)
+  every-part = every-row rows PartOk nothing (λ r l e h. part-ok r (above rows r) (λ b. of-known r b (above rows r b) (h b)) (nodeAt rows r) refl)
+
+  or-stop : (o : Option Process) → Options (ofProcess o) → Options (optionRows (actionOf (orStop o)))
+  or-stop none h = h
+  or-stop (some p) h = h
+
+  -- a row that is an option of some row is an option by its kind
+  pub option-kind : (r j : ℕ) → List·Memᴰ j (optionRows (actionOf (processAt (program rows) r))) → isOption (nodeAt rows j) ≡ true
+  option-kind r j m = or-stop (partAt rows r .process) (every-part r .1) j (rw (process-is rows r) at m)
+
+  -- ---- an option is no process
+
+  no-process-of : (r : ℕ) (at : ℕ → Part) (k : Node) → isOption k ≡ true → partOf rows r at k .process ≡ none
+  no-process-of r at (Literal x) e = absurd (true≢false (sym e))
+  no-process-of r at (Element a b) e = absurd (true≢false (sym e))
+  no-process-of r at (Monadic a b) e = absurd (true≢false (sym e))
+  no-process-of r at (Dyadic a b c) e = absurd (true≢false (sym e))
+  no-process-of r at Stop e = absurd (true≢false (sym e))
+  no-process-of r at Skip e = absurd (true≢false (sym e))
+  no-process-of r at (Assignment a b c) e = absurd (true≢false (sym e))
+  no-process-of r at (Input a b c) e = absurd (true≢false (sym e))
+  no-process-of r at (Output a b c) e = absurd (true≢false (sym e))
+  no-process-of r at (Seq a) e = absurd (true≢false (sym e))
+  no-process-of r at (Par a) e = absurd (true≢false (sym e))
+  no-process-of r at (If a) e = absurd (true≢false (sym e))
+  no-process-of r at (While a b) e = absurd (true≢false (sym e))
+  no-process-of r at (Alt a) e = absurd (true≢false (sym e))
+  no-process-of r at (Member a b) e = absurd (true≢false (sym e))
+  no-process-of r at (Choice a b c) e = absurd (true≢false (sym e))
+  no-process-of r at (Alternative a b c) e = refl
+  no-process-of r at (Guard a b) e = absurd (true≢false (sym e))
+  no-process-of r at Other e = absurd (true≢false (sym e))
+
+  pub no-process : (j : ℕ) → isOption (nodeAt rows j) ≡ true → partAt rows j .process ≡ none
+  no-process j e = go (decLt j (rowCount rows))
+    where
+      go : Dec (j < rowCount rows) → partAt rows j .process ≡ none
+      go (yes l) = rw (part-at rows j l) (no-process-of j (above rows j) (nodeAt rows j) e)
+      go (no l) = rw (part-past rows j (omega arith)) refl
+
+  module _ (sheet : Sheet) (s : State) where
+    -- a row that is no process has no step of its own
+    pub no-own-step : (j : ℕ) → partAt rows j .process ≡ none → ownStep (program rows) sheet s j ≡ none
+    unfolding ownStep intent
+    no-own-step j e =
+        let p : processAt (program rows) j ≡ orStop none = process-is rows j ∙ ap orStop e in
+        ap (ownStepBy (waitingAt (program rows) sheet s) j) (intent-waits rows sheet s j (ap (λ (q : Process). intent sheet (actionOf q) j (s .store)) p))
+
+    -- a row that is no option has no ALT
+    pub no-alt : (j : ℕ) → isOption (nodeAt rows j) ≡ false → altOf (program rows) j ≡ none
+    no-alt j e = go (altOf (program rows) j) refl
+      where
+        go : (o : Option ℕ) → altOf (program rows) j ≡ o → o ≡ none
+        go none q = refl
+        go (some r) q = absurd (true≢false (sym (option-kind r j (alt-is (program rows) r j q)) ∙ e))
+
+    -- so the step of a row is told by its kind
+    pub step-by-kind : (j : ℕ) → stepAt (program rows) sheet s j ≡ ifElse (isOption (nodeAt rows j)) (optionStep (program rows) sheet s j) (ownStep (program rows) sheet s j)
+    unfolding stepAt optionStep
+    step-by-kind j = go (isOption (nodeAt rows j)) refl
+      where
+        or-none : (o : Option Label) → orElse o none ≡ o
+        or-none none = refl
+        or-none (some x) = refl
+
+        go : (t : Bool) → isOption (nodeAt rows j) ≡ t → orElse (ownStep (program rows) sheet s j) (optionStep (program rows) sheet s j) ≡ ifElse t (optionStep (program rows) sheet s j) (ownStep (program rows) sheet s j)
+        go true e = rw (no-own-step j (no-process j e))
+        go false e = rw (no-alt j e) (or-none (ownStep (program rows) sheet s j))

@@ -1,0 +1,57 @@
+-- Every state of an order has as many cells, places, output lists and row states as its table says; of an accepted table they fit the arrays.
+use mathlib.Core.Path.{_≡_, sym, subst, _∙_}
+use mathlib.Core.Option.{none}
+use mathlib.Core.List.{List, [], _∷_}
+use Prim.Native.Nat.{ℕ}
+use lib.IntN.{ℤ}
+use lib.ListN.{length, length-set, length-replicate}
+use Rattle.meaning.specs.Declarations.{totalCells, totalPorts}
+use Rattle.meaning.specs.State.{Message, Store, State, program, start, Write, writeCell, writePlace, writeOutput, write, writeAll, settled}
+use Rattle.meaning.specs.Intent.{Sheet}
+use Rattle.meaning.specs.Ready.{Label}
+use Rattle.meaning.specs.Step.{Step}
+use Rattle.meaning.specs.Order.{Order, halt, then, OrderOf}
+use Rattle.meaning.specs.Answers.{check}
+use Rattle.agreement.proofs.DataKept.{step-ok}
+use Rattle.machine.specs.Held.{Lengths}
+use Rattle.machine.proofs.RowTables.{states-length}
+
+-- a store has as many cells, places and output lists
+pub record Stored (rows : List ℤ) (x : Store) : Type 0 where
+  pub cells : length (x .cells) ≡ totalCells rows
+  pub places : length (x .places) ≡ totalPorts 1 rows
+  pub outputs : length (x .outputs) ≡ totalPorts 2 rows
+
+module _ (rows : List ℤ) where
+  pub write-stored : (w : Write) (x : Store) → Stored rows x → Stored rows (write w x)
+  write-stored (writeCell a m) x h = record { cells = length-set (x .cells) a m ∙ h .cells; places = h .places; outputs = h .outputs }
+  write-stored (writePlace p k) x h = record { cells = h .cells; places = length-set (x .places) p k ∙ h .places; outputs = h .outputs }
+  write-stored (writeOutput p l) x h = record { cells = h .cells; places = h .places; outputs = length-set (x .outputs) p l ∙ h .outputs }
+
+  writes-stored : (ws : List Write) (x : Store) → Stored rows x → Stored rows (writeAll ws x)
+  writes-stored [] x h = h
+  writes-stored (w ∷ ws) x h = writes-stored ws (write w x) (write-stored w x h)
+
+  start-stored : Stored rows (start (program rows) .store)
+  unfolding start program
+  start-stored =
+      record {
+        cells = length-replicate {A = Message} (totalCells rows) none;
+        places = length-replicate {A = ℕ} (totalPorts 1 rows) 0;
+        outputs = length-replicate {A = List Message} (totalPorts 2 rows) [];
+      }
+
+  module _ (sheet : Sheet) where
+    step-stored : (s : State) (x : Label) (t : State) → Step (program rows) sheet s x t → Stored rows (s .store) → Stored rows (t .store)
+    unfolding settled
+    step-stored s x t h k = let (e, z, c, w) = step-ok rows sheet s x t h in subst (λ (u : State). Stored rows (u .store)) (sym z) (writes-stored (e .writes) (s .store) k)
+
+    order-stored : {s t : State} {l : List Label} → Order (program rows) sheet s l t → Stored rows (s .store) → Stored rows (t .store)
+    order-stored halt k = k
+    order-stored (then {s} {t} {x} h o) k = order-stored o (step-stored s x t h k)
+
+-- of an accepted table
+pub lengths : (rows : List ℤ) → check rows ≡ none → (sheet : Sheet) (l : List Label) (s : State) → OrderOf rows sheet l s → Lengths rows s
+lengths rows ok sheet l s o =
+    let k = order-stored rows sheet o (start-stored rows) in
+    record { cells = k .cells; places = k .places; outputs = k .outputs; states = states-length rows ok sheet l s o }

@@ -1,0 +1,137 @@
+-- What the machine's arrays hold: a state as the lent buffers would show it, over arrays of zeros that are exactly as long as the limits.
+use mathlib.Core.Path.{_≡_}
+use mathlib.Core.Option.{none, some}
+use mathlib.Core.Bool.{Bool, false}
+use mathlib.Core.List.{List, [], _∷_, _++_}
+use Prim.Native.Nat.{ℕ, suc, _+_, _<_, _≤_}
+use lib.IntN.{ℤ, pos}
+use lib.ListN.{length, getD, set, replicate, take}
+use lib.Dec.{eqb}
+use Rattle.meaning.specs.Limits.{maxRows, maxCells, maxPorts, maxCapacity}
+use Rattle.meaning.specs.Rows.{ifElse, rowCount}
+use Rattle.meaning.specs.Declarations.{totalCells, totalPorts}
+use Rattle.meaning.specs.Settle.{settle}
+use Rattle.meaning.specs.State.{Message, Store, State, program, whole, Write, writeCell, writePlace, writeOutput, write, StateChange, Effect}
+use Rattle.meaning.specs.Buffers.{Buffers, mark, numberIn, capacities, encode}
+
+-- arrays of zeros
+unfoldable pub blank : Buffers
+blank =
+    record {
+      cells = replicate maxCells (pos 0);
+      marks = replicate maxCells 0;
+      states = replicate maxRows 0;
+      places = replicate maxPorts 0;
+      numbers = replicate maxCapacity (pos 0);
+      counts = replicate maxPorts 0;
+    }
+
+-- the arrays hold a state
+abbrev pub Holds : List ℤ → State → Buffers → Type 0
+Holds rows s b = b ≡ encode rows s blank
+
+-- a cell from its value and its mark: none where the mark is 0
+abbrev pub cellOf : ℤ → ℕ → Message
+cellOf x m = ifElse (eqb m 0) none (some x)
+
+-- the sum of a list
+abbrev pub sumOf : List ℕ → ℕ
+sumOf [] = 0
+sumOf (n ∷ ns) = n + sumOf ns
+
+-- "A strip follows the one before it by capacity": where that of the p-th output channel begins
+unfoldable pub stripStart : List ℤ → ℕ → ℕ
+stripStart rows p = sumOf (take p (capacities rows))
+
+-- a state with the data changed, and with the state of row r changed to v
+abbrev pub withWrite : Write → State → State
+withWrite w s = record { states = s .states; store = write w (s .store) }
+
+abbrev pub withState : ℕ → ℕ → State → State
+withState r v s = record { states = set (s .states) r v; store = s .store }
+
+-- the arrays with one cell, place, row state changed
+abbrev pub putCell : ℕ → Message → Buffers → Buffers
+putCell a m b =
+    record {
+      cells = set (b .cells) a (numberIn m);
+      marks = set (b .marks) a (mark m);
+      states = b .states;
+      places = b .places;
+      numbers = b .numbers;
+      counts = b .counts;
+    }
+
+abbrev pub putPlace : ℕ → ℕ → Buffers → Buffers
+putPlace p k b = record { cells = b .cells; marks = b .marks; states = b .states; places = set (b .places) p k; numbers = b .numbers; counts = b .counts }
+
+abbrev pub putState : ℕ → ℕ → Buffers → Buffers
+putState r v b = record { cells = b .cells; marks = b .marks; states = set (b .states) r v; places = b .places; numbers = b .numbers; counts = b .counts }
+
+-- one more message for the p-th output channel, which has been given n
+abbrev pub putOutput : List ℤ → ℕ → ℕ → Message → Buffers → Buffers
+putOutput rows p n m b =
+    record {
+      cells = b .cells;
+      marks = b .marks;
+      states = b .states;
+      places = b .places;
+      numbers = set (b .numbers) (stripStart rows p + n) (numberIn m);
+      counts = set (b .counts) p (suc n);
+    }
+
+-- the row states settle
+abbrev pub withSettled : List ℤ → Bool → State → State
+withSettled rows t s = record { states = settle (whole (program rows)) t (s .states); store = s .store }
+
+abbrev pub putSettled : List ℤ → Bool → Buffers → Buffers
+putSettled rows t b =
+    record { cells = b .cells; marks = b .marks; states = settle (whole (program rows)) t (b .states); places = b .places; numbers = b .numbers; counts = b .counts }
+
+-- what a step does to the arrays: its changes of data (an output list has its new message last), those of row states, then settling
+abbrev pub putWrite : List ℤ → Write → Buffers → Buffers
+putWrite rows (writeCell a m) b = putCell a m b
+putWrite rows (writePlace p k) b = putPlace p k b
+putWrite rows (writeOutput p l) b = let n = getD (b .counts) p 0 in putOutput rows p n (getD l n none) b
+
+abbrev pub putWrites : List ℤ → List Write → Buffers → Buffers
+putWrites rows [] b = b
+putWrites rows (w ∷ ws) b = putWrites rows ws (putWrite rows w b)
+
+abbrev pub putChanges : List StateChange → Buffers → Buffers
+putChanges [] b = b
+putChanges (c ∷ cs) b = putChanges cs (putState (c .at) (c .become) b)
+
+unfoldable pub putEffect : List ℤ → Effect → Buffers → Buffers
+putEffect rows e b = putSettled rows false (putChanges (e .changes) (putWrites rows (e .writes) b))
+
+-- a change of data is within what the table declares: a cell, a port, one more message where a channel has room
+abbrev pub InRange : List ℤ → Store → Write → Type 0
+InRange rows x (writeCell a m) = a < totalCells rows
+InRange rows x (writePlace p k) = p < totalPorts 1 rows
+InRange rows x (writeOutput p l) =
+    (m : Message) × (p < totalPorts 2 rows) × (l ≡ getD (x .outputs) p [] ++ (m ∷ [])) × (length (getD (x .outputs) p []) < getD (capacities rows) p 0)
+
+abbrev pub AllInRange : List ℤ → Store → List Write → Type 0
+AllInRange rows x [] = Unit {0}
+AllInRange rows x (w ∷ ws) = InRange rows x w × AllInRange rows (write w x) ws
+
+-- changes of row states are of rows of the table
+abbrev pub ChangesBelow : ℕ → List StateChange → Type 0
+ChangesBelow n [] = Unit {0}
+ChangesBelow n (c ∷ cs) = (c .at < n) × ChangesBelow n cs
+
+-- a state has as many cells, places, output lists and row states as its table says
+pub record Lengths (rows : List ℤ) (s : State) : Type 0 where
+  pub cells : length (s .store .cells) ≡ totalCells rows
+  pub places : length (s .store .places) ≡ totalPorts 1 rows
+  pub outputs : length (s .store .outputs) ≡ totalPorts 2 rows
+  pub states : length (s .states) ≡ rowCount rows
+
+-- the arrays are long enough for them
+pub record Room (rows : List ℤ) : Type 0 where
+  pub cells : totalCells rows ≤ maxCells
+  pub places : totalPorts 1 rows ≤ maxPorts
+  pub outputs : totalPorts 2 rows ≤ maxPorts
+  pub states : rowCount rows ≤ maxRows
+  pub numbers : sumOf (capacities rows) ≤ maxCapacity

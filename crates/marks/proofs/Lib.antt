@@ -1,0 +1,8 @@
+pub mod RowKinds
+pub mod CountLaws
+pub mod NamedLaws
+pub mod ExprMarks
+pub mod Links
+pub mod ProcessMarks
+pub mod Sorts
+pub mod ProcessSorts

@@ -1,0 +1,62 @@
+-- Examples of calls: what is answered, and what is then in the lent buffers.
+use mathlib.Core.Path.{_≡_, refl}
+use mathlib.Core.List.{[], _∷_, _++_}
+use Prim.Native.Nat.{ℕ}
+use Prim.Native.String.{String}
+use lib.IntN.{pos}
+use lib.ListN.{replicate}
+use Rattle.meaning.specs.Texts.{bytes}
+use Rattle.meaning.specs.declared.Answer.the-variants.{Refused, Ran}
+use Rattle.meaning.specs.declared.Outcome.the-variants.{Ended, Stuck, Spent}
+use Rattle.meaning.specs.Buffers.{Buffers}
+use Rattle.meaning.specs.Answers.{Reply, reply, replyToBytes}
+use Rattle.meaning.proofs.ComputesAnswers.{computesAnswers}
+
+-- buffers as long as their limits, the cells by some numbers more or fewer
+abbrev buffers : ℕ → Buffers
+buffers n = record { cells = replicate n (pos 9); marks = replicate 256 9; states = replicate 1024 9; places = replicate 8 9; numbers = replicate 1024 (pos 9); counts = replicate 8 9 }
+
+abbrev call : String → String → ℕ → ℕ → Reply
+call rows sheet budget n = replyToBytes (bytes "kind,a,b,c\n" ++ bytes rows) (bytes sheet) [] budget (buffers n)
+
+answers :
+    -- 1 goes before all
+    (call "1\n" "" 65537 255 .answer ≡ Refused 1 0)
+    × (call "1\n" "" 65537 256 .answer ≡ Refused 2 2)
+    -- 10 before 11
+    × (call "20,0,0,0\n" "" 65537 256 .answer ≡ Refused 10 1)
+    × (call "20,0,0,0\n" "\n" 65537 256 .answer ≡ Refused 11 0)
+    × (call "20,0,0,0\n" "\n" 65536 256 .answer ≡ Ran Stuck 0)
+    -- an empty PAR with budget 0 is ended
+    × (call "31,-1,0,0\n" "\n" 0 256 .answer ≡ Ran Ended 0)
+    -- WHILE 1 SKIP is spent
+    × (call "33,1,2,0\n10,1,0,0\n21,0,0,0\n" "\n" 3 256 .answer ≡ Ran Spent 3)
+unfolding computesAnswers
+answers = (refl, refl, refl, refl, refl, refl, refl)
+
+-- rows lent as numbers
+numbers :
+    (reply (record { rows = pos 20 ∷ pos 0 ∷ pos 0 ∷ []; sheet = bytes "\n"; choices = []; budget = 0 }) (buffers 256) .answer ≡ Refused 3 0)
+    × (reply (record { rows = []; sheet = bytes "\n"; choices = []; budget = 0 }) (buffers 256) .answer ≡ Refused 5 0)
+unfolding computesAnswers
+numbers = (refl, refl)
+
+-- a refused call writes to no lent buffer
+untouched : call "20,0,0,0\n" "" 0 257 .buffers ≡ buffers 257
+unfolding computesAnswers
+untouched = refl
+
+-- x := 5: a set cell, unused places 0, and what is past the limit as it was
+left :
+    (call "1,2,0,0\n22,0,2,3\n10,1,0,0\n10,5,0,0\n" "\n" 9 258 .buffers .cells ≡ pos 0 ∷ pos 5 ∷ replicate 254 (pos 0) ++ (pos 9 ∷ pos 9 ∷ []))
+    × (call "1,2,0,0\n22,0,2,3\n10,1,0,0\n10,5,0,0\n" "\n" 9 258 .buffers .marks ≡ 0 ∷ 1 ∷ replicate 254 0)
+    × (call "1,2,0,0\n22,0,2,3\n10,1,0,0\n10,5,0,0\n" "\n" 9 258 .buffers .states ≡ 0 ∷ 2 ∷ replicate 1022 0)
+unfolding computesAnswers
+left = (refl, refl, refl)
+
+-- two strips of capacity 2 and 1: the first takes a value, the second begins after its capacity
+strips :
+    (call "2,1,2,2\n2,1,2,1\n31,3,0,0\n40,4,5,0\n24,0,6,7\n40,8,-1,0\n10,0,0,0\n10,7,0,0\n24,1,9,10\n10,0,0,0\n10,8,0,0\n" "\n" 9 256 .buffers .numbers ≡ pos 7 ∷ pos 0 ∷ pos 8 ∷ replicate 1021 (pos 0))
+    × (call "2,1,2,2\n2,1,2,1\n31,3,0,0\n40,4,5,0\n24,0,6,7\n40,8,-1,0\n10,0,0,0\n10,7,0,0\n24,1,9,10\n10,0,0,0\n10,8,0,0\n" "\n" 9 256 .buffers .counts ≡ 1 ∷ 1 ∷ replicate 6 0)
+unfolding computesAnswers
+strips = (refl, refl)

@@ -1,0 +1,88 @@
+-- A refusal is that of the first stage that finds a fault; a table is accepted if every row is right in every stage.
+use mathlib.Core.Path.{_≡_, refl, sym, ap, _∙_}
+use mathlib.Core.Logic.{_↔_}
+use mathlib.Core.List.{List, [], _∷_}
+use mathlib.Core.Option.{Option, none, some, Option·map, Option·none-ne-some, Option·some-ne-none}
+use Prim.Native.Nat.{ℕ, suc, _<_}
+use lib.IntN.{ℤ}
+use Rattle.meaning.specs.Rows.{rowCount, declarations}
+use Rattle.meaning.specs.TableBytes.{Refusal, numbersFault}
+use Rattle.meaning.specs.Verdict.{formFault, treeFault, limitFault}
+use Rattle.meaning.specs.Usage.{usageFault}
+use Rattle.meaning.specs.Answers.{Stage, either, firstFault, rowStages, check}
+use Rattle.meaning.specs.PrintedForms.{Each, each-none, each-more}
+use Rattle.meaning.specs.Faults.{LowestWrong, Finds, WellFormed, WellPlaced, WithinLimits, FormStage, TreeStage, LimitStage}
+use Rattle.meaning.proofs.FaultLaws.{form-stage, limit-stage}
+use Rattle.meaning.proofs.TreeLaws.{tree-stage}
+
+-- the first stage that finds a fault finds this one
+pub data First {A : Type 0} (x : A) (f : Refusal) : List (Stage A) → Type 0 where
+  here : {s : Stage A} {ss : List (Stage A)} → s x ≡ some f → First x f (s ∷ ss)
+  later : {s : Stage A} {ss : List (Stage A)} → s x ≡ none → First x f ss → First x f (s ∷ ss)
+
+module _ {A : Type 0} (x : A) where
+  pub first-found : (ss : List (Stage A)) (f : Refusal) → firstFault ss x ≡ some f → First x f ss
+  unfolding firstFault
+  first-found [] f e = absurd (Option·none-ne-some f e)
+  first-found (s ∷ ss) f e = go (s x) refl e (first-found ss f)
+    where
+      go : (o : Option Refusal) → s x ≡ o → either o (firstFault ss x) ≡ some f → (firstFault ss x ≡ some f → First x f ss) → First x f (s ∷ ss)
+      go none i h k = later i (k h)
+      go (some g) i h k = here (i ∙ h)
+
+  pub found-first : (ss : List (Stage A)) (f : Refusal) → First x f ss → firstFault ss x ≡ some f
+  unfolding firstFault
+  found-first (s ∷ ss) f (here e) = ap (λ (o : Option Refusal). either o (firstFault ss x)) e
+  found-first (s ∷ ss) f (later e h) = ap (λ (o : Option Refusal). either o (firstFault ss x)) e ∙ found-first ss f h
+
+  pub none-found : (ss : List (Stage A)) → firstFault ss x ≡ none → Each (λ (s : Stage A). s x ≡ none) ss
+  unfolding firstFault
+  none-found [] e = each-none
+  none-found (s ∷ ss) e = go (s x) refl e (none-found ss)
+    where
+      go : (o : Option Refusal) → s x ≡ o → either o (firstFault ss x) ≡ none → (firstFault ss x ≡ none → Each (λ (t : Stage A). t x ≡ none) ss) → Each (λ (t : Stage A). t x ≡ none) (s ∷ ss)
+      go none i h k = each-more i (k h)
+      go (some g) i h k = absurd (Option·some-ne-none g h)
+
+  pub found-none : (ss : List (Stage A)) → Each (λ (s : Stage A). s x ≡ none) ss → firstFault ss x ≡ none
+  unfolding firstFault
+  found-none [] h = refl
+  found-none (s ∷ ss) (each-more e h) = ap (λ (o : Option Refusal). either o (firstFault ss x)) e ∙ found-none ss h
+
+-- a stage that finds nothing: all places are right
+pub finds-none : (number : ℕ) (Right : ℕ → Type 0) (n : ℕ) (found : Option Refusal) → Finds number Right n found → (found ≡ none) ↔ ((i : ℕ) → i < n → Right i)
+finds-none number Right n found h = go (h .0) (h .1) (h .2)
+  where
+    go : (o : Option ℕ) → found ≡ Option·map (λ r. (number, r)) o → LowestWrong Right n o → (found ≡ none) ↔ ((i : ℕ) → i < n → Right i)
+    go none e w = (λ z. w, λ z. e)
+    go (some i) e w = (λ z. absurd (Option·some-ne-none (number, i) (sym e ∙ z)), λ z. absurd (w .1 (z i (w .0))))
+
+-- rows that are right: four to each and not too many, every row well formed and well placed, the declarations within the
+-- limits, no clash in a PAR
+abbrev pub RightRows : List ℤ → Type 0
+RightRows rows =
+    (numbersFault rows ≡ none)
+    × ((r : ℕ) → r < rowCount rows → WellFormed rows r)
+    × ((r : ℕ) → r < suc (rowCount rows) → WellPlaced rows r)
+    × ((r : ℕ) → r < declarations rows → WithinLimits rows r)
+    × (usageFault rows ≡ none)
+
+-- "A table is accepted if these rules refuse nothing in it"
+pub accepted : (rows : List ℤ) → (check rows ≡ none) ↔ RightRows rows
+unfolding check FormStage TreeStage LimitStage
+accepted rows = (λ e. to (none-found rows rowStages e), λ h. found-none rows rowStages (from h))
+  where
+    form : (formFault rows ≡ none) ↔ ((r : ℕ) → r < rowCount rows → WellFormed rows r)
+    form = finds-none 4 (WellFormed rows) (rowCount rows) (formFault rows) (form-stage rows)
+
+    tree : (treeFault rows ≡ none) ↔ ((r : ℕ) → r < suc (rowCount rows) → WellPlaced rows r)
+    tree = finds-none 5 (WellPlaced rows) (suc (rowCount rows)) (treeFault rows) (tree-stage rows)
+
+    limit : (limitFault rows ≡ none) ↔ ((r : ℕ) → r < declarations rows → WithinLimits rows r)
+    limit = finds-none 6 (WithinLimits rows) (declarations rows) (limitFault rows) (limit-stage rows)
+
+    to : Each (λ (s : Stage (List ℤ)). s rows ≡ none) rowStages → RightRows rows
+    to (each-more a (each-more b (each-more c (each-more d (each-more e each-none))))) = (a, form .0 b, tree .0 c, limit .0 d, e)
+
+    from : RightRows rows → Each (λ (s : Stage (List ℤ)). s rows ≡ none) rowStages
+    from h = each-more (h .0) (each-more (form .1 (h .1)) (each-more (tree .1 (h .2)) (each-more (limit .1 (h .3)) (each-more (h .4) each-none))))

@@ -1,0 +1,96 @@
+-- The stages 4 and 6 answer with the lowest row that is not right.
+use mathlib.Core.Path.{_≡_, refl, sym, _∙_, subst}
+use mathlib.Core.Bool.{Bool}
+use mathlib.Core.List.{List, List·Memᴰ}
+use mathlib.Core.Option.{Option, none, some, Option·none-ne-some, Option·some-injective}
+use Prim.Native.Nat.{ℕ, suc, _≤_, _<_}
+use native.Mathlib.Omega.{arith}
+use lib.IntN.{ℤ, pos, negsuc, pos-ne-negsuc}
+use lib.Dec.{eqb}
+use Rattle.meaning.specs.Limits.{maxCells, maxElements, maxPorts, maxCapacity}
+use Rattle.meaning.specs.Rows.{rowCount, fieldAt, naturalAt, kindAt, declarations}
+use Rattle.meaning.specs.Declarations.{sumBelow, hasRole, cellsAt, elementsAt, portsAt, capacityAt}
+use Rattle.meaning.specs.Basics.{any, lowest}
+use Rattle.meaning.proofs.Decides.{Decides, holding, failing, decides-iff, decides-and, decides-or, decides-lt, decides-le, decides-eq, decides-eqZ, decides-inside, decides-any, pos-injective, Faults, right, wrong, faults-not, faults-or, faults-if, faults-iff, faults-over, lowest-wrong}
+use Rattle.meaning.specs.Kinds.{Field, unused, value, within, elements, capacity, variable, channel, reference, link, Shape, shapeOf}
+use Rattle.meaning.specs.Verdict.{names, holds, fits, misformed, formFault, overLimit, limitFault}
+use Rattle.meaning.specs.Faults.{Holds, IsOf, WellFormed, FormStage, WithinLimits, LimitStage}
+
+-- 6 ---------------------------------------------------------------------------------------------------------------------------
+
+within-limits : (rows : List ℤ) (r : ℕ) → Faults (WithinLimits rows r) (overLimit rows r)
+unfolding WithinLimits
+within-limits rows r =
+    faults-iff (λ p. (p .0 .0 .0 .0, p .0 .0 .0 .1, p .0 .0 .1, p .0 .1, p .1)) (λ p. ((((p .0, p .1), p .2), p .3), p .4))
+    (faults-or (faults-or (faults-or (faults-or
+    (faults-over maxCells (sumBelow (cellsAt rows) (suc r)))
+    (faults-over maxElements (sumBelow (elementsAt rows) (suc r))))
+    (faults-over maxPorts (sumBelow (portsAt 1 rows) (suc r))))
+    (faults-over maxPorts (sumBelow (portsAt 2 rows) (suc r))))
+    (faults-over maxCapacity (sumBelow (capacityAt rows) (suc r))))
+
+pub limit-stage : LimitStage
+unfolding LimitStage limitFault
+limit-stage rows =
+    (lowest (overLimit rows) (declarations rows), refl, lowest-wrong (WithinLimits rows) (overLimit rows) (within-limits rows) (declarations rows))
+
+-- 4 ---------------------------------------------------------------------------------------------------------------------------
+
+-- a name, of which a test decides a statement
+decides-name : (d : ℕ) (P : ℕ → Type 0) (p : ℕ → Bool) → ((r : ℕ) → Decides (P r) (p r)) → (z : ℤ) → Decides ((r : ℕ) × ((z ≡ pos r) × (r < d) × P r)) (names d p z)
+decides-name d P p f (pos r) =
+    decides-iff
+    (λ h. (r, (refl, h .0, h .1)))
+    (λ h. let e = sym (pos-injective (h .1 .0)) in (subst (λ (q : ℕ). q < d) e (h .1 .1), subst P e (h .1 .2)))
+    (decides-and (decides-lt r d) (f r))
+decides-name d P p f (negsuc r) = failing (λ h. pos-ne-negsuc (h .0) r (sym (h .1 .0)))
+
+-- what a field may hold
+decides-holds : (rows : List ℤ) (r : ℕ) (f : Field) (z : ℤ) → Decides (Holds rows r f z) (holds rows (declarations rows) r f z)
+unfolding Holds holds
+decides-holds rows r unused z = decides-eqZ z (pos 0)
+decides-holds rows r value z = holding tt
+decides-holds rows r (within lo hi) z = decides-inside lo hi z
+decides-holds rows r elements z = decides-and (decides-inside (pos 1) (pos 64) z) (decides-or (decides-eqZ (fieldAt rows r 2) (pos 0)) (decides-eqZ z (pos 1)))
+decides-holds rows r capacity z = decides-and (decides-inside (pos 0) (pos 256) z) (decides-or (decides-eqZ (fieldAt rows r 2) (pos 2)) (decides-eqZ z (pos 0)))
+decides-holds rows r variable z = decides-name (declarations rows) (λ q. kindAt rows q ≡ 1) (λ q. eqb (kindAt rows q) 1) (λ q. decides-eq (kindAt rows q) 1) z
+decides-holds rows r (channel roles) z =
+    decides-iff
+    (λ h. (h .0, (h .1 .0, h .1 .1, h .1 .2 .2 .0 .1), (h .1 .2 .0, h .1 .2 .1, h .1 .2 .2 .1)))
+    (λ h. (h .0, (h .1 .0, h .1 .1, (h .2 .0, h .2 .1, ((h .1 .1, h .1 .2), h .2 .2)))))
+    (decides-name (declarations rows) (λ q. (role : ℕ) × List·Memᴰ role roles × Of q role) (λ q. any (λ role. hasRole role rows q) roles) (λ q. decides-any (Of q) (λ role. hasRole role rows q) (of q) roles) z)
+  where
+    Of : ℕ → ℕ → Type 0
+    Of q role = ((q < declarations rows) × (kindAt rows q ≡ 2)) × (naturalAt rows q 2 ≡ role)
+
+    of : (q role : ℕ) → Decides (Of q role) (hasRole role rows q)
+    of q role = decides-and (decides-and (decides-lt q (declarations rows)) (decides-eq (kindAt rows q) 2)) (decides-eq (naturalAt rows q 2) role)
+decides-holds rows r (reference kinds) z = holding tt
+decides-holds rows r (link kinds) z = holding tt
+
+-- a row has the shape of its kind
+decides-fits : (rows : List ℤ) (r : ℕ) (o : Option Shape) → shapeOf (kindAt rows r) ≡ o
+    → Decides ((s : Shape) × IsOf rows r s × Holds rows r (s .a) (fieldAt rows r 1) × Holds rows r (s .b) (fieldAt rows r 2) × Holds rows r (s .c) (fieldAt rows r 3)) (fits rows (declarations rows) r o)
+decides-fits rows r none e = failing (λ h. Option·none-ne-some (h .0) (sym e ∙ h .1))
+decides-fits rows r (some s) e =
+    decides-iff
+    (λ h. (s, e, h .0 .0, h .0 .1, h .1))
+    (λ h. subst (λ (t : Shape). (Holds rows r (t .a) (fieldAt rows r 1) × Holds rows r (t .b) (fieldAt rows r 2)) × Holds rows r (t .c) (fieldAt rows r 3))
+    (Option·some-injective (h .0) s (sym (h .1) ∙ e)) ((h .2, h .3), h .4))
+    (decides-and (decides-and (decides-holds rows r (s .a) (fieldAt rows r 1)) (decides-holds rows r (s .b) (fieldAt rows r 2))) (decides-holds rows r (s .c) (fieldAt rows r 3)))
+
+well-formed : (rows : List ℤ) (r : ℕ) → Faults (WellFormed rows r) (misformed rows (declarations rows) r)
+unfolding WellFormed
+well-formed rows r =
+    faults-or
+    (faults-if (decides-or (decides-eq (kindAt rows r) 1) (decides-eq (kindAt rows r) 2)) (late (decides-le (declarations rows) r)))
+    (faults-not (decides-fits rows r (shapeOf (kindAt rows r)) refl))
+  where
+    late : {t : Bool} → Decides (declarations rows ≤ r) t → Faults (r < declarations rows) t
+    late (holding h) = wrong (λ l. omega arith)
+    late (failing h) = right (omega arith)
+
+pub form-stage : FormStage
+unfolding FormStage formFault
+form-stage rows =
+    (lowest (misformed rows (declarations rows)) (rowCount rows), refl, lowest-wrong (WellFormed rows) (misformed rows (declarations rows)) (well-formed rows) (rowCount rows))

@@ -1,0 +1,159 @@
+-- What a running row would do: the values that it needs, in order, and what it does with them.
+use mathlib.Core.Option.{Option, none, some}
+use mathlib.Core.List.{List, [], _∷_, _++_}
+use Prim.Native.Nat.{ℕ, zero, suc, _+_}
+use lib.ListN.{length, getD}
+use lib.Dec.{ltb}
+use Rattle.meaning.specs.declared.Value.{Value}
+use Rattle.meaning.specs.declared.Value.the-variants.{Number, Missing}
+use Rattle.meaning.specs.declared.Index.{Index}
+use Rattle.meaning.specs.declared.Index.the-variants.{At, Fails}
+use Rattle.meaning.specs.Rows.{ifElse}
+use Rattle.meaning.specs.Declarations.{Channel}
+use Rattle.meaning.specs.Tree.{Receive, IfChoice, AltOption, Action, stop, skip, sequence, parallel, assign, receive, send, conditional, loop, alternation}
+use Rattle.meaning.specs.Values.{isTrue, value, index}
+use Rattle.meaning.specs.State.{Message, Store, Write, writeCell, writePlace, writeOutput}
+
+-- the readings: for each role 1 channel the values of the lines, none where a reading is absent
+abbrev pub Sheet : Type 0
+Sheet = List (List Message)
+
+-- the entry at a place, if there is one
+abbrev pub entry : {A : Type 0} → List A → ℕ → Option A
+entry [] n = none
+entry (x ∷ l) zero = some x
+entry (x ∷ l) (suc n) = entry l n
+
+-- what an option of an ALT offers: its row, and the row of its process; with what it writes, or on which element into which cell
+pub data Offer : Type 0 where
+  openOffer : ℕ → ℕ → List Write → Offer
+  inputOffer : ℕ → ℕ → ℕ → ℕ → Offer
+
+-- nothing; a step by itself, by which row x becomes v; an input on an element into a cell; an output of a value to an element; options
+pub data Intent : Type 0 where
+  waits : Intent
+  moves : ℕ → ℕ → List Write → Intent
+  inputsFrom : ℕ → ℕ → Intent
+  outputsTo : ℕ → Message → Intent
+  selects : List Offer → Intent
+
+-- "a stop": the running row becomes stopped, 10 plus the reason
+abbrev pub halts : ℕ → ℕ → Intent
+halts r k = moves r (10 + k) []
+
+-- "an assignment; subscript before expression"
+abbrev pub assigning : ℕ → Index → Value → Intent
+assigning r (Fails k) v = halts r k
+assigning r (At a) (Missing k) = halts r k
+assigning r (At a) (Number v) = moves r 2 (writeCell a (some v) ∷ [])
+
+-- "false ends it, otherwise its body starts"
+abbrev pub testing : ℕ → ℕ → Value → Intent
+testing r body (Missing k) = halts r k
+testing r body (Number x) = ifElse (isTrue x) (moves body 1 []) (moves r 2 [])
+
+-- "its first true choice, tests looked at in order and none after it"
+abbrev pub choosing : ℕ → ℕ → Value → Intent → Intent
+choosing r process (Missing k) later = halts r k
+choosing r process (Number x) later = ifElse (isTrue x) (moves process 1 []) later
+
+-- "a host write, if capacity is left"
+abbrev pub hosting : ℕ → Channel → List Message → Message → Intent
+hosting r c l v = ifElse (ltb (length l) (c .capacity)) (moves r 2 (writeOutput (c .port) (l ++ (v ∷ [])) ∷ [])) waits
+
+-- "output takes channel subscript, then expression"
+abbrev pub sending : ℕ → Channel → List (List Message) → Index → Value → Intent
+sending r c outputs (Fails k) v = halts r k
+sending r c outputs (At e) (Missing k) = halts r k
+sending r c outputs (At e) (Number v) = ifElse (c .host) (hosting r c (getD outputs (c .port) []) (some v)) (outputsTo e (some v))
+
+-- what an input comes to: a reason for no step, nothing yet, a host read, an input on an element into a cell
+pub data Reception : Type 0 where
+  lacks : ℕ → Reception
+  later : Reception
+  reads : List Write → Reception
+  fromElement : ℕ → ℕ → Reception
+
+-- "a host read, if values are left": an absent reading makes the target unset
+abbrev pub reading : ℕ → ℕ → ℕ → Option Message → Reception
+reading port n a none = later
+reading port n a (some v) = reads (writeCell a v ∷ writePlace port (suc n) ∷ [])
+
+-- "Input takes channel subscript, then target subscript"
+abbrev pub receiving : Sheet → List ℕ → Channel → Index → Index → Reception
+receiving sheet places c (Fails k) t = lacks k
+receiving sheet places c (At e) (Fails k) = lacks k
+receiving sheet places c (At e) (At a) =
+    let n = getD places (c .port) 0 in
+    ifElse (c .host) (reading (c .port) n a (entry (getD sheet (c .port) []) n)) (fromElement e a)
+
+abbrev pub inputting : ℕ → Reception → Intent
+inputting r (lacks k) = halts r k
+inputting r later = waits
+inputting r (reads ws) = moves r 2 ws
+inputting r (fromElement e a) = inputsFrom e a
+
+-- the options of an ALT looked at: a reason for no step, or what they offer
+pub data Looked : Type 0 where
+  fails : ℕ → Looked
+  offers : List Offer → Looked
+
+abbrev pub adding : Offer → Looked → Looked
+adding o (fails k) = fails k
+adding o (offers l) = offers (o ∷ l)
+
+abbrev pub admitting : ℕ → ℕ → Reception → Looked → Looked
+admitting j process (lacks k) l = fails k
+admitting j process later l = l
+admitting j process (reads ws) l = adding (openOffer j process ws) l
+admitting j process (fromElement e a) l = adding (inputOffer j process e a) l
+
+-- an option whose boolean is true: SKIP, or an input
+abbrev pub opening : ℕ → ℕ → Option Reception → Looked → Looked
+opening j process none l = adding (openOffer j process []) l
+opening j process (some i) l = admitting j process i l
+
+-- "boolean first; if false the rest of that option isn't looked at"
+abbrev pub guarding : ℕ → ℕ → Value → Option Reception → Looked → Looked
+guarding j process (Missing k) i l = fails k
+guarding j process (Number x) i l = ifElse (isTrue x) (opening j process i l) l
+
+abbrev pub selecting : ℕ → Looked → Intent
+selecting r (fails k) = halts r k
+selecting r (offers l) = selects l
+
+module _ (sheet : Sheet) where
+  unfoldable pub reception : Receive → Store → Reception
+  reception i x =
+      receiving sheet (x .places) (i .channel)
+      (index (x .cells) (i .channel .first) (i .channel .size) (i .subscript))
+      (index (x .cells) (i .target .name .first) (i .target .name .size) (i .target .subscript))
+
+  abbrev pub receptionIf : Option Receive → Store → Option Reception
+  receptionIf none x = none
+  receptionIf (some i) x = some (reception i x)
+
+  abbrev pub tests : ℕ → List IfChoice → Store → Intent
+  tests r [] x = waits
+  tests r (t ∷ l) x = let later = tests r l x in choosing r (t .process) (value (x .cells) (t .boolean)) later
+
+  -- "In an ALT the options are looked at in order"
+  abbrev pub looks : List AltOption → Store → Looked
+  looks [] x = offers []
+  looks (b ∷ l) x =
+      let i = receptionIf (b .guard .input) x in
+      let later = looks l x in
+      guarding (b .row) (b .process) (value (x .cells) (b .guard .boolean)) i later
+
+  -- what the action of row r would do
+  unfoldable pub intent : Action → ℕ → Store → Intent
+  intent stop r x = waits
+  intent skip r x = waits
+  intent sequence r x = waits
+  intent parallel r x = waits
+  intent (assign v e f) r x = assigning r (index (x .cells) (v .first) (v .size) e) (value (x .cells) f)
+  intent (receive i) r x = inputting r (reception i x)
+  intent (send c e f) r x = sending r c (x .outputs) (index (x .cells) (c .first) (c .size) e) (value (x .cells) f)
+  intent (conditional ts) r x = tests r ts x
+  intent (loop e b) r x = testing r b (value (x .cells) e)
+  intent (alternation bs) r x = selecting r (looks bs x)

@@ -1,0 +1,40 @@
+-- What document 01 means, in the order of the paper. Read from the top.
+-- Words, limits, bytes
+pub mod Basics
+pub mod Texts
+pub mod Limits
+-- The table: numbers and lines, refusals 2 and 3, rows, kinds, refusals 4, 5 and 6, the tree
+pub mod Numerals
+pub mod Lines
+pub mod TableBytes
+pub mod Rows
+pub mod Kinds
+pub mod Declarations
+pub mod Verdict
+pub mod Tree
+-- Usage in a PAR: refusals 7, 8 and 9
+pub mod Usage
+-- Values
+pub mod Values
+-- Steps: settling, states, what a row would do, ready steps, runs
+pub mod Settle
+pub mod State
+pub mod Intent
+pub mod Ready
+pub mod Run
+-- Readings and results: refusal 10, the lent buffers, the whole answer
+pub mod Sheet
+pub mod Buffers
+pub mod Answers
+-- A run on paper
+pub mod Printing
+pub mod Runner
+pub mod Marked
+-- The same as statements, with no test and no order of looking
+pub mod PrintedForms
+pub mod Faults
+pub mod Clash
+pub mod SettlingRules
+pub mod Step
+pub mod Order
+pub mod Accepted

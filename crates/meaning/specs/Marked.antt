@@ -1,0 +1,99 @@
+-- The marked cases (●) and the run on paper: whole sheets, each with the answer that the paper expects and the state that is left.
+use mathlib.Core.Path.{_≡_}
+use mathlib.Core.Option.{none, some}
+use mathlib.Core.List.{List, [], _∷_, _++_, map}
+use Prim.Native.Nat.{ℕ}
+use Prim.Native.String.{String}
+use lib.IntN.{pos, negsuc}
+use Rattle.meaning.specs.declared.Outcome.{Outcome}
+use Rattle.meaning.specs.declared.Outcome.the-variants.{Ended, Stuck, Broken}
+use Rattle.meaning.specs.Texts.{bytes}
+use Rattle.meaning.specs.TableBytes.{header}
+use Rattle.meaning.specs.State.{Message, State}
+use Rattle.meaning.specs.Answers.{Result, refused, ran, resultOfBytes}
+
+-- a sheet: the table's rows and the readings as texts, the budget, and what is expected
+pub record Entry : Type 0 where
+  pub rows : String
+  pub readings : String
+  pub budget : ℕ
+  pub expected : Result
+
+abbrev pub entry : String → String → ℕ → Result → Entry
+entry rows readings budget expected = record { rows = rows; readings = readings; budget = budget; expected = expected }
+
+-- a state by its row states, cells, places in the readings and output lists
+abbrev pub left : List ℕ → List Message → List ℕ → List (List Message) → State
+left states cells places outputs = record { states = states; store = record { cells = cells; places = places; outputs = outputs } }
+
+-- a run that ends so, after so many steps, in this state
+abbrev pub atEnd : Outcome → ℕ → State → Result
+atEnd outcome steps state = ran (record { outcome = outcome; steps = steps; state = state })
+
+-- the answer to an entry, with no choices
+unfoldable pub answered : Entry → Result
+answered e = resultOfBytes (header ++ bytes (e .rows)) (bytes (e .readings)) [] (e .budget)
+
+abbrev pub entries : List Entry
+entries =
+    -- the run on paper
+    entry "2,1,1,0\n2,1,2,4\n1,1,0,0\n30,4,0,0\n40,5,9,0\n23,0,6,7\n10,0,0,0\n11,2,8,0\n10,0,0,0\n40,10,-1,0\n24,1,11,12\n10,0,0,0\n13,0,13,15\n11,2,14,0\n10,0,0,0\n10,5,0,0\n"
+    "0\n120\n" 65536
+    (atEnd Ended 2 (left (0 ∷ 0 ∷ 0 ∷ 2 ∷ 0 ∷ 2 ∷ 0 ∷ 0 ∷ 0 ∷ 0 ∷ 2 ∷ 0 ∷ 0 ∷ 0 ∷ 0 ∷ 0 ∷ []) (some (pos 120) ∷ []) (1 ∷ []) ((some (pos 125) ∷ []) ∷ [])))
+    -- the same with an absent reading
+    ∷ entry "2,1,1,0\n2,1,2,4\n1,1,0,0\n30,4,0,0\n40,5,9,0\n23,0,6,7\n10,0,0,0\n11,2,8,0\n10,0,0,0\n40,10,-1,0\n24,1,11,12\n10,0,0,0\n13,0,13,15\n11,2,14,0\n10,0,0,0\n10,5,0,0\n"
+    "0\n\n" 65536
+    (atEnd Broken 2 (left (0 ∷ 0 ∷ 0 ∷ 1 ∷ 0 ∷ 2 ∷ 0 ∷ 0 ∷ 0 ∷ 0 ∷ 11 ∷ 0 ∷ 0 ∷ 0 ∷ 0 ∷ 0 ∷ []) (none ∷ []) (1 ∷ []) ([] ∷ [])))
+    -- −7 / 2 is −3
+    ∷ entry "1,1,0,0\n22,0,2,3\n10,0,0,0\n13,3,4,5\n10,-7,0,0\n10,2,0,0\n"
+    "\n" 65536
+    (atEnd Ended 1 (left (0 ∷ 2 ∷ 0 ∷ 0 ∷ 0 ∷ 0 ∷ []) (some (negsuc 2) ∷ []) [] []))
+    -- −7 REM 2 is −1
+    ∷ entry "1,1,0,0\n22,0,2,3\n10,0,0,0\n13,4,4,5\n10,-7,0,0\n10,2,0,0\n"
+    "\n" 65536
+    (atEnd Ended 1 (left (0 ∷ 2 ∷ 0 ∷ 0 ∷ 0 ∷ 0 ∷ []) (some (negsuc 0) ∷ []) [] []))
+    -- −2147483648 REM −1 is 0
+    ∷ entry "1,1,0,0\n22,0,2,3\n10,0,0,0\n13,4,4,5\n10,-2147483648,0,0\n10,-1,0,0\n"
+    "\n" 65536
+    (atEnd Ended 1 (left (0 ∷ 2 ∷ 0 ∷ 0 ∷ 0 ∷ 0 ∷ []) (some (pos 0) ∷ []) [] []))
+    -- with / reason 3
+    ∷ entry "1,1,0,0\n22,0,2,3\n10,0,0,0\n13,3,4,5\n10,-2147483648,0,0\n10,-1,0,0\n"
+    "\n" 65536
+    (atEnd Broken 1 (left (0 ∷ 13 ∷ 0 ∷ 0 ∷ 0 ∷ 0 ∷ []) (none ∷ []) [] []))
+    -- 2147483647 + 1 reason 3
+    ∷ entry "1,1,0,0\n22,0,2,3\n10,0,0,0\n13,0,4,5\n10,2147483647,0,0\n10,1,0,0\n"
+    "\n" 65536
+    (atEnd Broken 1 (left (0 ∷ 13 ∷ 0 ∷ 0 ∷ 0 ∷ 0 ∷ []) (none ∷ []) [] []))
+    -- PLUS gives −2147483648
+    ∷ entry "1,1,0,0\n22,0,2,3\n10,0,0,0\n13,5,4,5\n10,2147483647,0,0\n10,1,0,0\n"
+    "\n" 65536
+    (atEnd Ended 1 (left (0 ∷ 2 ∷ 0 ∷ 0 ∷ 0 ∷ 0 ∷ []) (some (negsuc 2147483647) ∷ []) [] []))
+    -- 0 AND (1/0) is 0
+    ∷ entry "1,1,0,0\n22,0,2,3\n10,0,0,0\n13,14,4,5\n10,0,0,0\n13,3,6,7\n10,1,0,0\n10,0,0,0\n"
+    "\n" 65536
+    (atEnd Ended 1 (left (0 ∷ 2 ∷ 0 ∷ 0 ∷ 0 ∷ 0 ∷ 0 ∷ 0 ∷ []) (some (pos 0) ∷ []) [] []))
+    -- PAR of x:=1 and y:=x is 7
+    ∷ entry "1,1,0,0\n1,1,0,0\n31,3,0,0\n40,4,7,0\n22,0,5,6\n10,0,0,0\n10,1,0,0\n40,8,-1,0\n22,1,9,10\n10,0,0,0\n11,0,11,0\n10,0,0,0\n"
+    "\n" 65536
+    (refused (7, 2))
+    -- PAR of a[0]:=1 and a[1]:=2 is accepted
+    ∷ entry "1,2,0,0\n31,2,0,0\n40,3,6,0\n22,0,4,5\n10,0,0,0\n10,1,0,0\n40,7,-1,0\n22,0,8,9\n10,1,0,0\n10,2,0,0\n"
+    "\n" 65536
+    (atEnd Ended 2 (left (0 ∷ 2 ∷ 0 ∷ 2 ∷ 0 ∷ 0 ∷ 0 ∷ 2 ∷ 0 ∷ 0 ∷ []) (some (pos 1) ∷ some (pos 2) ∷ []) [] []))
+    -- PAR of c!1 and c?x ends in 1 step
+    ∷ entry "1,1,0,0\n2,1,0,0\n31,3,0,0\n40,4,7,0\n24,1,5,6\n10,0,0,0\n10,1,0,0\n40,8,-1,0\n23,1,9,10\n10,0,0,0\n11,0,11,0\n10,0,0,0\n"
+    "\n" 65536
+    (atEnd Ended 1 (left (0 ∷ 0 ∷ 2 ∷ 0 ∷ 2 ∷ 0 ∷ 0 ∷ 0 ∷ 2 ∷ 0 ∷ 0 ∷ 0 ∷ []) (some (pos 1) ∷ []) [] []))
+    -- SEQ of the same is stuck at 0
+    ∷ entry "1,1,0,0\n2,1,0,0\n30,3,0,0\n40,4,7,0\n24,1,5,6\n10,0,0,0\n10,1,0,0\n40,8,-1,0\n23,1,9,10\n10,0,0,0\n11,0,11,0\n10,0,0,0\n"
+    "\n" 65536
+    (atEnd Stuck 0 (left (0 ∷ 0 ∷ 1 ∷ 0 ∷ 1 ∷ 0 ∷ 0 ∷ 0 ∷ 0 ∷ 0 ∷ 0 ∷ 0 ∷ []) (none ∷ []) [] []))
+    -- An empty PAR with budget 0 is ended
+    ∷ entry "31,-1,0,0\n"
+    "\n" 0
+    (atEnd Ended 0 (left (2 ∷ []) [] [] []))
+    ∷ []
+
+-- every entry is answered as the paper expects
+abbrev pub MarkedCases : Type 0
+MarkedCases = map answered entries ≡ map (λ (e : Entry). e .expected) entries

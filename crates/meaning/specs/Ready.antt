@@ -1,0 +1,167 @@
+-- The steps that are ready in a state, in the order of their rows, and the state that each leaves.
+use mathlib.Core.Bool.{Bool, true, false, _&&_}
+use mathlib.Core.Option.{Option, none, some}
+use mathlib.Core.List.{List, [], _∷_, _++_, map}
+use Prim.Native.Nat.{ℕ, zero, suc}
+use lib.ListN.{length, getD}
+use lib.Dec.{eqb}
+use Rattle.meaning.specs.Rows.{ifElse}
+use Rattle.meaning.specs.Tree.{actionOf, membersIn, rowsBeneath}
+use Rattle.meaning.specs.State.{Message, State, Program, processAt, writeCell, Effect, settled}
+use Rattle.meaning.specs.Intent.{Sheet, Offer, openOffer, inputOffer, Intent, waits, moves, inputsFrom, outputsTo, selects, intent}
+
+-- a step: of a row by itself; of an input and an output; of an ALT and its option, without and with an output
+pub data Label : Type 0 where
+  own : ℕ → Label
+  pass : ℕ → ℕ → Label
+  take : ℕ → ℕ → Label
+  takeFrom : ℕ → ℕ → ℕ → Label
+  deriving Discrete as label-discrete
+
+-- "Ready steps are ordered by row": the row itself; the input of a communication; the option for an ALT
+abbrev pub orderRow : Label → ℕ
+orderRow (own r) = r
+orderRow (pass i o) = i
+orderRow (take r j) = j
+orderRow (takeFrom r j o) = j
+
+-- are all these rows idle
+abbrev pub allIdle : List ℕ → List ℕ → Bool
+allIdle [] s = true
+allIdle (r ∷ l) s = eqb (getD s r 0) 0 && allIdle l s
+
+-- the rows from r on that are running
+abbrev pub running : ℕ → List ℕ → List ℕ
+running r [] = []
+running r (x ∷ s) = let l = running (suc r) s in ifElse (eqb x 1) (r ∷ l) l
+
+-- what a row does that would do w by itself
+abbrev pub ownEffect : ℕ → Intent → Option Effect
+ownEffect r waits = none
+ownEffect r (moves x v ws) = some (record { changes = record { by = r; at = x; become = v } ∷ []; writes = ws })
+ownEffect r (inputsFrom e a) = none
+ownEffect r (outputsTo e v) = none
+ownEffect r (selects l) = none
+
+-- a value passes to a cell, where the elements are the same: row x becomes v for the receiver i, and the output o ends
+abbrev pub meeting : Bool → ℕ → ℕ → ℕ → ℕ → ℕ → Message → Option Effect
+meeting false i x v o a z = none
+meeting true i x v o a z =
+    some (record { changes = record { by = i; at = x; become = v } ∷ record { by = o; at = o; become = 2 } ∷ []; writes = writeCell a z ∷ [] })
+
+-- the receiver i, at element e, and what the row o would do
+abbrev pub meetEffect : ℕ → ℕ → ℕ → ℕ → ℕ → ℕ → Intent → Option Effect
+meetEffect e i x v o a waits = none
+meetEffect e i x v o a (moves y w ws) = none
+meetEffect e i x v o a (inputsFrom f c) = none
+meetEffect e i x v o a (outputsTo f z) = meeting (eqb e f) i x v o a z
+meetEffect e i x v o a (selects l) = none
+
+-- "an input and an output on the same channel element: the value passes, both end"
+abbrev pub passEffect : ℕ → ℕ → Intent → Intent → Option Effect
+passEffect i o waits u = none
+passEffect i o (moves x v ws) u = none
+passEffect i o (inputsFrom e a) u = meetEffect e i i 2 o a u
+passEffect i o (outputsTo e v) u = none
+passEffect i o (selects l) u = none
+
+-- "the option's process starts", by itself or with an output
+abbrev pub takeEffect : ℕ → Offer → Option Effect
+takeEffect r (openOffer j q ws) = some (record { changes = record { by = r; at = q; become = 1 } ∷ []; writes = ws })
+takeEffect r (inputOffer j q e a) = none
+
+abbrev pub takeFromEffect : ℕ → ℕ → Intent → Offer → Option Effect
+takeFromEffect r o u (openOffer j q ws) = none
+takeFromEffect r o u (inputOffer j q e a) = meetEffect e r q 1 o a u
+
+abbrev pub optionRow : Offer → ℕ
+optionRow (openOffer j q ws) = j
+optionRow (inputOffer j q e a) = j
+
+-- the offer of option j, put to f
+abbrev pub offerEffectAt : ℕ → (Offer → Option Effect) → List Offer → Option Effect
+offerEffectAt j f [] = none
+offerEffectAt j f (o ∷ l) = ifElse (eqb (optionRow o) j) (f o) (offerEffectAt j f l)
+
+abbrev pub offerEffect : ℕ → (Offer → Option Effect) → Intent → Option Effect
+offerEffect j f waits = none
+offerEffect j f (moves x v ws) = none
+offerEffect j f (inputsFrom e a) = none
+offerEffect j f (outputsTo e v) = none
+offerEffect j f (selects l) = offerEffectAt j f l
+
+-- what a step does, if it is ready, where w is what each row would do
+abbrev pub effectOf : Label → (ℕ → Intent) → Option Effect
+effectOf (own r) w = ownEffect r (w r)
+effectOf (pass i o) w = passEffect i o (w i) (w o)
+effectOf (take r j) w = offerEffect j (takeEffect r) (w r)
+effectOf (takeFrom r j o) w = offerEffect j (takeFromEffect r o (w o)) (w r)
+
+-- a running row, with what it would do
+pub record RunningRow : Type 0 where
+  pub row : ℕ
+  pub intent : Intent
+
+-- row r where it outputs to element e
+abbrev pub outputAt : ℕ → ℕ → Intent → List ℕ
+outputAt e r waits = []
+outputAt e r (moves x v ws) = []
+outputAt e r (inputsFrom f a) = []
+outputAt e r (outputsTo f v) = ifElse (eqb e f) (r ∷ []) []
+outputAt e r (selects l) = []
+
+-- the rows that would output to element e
+abbrev pub outputsAt : ℕ → List RunningRow → List ℕ
+outputsAt e [] = []
+outputsAt e (b ∷ l) = outputAt e (b .row) (b .intent) ++ outputsAt e l
+
+abbrev pub offered : ℕ → List RunningRow → List Offer → List Label
+offered r runningRows [] = []
+offered r runningRows (openOffer j q ws ∷ l) = take r j ∷ offered r runningRows l
+offered r runningRows (inputOffer j q e a ∷ l) = map (takeFrom r j) (outputsAt e runningRows) ++ offered r runningRows l
+
+-- the steps of row r, which would do w
+abbrev pub stepsOf : List RunningRow → ℕ → Intent → List Label
+stepsOf runningRows r waits = []
+stepsOf runningRows r (moves x v ws) = own r ∷ []
+stepsOf runningRows r (inputsFrom e a) = map (pass r) (outputsAt e runningRows)
+stepsOf runningRows r (outputsTo e v) = []
+stepsOf runningRows r (selects l) = offered r runningRows l
+
+abbrev pub stepsAll : List RunningRow → List RunningRow → List Label
+stepsAll runningRows [] = []
+stepsAll runningRows (b ∷ l) = stepsOf runningRows (b .row) (b .intent) ++ stepsAll runningRows l
+
+-- the steps ordered by row j
+abbrev pub stepsAt : ℕ → List Label → List Label
+stepsAt j [] = []
+stepsAt j (x ∷ l) = let m = stepsAt j l in ifElse (eqb (orderRow x) j) (x ∷ m) m
+
+-- the steps of k rows from j on, row after row
+abbrev pub byRow : ℕ → ℕ → List Label → List Label
+byRow zero j l = []
+byRow (suc k) j l = stepsAt j l ++ byRow k (suc j) l
+
+module _ (P : Program) (sheet : Sheet) where
+  -- "in a running row"; "A WHILE, IF or ALT has a step only while every row beneath it is idle"
+  unfoldable pub live : ℕ → State → Bool
+  live r s = eqb (getD (s .states) r 0) 1 && allIdle (rowsBeneath (membersIn (processAt P r))) (s .states)
+
+  -- what row r would do: nothing, where it is not at work
+  unfoldable pub intentAt : State → ℕ → Intent
+  intentAt s r = let w = intent sheet (actionOf (processAt P r)) r (s .store) in ifElse (live r s) w waits
+
+  unfoldable pub runningRows : State → List RunningRow
+  runningRows s = map (λ (r : ℕ). record { row = r; intent = intentAt s r }) (running 0 (s .states))
+
+  -- all ready steps, in row order
+  unfoldable pub ready : State → List Label
+  ready s = let b = runningRows s in byRow (length (s .states)) 0 (stepsAll b b)
+
+  abbrev pub taken : Option Effect → State → State
+  taken none s = s
+  taken (some e) s = settled P e s
+
+  -- the state that a step leaves, after settling
+  unfoldable pub after : Label → State → State
+  after x s = taken (effectOf x (intentAt s)) s

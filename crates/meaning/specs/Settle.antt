@@ -1,0 +1,115 @@
+-- Settling: row states are one list, by row. 0 idle, 1 running, 2 ended, 10 plus the reason stopped.
+use mathlib.Core.Bool.{Bool, true, false, _&&_, _||_}
+use mathlib.Core.List.{List, [], _∷_}
+use Prim.Native.Nat.{ℕ, zero, suc}
+use lib.ListN.{getD, set}
+use Rattle.meaning.specs.Tree.{Action, stop, skip, sequence, parallel, assign, receive, send, conditional, loop, alternation, Process, node, Members, empty, also, rowOf, rowsBeneath}
+
+-- the state of a process, and of each member
+abbrev pub stateOf : List ℕ → Process → ℕ
+stateOf s p = getD s (rowOf p) 0
+
+abbrev pub statesOf : Members → List ℕ → List ℕ
+statesOf empty s = []
+statesOf (also p ms) s = stateOf s p ∷ statesOf ms s
+
+-- how a running process starts its members: each in its turn, every one, or none without a step
+pub data Mode : Type 0 where
+  inTurn together byStep : Mode
+
+abbrev pub mode : Action → Mode
+mode stop = byStep
+mode skip = inTurn
+mode sequence = inTurn
+mode parallel = together
+mode (assign v e f) = byStep
+mode (receive i) = byStep
+mode (send c e f) = byStep
+mode (conditional ts) = byStep
+mode (loop e b) = byStep
+mode (alternation bs) = byStep
+
+-- may an idle member be started
+abbrev pub starts : Mode → Bool
+starts inTurn = true
+starts together = true
+starts byStep = false
+
+-- how the members after one that is left in state n are walked
+abbrev pub nextMode : Mode → ℕ → Mode
+nextMode inTurn zero = byStep
+nextMode inTurn (suc zero) = byStep
+nextMode inTurn (suc (suc zero)) = inTurn
+nextMode inTurn (suc (suc (suc n))) = byStep
+nextMode together n = together
+nextMode byStep n = byStep
+
+abbrev pub isEnded : ℕ → Bool
+isEnded zero = false
+isEnded (suc zero) = false
+isEnded (suc (suc zero)) = true
+isEnded (suc (suc (suc n))) = false
+
+-- idle or ended
+abbrev pub isIdleOrEnded : ℕ → Bool
+isIdleOrEnded zero = true
+isIdleOrEnded (suc zero) = false
+isIdleOrEnded (suc (suc zero)) = true
+isIdleOrEnded (suc (suc (suc n))) = false
+
+abbrev pub allOf : (ℕ → Bool) → List ℕ → Bool
+allOf f [] = true
+allOf f (x ∷ l) = f x && allOf f l
+
+abbrev pub anyOf : (ℕ → Bool) → List ℕ → Bool
+anyOf f [] = false
+anyOf f (x ∷ l) = f x || anyOf f l
+
+-- do members in these states close their process: "when all members have ended"; of an IF, ALT or WHILE, when the one that was started has
+abbrev pub complete : Mode → List ℕ → Bool
+complete inTurn l = allOf isEnded l
+complete together l = allOf isEnded l
+complete byStep l = allOf isIdleOrEnded l && anyOf isEnded l
+
+-- "every row beneath the WHILE becomes idle"
+abbrev pub makeIdle : List ℕ → List ℕ → List ℕ
+makeIdle [] s = s
+makeIdle (r ∷ rs) s = makeIdle rs (set s r 0)
+
+-- does closing end the process; if not, it sets all beneath it to idle
+abbrev pub endsWhenClosed : Action → Bool
+endsWhenClosed stop = true
+endsWhenClosed skip = true
+endsWhenClosed sequence = true
+endsWhenClosed parallel = true
+endsWhenClosed (assign v e f) = true
+endsWhenClosed (receive i) = true
+endsWhenClosed (send c e f) = true
+endsWhenClosed (conditional ts) = true
+endsWhenClosed (loop e b) = false
+endsWhenClosed (alternation bs) = true
+
+abbrev pub closing : Bool → Bool → ℕ → List ℕ → List ℕ → List ℕ
+closing true true r rs s = set s r 2
+closing true false r rs s = makeIdle rs s
+closing false e r rs s = s
+
+-- a process of state n at row r, which g settles once it is running
+abbrev pub visit : ℕ → Bool → ℕ → (List ℕ → List ℕ) → List ℕ → List ℕ
+visit zero true r g s = g (set s r 1)
+visit zero false r g s = s
+visit (suc zero) b r g s = g s
+visit (suc (suc n)) b r g s = s
+
+-- a running process settles; so do members, walked by a mode
+unfoldable mutual
+  pub settleRunning : Process → List ℕ → List ℕ
+  settleRunning (node a r ms) s = let t = settleMembers ms (mode a) s in let c = closing (complete (mode a) (statesOf ms t)) (endsWhenClosed a) r (rowsBeneath ms) t in c
+
+  pub settleMembers : Members → Mode → List ℕ → List ℕ
+  settleMembers empty m s = s
+  settleMembers (also p ms) m s = let t = visit (stateOf s p) (starts m) (rowOf p) (λ u. settleRunning p u) s in settleMembers ms (nextMode m (stateOf t p)) t
+
+-- a process that may be started is started if it is idle; a running one settles
+unfoldable pub settle : Process → Bool → List ℕ → List ℕ
+settle p b s = visit (stateOf s p) b (rowOf p) (settleRunning p) s

@@ -1,0 +1,98 @@
+-- The state of a run: cells, places in the readings and output lists (data), and row states. What a step stores.
+use mathlib.Core.Bool.{true, false}
+use mathlib.Core.Option.{Option, none}
+use mathlib.Core.List.{List, [], _∷_, map}
+use Prim.Native.Nat.{ℕ}
+use lib.IntN.{ℤ}
+use lib.ListN.{getD, set, replicate}
+use Rattle.meaning.specs.Rows.{root}
+use Rattle.meaning.specs.Declarations.{totalCells, totalPorts}
+use Rattle.meaning.specs.Tree.{Process, Part, parts, orStop}
+use Rattle.meaning.specs.Settle.{settle}
+
+-- what a cell, a reading and a channel's message is: a number, or none ("A missing sample must stay missing")
+abbrev pub Message : Type 0
+Message = Option ℤ
+
+-- cells, each none (unset) or a number; how many values each role 1 channel has given; what each role 2 channel has been given
+pub record Store : Type 0 where
+  pub cells : List Message
+  pub places : List ℕ
+  pub outputs : List (List Message)
+
+-- the row states, by row, beside the data
+pub record State : Type 0 where
+  pub states : List ℕ
+  pub store : Store
+
+-- what a run needs of a table: the process at each row (STOP where there is none), the root's row, and the sizes of a state
+pub record Program : Type 0 where
+  pub processes : List Process
+  pub root : ℕ
+  pub cells : ℕ
+  pub inputs : ℕ
+  pub outputs : ℕ
+
+unfoldable pub program : List ℤ → Program
+program rows =
+    record {
+      processes = map (λ (p : Part). orStop (p .process)) (parts rows);
+      root = root rows;
+      cells = totalCells rows;
+      inputs = totalPorts 1 rows;
+      outputs = totalPorts 2 rows;
+    }
+
+module _ (P : Program) where
+  -- the process at a row
+  unfoldable pub processAt : ℕ → Process
+  processAt r = getD (P .processes) r (orStop none)
+
+  -- the whole process
+  unfoldable pub whole : Process
+  whole = processAt (P .root)
+
+  -- "from all process rows idle the root has started and settled"; all cells unset, nothing read or written
+  unfoldable pub start : State
+  start =
+      record {
+        states = settle whole true (map (λ (p : Process). 0) (P .processes));
+        store = record { cells = replicate (P .cells) none; places = replicate (P .inputs) 0; outputs = replicate (P .outputs) [] };
+      }
+
+-- a change of one cell, one place, one output list
+pub data Write : Type 0 where
+  writeCell : ℕ → Message → Write
+  writePlace : ℕ → ℕ → Write
+  writeOutput : ℕ → List Message → Write
+
+abbrev pub write : Write → Store → Store
+write (writeCell a v) x = record { cells = set (x .cells) a v; places = x .places; outputs = x .outputs }
+write (writePlace a v) x = record { cells = x .cells; places = set (x .places) a v; outputs = x .outputs }
+write (writeOutput a v) x = record { cells = x .cells; places = x .places; outputs = set (x .outputs) a v }
+
+abbrev pub writeAll : List Write → Store → Store
+writeAll [] x = x
+writeAll (w ∷ ws) x = writeAll ws (write w x)
+
+-- a change of the state of row `at` to `become`, which the running row `by` makes
+pub record StateChange : Type 0 where
+  pub by : ℕ
+  pub at : ℕ
+  pub become : ℕ
+
+abbrev pub changeState : StateChange → List ℕ → List ℕ
+changeState m s = set s (m .at) (m .become)
+
+abbrev pub changeStates : List StateChange → List ℕ → List ℕ
+changeStates [] s = s
+changeStates (m ∷ l) s = changeStates l (changeState m s)
+
+-- what a step does: changes of row states, changes of data
+pub record Effect : Type 0 where
+  pub changes : List StateChange
+  pub writes : List Write
+
+-- "after settling": the changes are made, then the whole process settles
+unfoldable pub settled : Program → Effect → State → State
+settled P e s = record { states = settle (whole P) false (changeStates (e .changes) (s .states)); store = writeAll (e .writes) (s .store) }

@@ -1,0 +1,11 @@
+pub mod Bits
+pub mod Casts
+pub mod Decimals
+pub mod Digits
+pub mod Naturals
+pub mod Places
+pub mod Ranges
+pub mod Signs
+pub mod Texts
+pub mod Turning
+pub mod Written

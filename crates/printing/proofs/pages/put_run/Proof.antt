@@ -1,0 +1,58 @@
+-- The line of names, and the lines of the run's parts. Assumes nothing.
+use Rattle.meaning.specs.declared.Answer.the-variants.{Ran}
+use Rattle.meaning.specs.Declarations.{channels}
+use Rattle.meaning.specs.Buffers.{capacities}
+use Rattle.meaning.specs.Printing.{answerLine, cellLines, outLines, stopLines}
+use Rattle.printing.specs.Decoding.{cellsIn, outputsIn}
+use Rattle.printing.proofs.PageLaws.{page-made}
+use borrow.Author.Needs.{needs}
+use Rattle.printing.proofs.pages.put_run.Statement.{statement}
+use Rattle.printing.proofs.pages.put_run.Tie as tie
+
+slice-aggregate-put-bytes : tie.Need-slice-aggregate-put-bytes
+slice-aggregate-put-bytes c = search needs
+
+put-bytes-requires : tie.Need-put-bytes-requires
+put-bytes-requires c κs = search needs
+
+put-answer-requires : tie.Need-put-answer-requires
+put-answer-requires c κs = search needs
+
+put-variables-requires : tie.Need-put-variables-requires
+put-variables-requires c κs = search needs
+
+put-outputs-requires : tie.Need-put-outputs-requires
+put-outputs-requires c κs = search needs
+
+put-stops-requires : tie.Need-put-stops-requires
+put-stops-requires c κs = search needs
+
+same-length : tie.Need-same-length
+same-length c = search needs
+
+returns : tie.Need-returns
+returns c =
+    let a = c .before .before .before .before .before .before .before .before .before .before .before .before .before .before .before .before .before .before .before .before .before .before .before .before .before .args in
+    page-made (answerLine (Ran (a .outcome) (a .steps)))
+    (cellLines (a .rows .now) (cellsIn (a .marks .now) (a .values .now)))
+    (outLines (channels (a .rows .now) 2) (outputsIn (capacities (a .rows .now)) (a .counts .now) (a .numbers .now)))
+    (stopLines 0 (a .states .now))
+    (a .out .now)
+    (c .before .before .before .before .before .before .before .before .before .before .before .before .before .before .before .before .before .before .put-bytes .ensures)
+    (c .before .before .before .before .before .before .before .before .before .before .before .before .before .before .put-answer .ensures)
+    (c .before .before .before .before .before .before .before .before .before .before .put-variables .ensures)
+    (c .before .before .before .before .before .before .put-outputs .ensures)
+    (c .before .before .put-stops .ensures)
+
+pub put-run-spec : {M : Type 1} → statement M
+put-run-spec =
+    tie.close
+    (tie.spec
+    slice-aggregate-put-bytes
+    put-bytes-requires
+    put-answer-requires
+    put-variables-requires
+    put-outputs-requires
+    put-stops-requires
+    same-length
+    returns)

@@ -1,0 +1,9 @@
+pub mod DecimalSteps
+pub mod FieldSteps
+pub mod Grids
+pub mod LineSteps
+pub mod HeaderSteps
+pub mod HeaderLaws
+pub mod LinesRead
+pub mod SheetSteps
+pub mod KeptReadings

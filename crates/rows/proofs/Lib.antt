@@ -1,0 +1,4 @@
+pub mod Leading
+pub mod LimitLaws
+pub mod LowestFound
+pub mod Signs

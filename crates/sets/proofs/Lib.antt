@@ -1,0 +1,5 @@
+pub mod Bools
+pub mod Words
+pub mod SetLaws
+pub mod Holds
+pub mod Meets

@@ -1,0 +1,3 @@
+pub mod Members
+pub mod Shapes
+pub mod States

@@ -1,0 +1,112 @@
+// When a process closes: the tests of its members' states, and what closing does.
+ghost use mathlib.Core.Path.{_≡_};
+ghost use lib.ListN.{set};
+ghost use Rattle.meaning.specs.Rows.{ifElse};
+ghost use Rattle.meaning.specs.Tree.{partAt, rowsBeneath};
+ghost use Rattle.meaning.specs.Settle.{statesOf, isEnded, allOf, anyOf, complete, makeIdle, byStep};
+ghost use Rattle.settling.specs.Members.{modeOf, isOver, alone};
+use crate::reset::make_idle;
+use crate::shape::Mode;
+use crate::shape::Shape;
+use crate::shape::is_process;
+use crate::shape::shape_at;
+use crate::states::put;
+use crate::states::state_at;
+
+// Whether the process of row p, if there is one, has ended, or is idle where that will do.
+pub fn is_over<'a>(rows: &'a [i32], p: usize, idle: bool, states: &'a [u8]) -> bool
+    ensures { λ t. ⌜ t ≡ allOf (isOver idle) (statesOf (alone (partAt (now (rows .entry)) p .process)) (now (states .entry))) ⌝ }
+{
+    if is_process(rows, p) {
+        let n = state_at(states, p);
+        if n == 2 {
+            return true;
+        }
+        if n == 0 {
+            return idle;
+        }
+        return false;
+    }
+    true
+}
+
+// Whether the process of row p, if there is one, has ended.
+pub fn has_ended<'a>(rows: &'a [i32], p: usize, states: &'a [u8]) -> bool
+    ensures { λ t. ⌜ t ≡ anyOf isEnded (statesOf (alone (partAt (now (rows .entry)) p .process)) (now (states .entry))) ⌝ }
+{
+    if is_process(rows, p) {
+        let n = state_at(states, p);
+        return n == 2;
+    }
+    false
+}
+
+// Whether every member from link m on has ended, or is idle where that will do.
+fn all_over<'a>(rows: &'a [i32], m: usize, idle: bool, states: &'a [u8]) -> bool
+    ensures { λ t. ⌜ t ≡ allOf (isOver idle) (statesOf (partAt (now (rows .entry)) m .members) (now (states .entry))) ⌝ }
+{
+    let s = shape_at(rows, m);
+    match s {
+        Shape::Ending(_, _) => true,
+        Shape::Repeating(_) => true,
+        Shape::Link(p, next) => {
+            if is_over(rows, p, idle, states) {
+                return all_over(rows, next, idle, states);
+            }
+            false
+        }
+        Shape::Neither => true,
+    }
+}
+
+// Whether some member from link m on has ended.
+fn any_ended<'a>(rows: &'a [i32], m: usize, states: &'a [u8]) -> bool
+    ensures { λ t. ⌜ t ≡ anyOf isEnded (statesOf (partAt (now (rows .entry)) m .members) (now (states .entry))) ⌝ }
+{
+    let s = shape_at(rows, m);
+    match s {
+        Shape::Ending(_, _) => false,
+        Shape::Repeating(_) => false,
+        Shape::Link(p, next) => {
+            if has_ended(rows, p, states) {
+                return true;
+            }
+            any_ended(rows, next, states)
+        }
+        Shape::Neither => false,
+    }
+}
+
+// Whether the members from link m on close a process that starts them by this mode.
+pub fn closes<'a>(rows: &'a [i32], m: usize, mode: Mode, states: &'a [u8]) -> bool
+    ensures { λ t. ⌜ t ≡ complete (modeOf mode) (statesOf (partAt (now (rows .entry)) m .members) (now (states .entry))) ⌝ }
+{
+    match mode {
+        Mode::InTurn => all_over(rows, m, false, states),
+        Mode::Together => all_over(rows, m, false, states),
+        Mode::ByStep => {
+            if all_over(rows, m, true, states) {
+                return any_ended(rows, m, states);
+            }
+            false
+        }
+    }
+}
+
+// Row r ends if its members, from link m on, close it.
+pub fn finish(rows: &[i32], r: usize, m: usize, mode: Mode, states: &mut [u8])
+    ensures { λ _. ⌜ now (states .exit) ≡ ifElse (complete (modeOf mode) (statesOf (partAt (now (rows .entry)) m .members) (now (states .entry)))) (set (now (states .entry)) r 2) (now (states .entry)) ⌝ }
+{
+    if closes(rows, m, mode, &states[..]) {
+        put(states, r, 2);
+    }
+}
+
+// Every row beneath a WHILE becomes idle if its body, of row b, has ended.
+pub fn restart(rows: &[i32], b: usize, states: &mut [u8])
+    ensures { λ _. ⌜ now (states .exit) ≡ ifElse (complete byStep (statesOf (alone (partAt (now (rows .entry)) b .process)) (now (states .entry)))) (makeIdle (rowsBeneath (alone (partAt (now (rows .entry)) b .process))) (now (states .entry))) (now (states .entry)) ⌝ }
+{
+    if has_ended(rows, b, &states[..]) {
+        make_idle(rows, b, states);
+    }
+}

@@ -1,0 +1,43 @@
+// Every row of a process becomes idle.
+ghost use mathlib.Core.Path.{_≡_};
+ghost use Rattle.meaning.specs.Tree.{partAt, rowsBeneath};
+ghost use Rattle.meaning.specs.Settle.{makeIdle};
+ghost use Rattle.settling.specs.Members.{alone};
+use crate::shape::Shape;
+use crate::shape::shape_at;
+use crate::states::put;
+
+// Every row of the process of row r, if there is one, becomes idle.
+pub fn make_idle(rows: &[i32], r: usize, states: &mut [u8])
+    ensures { λ _. ⌜ now (states .exit) ≡ makeIdle (rowsBeneath (alone (partAt (now (rows .entry)) r .process))) (now (states .entry)) ⌝ }
+{
+    let s = shape_at(rows, r);
+    match s {
+        Shape::Ending(_, first) => {
+            put(states, r, 0);
+            make_members_idle(rows, first, states);
+        }
+        Shape::Repeating(body) => {
+            put(states, r, 0);
+            make_idle(rows, body, states);
+        }
+        Shape::Link(_, _) => {}
+        Shape::Neither => {}
+    }
+}
+
+// Every row of the members from link m on becomes idle.
+fn make_members_idle(rows: &[i32], m: usize, states: &mut [u8])
+    ensures { λ _. ⌜ now (states .exit) ≡ makeIdle (rowsBeneath (partAt (now (rows .entry)) m .members)) (now (states .entry)) ⌝ }
+{
+    let s = shape_at(rows, m);
+    match s {
+        Shape::Ending(_, _) => {}
+        Shape::Repeating(_) => {}
+        Shape::Link(p, next) => {
+            make_idle(rows, p, states);
+            make_members_idle(rows, next, states);
+        }
+        Shape::Neither => {}
+    }
+}

@@ -1,0 +1,11 @@
+pub mod Below
+pub mod OptionLinks
+pub mod WorkingRows
+pub mod Noting
+pub mod OwnerNotes
+pub mod ActNotes
+pub mod OutputElements
+pub mod OptionOffers
+pub mod StepsNoted
+pub mod ReadyMarks
+pub mod StepTests

@@ -1,0 +1,60 @@
+-- The options of an ALT along their links, by the kinds of rows.
+use mathlib.Core.Path.{_≡_, refl, sym, ap, _∙_}
+use mathlib.Core.Bool.{Bool}
+use mathlib.Core.List.{List, [], _∷_}
+use Prim.Native.Nat.{ℕ, _<_, _≤_}
+use lib.IntN.{ℤ}
+use Rattle.meaning.specs.Basics.{among, lowest}
+use Rattle.meaning.specs.declared.Node.{Node}
+use Rattle.meaning.specs.Rows.{rowCount, fieldAt, naturalAt, kindAt}
+use Rattle.meaning.specs.Tree.{Part, partOf, partAt, orStop, actionOf}
+use Rattle.meaning.specs.State.{program, processAt}
+use Rattle.agreement.proofs.OptionRows.{rowsOf, optionRows}
+use Rattle.agreement.proofs.TableTree.{part-past, process-is}
+use Rattle.layout.specs.Operands.{operandAt}
+use Rattle.layout.proofs.RowNodes.{nodeOf}
+use Rattle.layout.proofs.Parts.{higherPart, part-of-kind, operand-part}
+use Rattle.agreement.proofs.Separate.{processes-length}
+use Rattle.machine.specs.RowSteps.{altOf}
+use Rattle.offers.proofs.KindCases.{kind-cases}
+
+module _ (rows : List ℤ) where
+  -- the rows of the options from row t on
+  abbrev pub optionsFrom : ℕ → List ℕ
+  optionsFrom t = rowsOf (partAt rows t .branches)
+
+  pub options-past : (t : ℕ) → rowCount rows ≤ t → optionsFrom t ≡ []
+  options-past t l = ap (λ (p : Part). rowsOf (p .branches)) (part-past rows t l)
+
+  -- is row j an option of row r
+  abbrev pub isOptionOf : ℕ → ℕ → Bool
+  isOptionOf j r = among j (optionRows (actionOf (processAt (program rows) r)))
+
+  -- the ALT of an option is the lowest row that it is an option of
+  pub alt-lowest : (j : ℕ) → altOf (program rows) j ≡ lowest (isOptionOf j) (rowCount rows)
+  unfolding altOf
+  alt-lowest j = ap (lowest (isOptionOf j)) (processes-length rows)
+
+  module _ (t : ℕ) (h : t < rowCount rows) where
+    pub options-here : kindAt rows t ≡ 42 → optionsFrom t ≡ t ∷ optionsFrom (operandAt rows t 2)
+    options-here e = ap (λ (p : Part). rowsOf (p .branches)) (part-of-kind rows t 42 h e) ∙ ap (λ (p : Part). t ∷ rowsOf (p .branches)) (operand-part rows t 2)
+
+    pub options-none : (kindAt rows t ≡ 42 → ⊥) → optionsFrom t ≡ []
+    options-none n =
+        ap (λ (p : Part). rowsOf (p .branches)) (part-of-kind rows t (kindAt rows t) h refl)
+        ∙ kind-cases (λ (m : Node). rowsOf (partOf rows t (higherPart rows t) m .branches) ≡ []) (kindAt rows t) _ _ _ _
+        (λ e. refl) (λ e. refl) (λ e. refl) (λ e. refl) (λ e. refl) (λ e. refl) (λ e. refl) (λ e. refl) (λ e. refl) (λ e. refl)
+        (λ e. refl) (λ e. refl) (λ e. refl) (λ e. refl) (λ e. refl) (λ e. refl) (λ e. absurd (n e)) (λ e. refl) refl
+
+    -- an ALT has those from its first option on, any other row none
+    pub alt-options : kindAt rows t ≡ 34 → optionRows (actionOf (processAt (program rows) t)) ≡ optionsFrom (operandAt rows t 1)
+    alt-options e =
+        rw (process-is rows t) (ap (λ (p : Part). optionRows (actionOf (orStop (p .process)))) (part-of-kind rows t 34 h e)
+        ∙ ap (λ (p : Part). rowsOf (p .branches)) (operand-part rows t 1))
+
+    pub no-options : (kindAt rows t ≡ 34 → ⊥) → optionRows (actionOf (processAt (program rows) t)) ≡ []
+    no-options n =
+        rw (process-is rows t) (ap (λ (p : Part). optionRows (actionOf (orStop (p .process)))) (part-of-kind rows t (kindAt rows t) h refl)
+        ∙ kind-cases (λ (m : Node). optionRows (actionOf (orStop (partOf rows t (higherPart rows t) m .process))) ≡ []) (kindAt rows t) _ _ _ _
+        (λ e. refl) (λ e. refl) (λ e. refl) (λ e. refl) (λ e. refl) (λ e. refl) (λ e. refl) (λ e. refl) (λ e. refl) (λ e. refl)
+        (λ e. refl) (λ e. refl) (λ e. refl) (λ e. absurd (n e)) (λ e. refl) (λ e. refl) (λ e. refl) (λ e. refl) refl)

@@ -1,0 +1,4 @@
+pub mod Working
+pub mod Marks
+pub mod Acts
+pub mod Changes

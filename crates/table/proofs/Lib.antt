@@ -1,0 +1,9 @@
+pub mod ScanSteps
+pub mod SplitLaws
+pub mod ReadFields
+pub mod FieldLaws
+pub mod FieldSteps
+pub mod RowSteps
+pub mod Padding
+pub mod Reading
+pub mod AcceptedRows

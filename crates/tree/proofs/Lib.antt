@@ -1,0 +1,2 @@
+pub mod NotedCounts
+pub mod TreeLaws

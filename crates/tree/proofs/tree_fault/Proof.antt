@@ -1,0 +1,49 @@
+-- The counts are those of the definition, for 1,024 rows at most. Assumes nothing.
+use mathlib.Core.Path.{_≡_}
+use Rattle.tree.proofs.NotedCounts.{counted}
+use borrow.Author.Needs.{needs}
+use Rattle.tree.proofs.tree_fault.Statement.{statement}
+use Rattle.tree.proofs.tree_fault.Tie as tie
+
+kind-table-requires : tie.Need-kind-table-requires
+kind-table-requires c κs = search needs
+
+slice-aggregate-count-references : tie.Need-slice-aggregate-count-references
+slice-aggregate-count-references c = search needs
+
+slice-aggregate-count-references-2 : tie.Need-slice-aggregate-count-references-2
+slice-aggregate-count-references-2 c = search needs
+
+count-references-requires : tie.Need-count-references-requires
+count-references-requires c κs = search needs
+
+slice-aggregate-first-misplaced : tie.Need-slice-aggregate-first-misplaced
+slice-aggregate-first-misplaced c = search needs
+
+declarations-requires : tie.Need-declarations-requires
+declarations-requires c κs = search needs
+
+slice-aggregate-first-misplaced-2 : tie.Need-slice-aggregate-first-misplaced-2
+slice-aggregate-first-misplaced-2 c = search needs
+
+first-misplaced-requires : tie.Need-first-misplaced-requires
+first-misplaced-requires c κs =
+    let s = c .before .before .before .before .before .before .before .before in
+    (c .before .before .before .before .before .before .before .kind-table .ensures, (counted (s .args .rows .now) (c .before .before .before .before .count-references .last .1 .1 .0) (s .pre) (c .before .before .before .before .count-references .ensures), c .before .declarations .ensures))
+
+returns : tie.Need-returns
+returns c = rw (c .before .before .declarations .ensures) at (c .first-misplaced .ensures)
+
+pub tree-fault-spec : {M : Type 1} → statement M
+tree-fault-spec =
+    tie.close
+    (tie.spec
+    kind-table-requires
+    slice-aggregate-count-references
+    slice-aggregate-count-references-2
+    count-references-requires
+    slice-aggregate-first-misplaced
+    declarations-requires
+    slice-aggregate-first-misplaced-2
+    first-misplaced-requires
+    returns)

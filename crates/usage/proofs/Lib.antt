@@ -1,0 +1,7 @@
+pub mod MemberSteps
+pub mod Pairs
+pub mod Compared
+pub mod SmallNumbers
+pub mod SmallParts
+pub mod FirstClash
+pub mod UsageFault

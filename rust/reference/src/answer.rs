@@ -1,0 +1,145 @@
+//! The answer to a table, a sheet, a list of choices and a budget: a result or a refusal.
+
+use crate::limits::{Layout, CAPACITIES, CELLS, HOST_CHANNELS};
+use crate::program::Program;
+use crate::refusal::Refusal;
+use crate::run::{run, Outcome};
+use crate::sheet::readings_of_bytes;
+use crate::state::State;
+use crate::table::{rows_of_bytes, rows_of_numbers, Row, ROWS};
+
+/// Greatest budget.
+pub const BUDGET_LIMIT: u64 = 65_536;
+/// Least lengths of the six lent buffers: cells, marks, row states, places, output numbers, counts.
+pub const BUFFER_LENGTHS: [usize; 6] =
+    [CELLS, CELLS, ROWS, HOST_CHANNELS, CAPACITIES, HOST_CHANNELS];
+
+/// A refusal with its place, or a result.
+#[derive(Clone, Debug)]
+pub enum Answer {
+    Refused(Refusal),
+    Ran(Box<Ran>),
+}
+
+/// A result: the outcome with steps, and what the run left below the buffers' limits.
+#[derive(Clone, Debug)]
+pub struct Ran {
+    pub outcome: Outcome,
+    pub steps: u64,
+    /// Each cell's value; 0 if it is unset or not declared.
+    pub cells: [i32; CELLS],
+    /// Each cell's set mark: 1 set, 0 unset.
+    pub marks: [u8; CELLS],
+    /// Each row's state.
+    pub states: [u8; ROWS],
+    /// Each role 1 channel's place in the readings.
+    pub places: [u32; HOST_CHANNELS],
+    /// The strips, each following the one before it by capacity.
+    pub numbers: [i32; CAPACITIES],
+    /// Each role 2 channel's count.
+    pub counts: [u32; HOST_CHANNELS],
+    /// How many rows the table has.
+    pub row_count: usize,
+    /// Where each variable's cells and each channel's strip lie.
+    pub layout: Layout,
+}
+
+/// The answer to a table of bytes.
+pub fn answer_bytes(
+    table: &[u8],
+    sheet: &[u8],
+    choices: &[u16],
+    budget: u64,
+    lengths: [usize; 6],
+) -> Answer {
+    answer(|| rows_of_bytes(table), sheet, choices, budget, lengths)
+}
+
+/// The answer to rows lent as numbers, four to each.
+pub fn answer_rows(
+    rows: &[i32],
+    sheet: &[u8],
+    choices: &[u16],
+    budget: u64,
+    lengths: [usize; 6],
+) -> Answer {
+    answer(|| rows_of_numbers(rows), sheet, choices, budget, lengths)
+}
+
+/// The verdict on a table of bytes: the program, or the first of refusals 2 to 9.
+pub fn check_bytes(table: &[u8]) -> Result<Program, Refusal> {
+    Program::check(rows_of_bytes(table)?)
+}
+
+/// The verdict on rows lent as numbers: the program, or the first of refusals 3 to 9.
+pub fn check_rows(rows: &[i32]) -> Result<Program, Refusal> {
+    Program::check(rows_of_numbers(rows)?)
+}
+
+/// The first refusal in the paper's order, or the result of the run.
+fn answer(
+    read: impl FnOnce() -> Result<Vec<Row>, Refusal>,
+    sheet: &[u8],
+    choices: &[u16],
+    budget: u64,
+    lengths: [usize; 6],
+) -> Answer {
+    match result(read, sheet, choices, budget, lengths) {
+        Ok(ran) => Answer::Ran(Box::new(ran)),
+        Err(refusal) => Answer::Refused(refusal),
+    }
+}
+
+/// The stages in the order of the refusals: buffers, table, readings, budget, then the run.
+fn result(
+    read: impl FnOnce() -> Result<Vec<Row>, Refusal>,
+    sheet: &[u8],
+    choices: &[u16],
+    budget: u64,
+    lengths: [usize; 6],
+) -> Result<Ran, Refusal> {
+    if lengths
+        .iter()
+        .zip(BUFFER_LENGTHS)
+        .any(|(&lent, least)| lent < least)
+    {
+        return Err(Refusal::new(1, 0));
+    }
+    let program = Program::check(read()?)?;
+    let readings = readings_of_bytes(sheet, &program.layout.readings)?;
+    if budget > BUDGET_LIMIT {
+        return Err(Refusal::new(11, 0));
+    }
+    let (outcome, steps, state) = run(&program, &readings, choices, budget);
+    Ok(what_a_run_leaves(program, outcome, steps, &state))
+}
+
+/// What a run leaves: unset cells and unused places hold 0.
+fn what_a_run_leaves(program: Program, outcome: Outcome, steps: u64, state: &State) -> Ran {
+    let mut ran = Ran {
+        outcome,
+        steps,
+        cells: [0; CELLS],
+        marks: [0; CELLS],
+        states: [0; ROWS],
+        places: [0; HOST_CHANNELS],
+        numbers: [0; CAPACITIES],
+        counts: [0; HOST_CHANNELS],
+        row_count: program.rows.len(),
+        layout: program.layout,
+    };
+    for (index, cell) in state.cells.iter().enumerate() {
+        ran.cells[index] = cell.unwrap_or(0);
+        ran.marks[index] = u8::from(cell.is_some());
+    }
+    ran.states[..ran.row_count].copy_from_slice(&state.rows);
+    for (index, &place) in state.places.iter().enumerate() {
+        ran.places[index] = place as u32;
+    }
+    for (index, list) in state.lists.iter().enumerate() {
+        let first = ran.layout.strips[index].first;
+        ran.numbers[first..first + list.len()].copy_from_slice(list);
+        ran.counts[index] = list.len() as u32;
+    }
+    ran
+}

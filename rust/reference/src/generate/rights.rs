@@ -1,0 +1,83 @@
+//! What a part of a generated program may change, read, input from and output to.
+
+use super::random::Random;
+use crate::limits::Part;
+
+/// The cells and elements that a component may use without a clash.
+#[derive(Clone, Debug)]
+pub struct Rights {
+    pub change: Vec<bool>,
+    pub read: Vec<bool>,
+    /// The cells that are likely to be set by now.
+    pub set: Vec<bool>,
+    pub input: Vec<bool>,
+    pub output: Vec<bool>,
+}
+
+/// What the components of a PAR share in spite of the usage rules.
+#[derive(Clone, Copy, Debug, Default)]
+pub struct Share {
+    pub cells: bool,
+    pub inputs: bool,
+    pub outputs: bool,
+}
+
+impl Rights {
+    /// All rights over this many cells and elements, with no cell set.
+    pub fn all(cells: usize, elements: usize) -> Rights {
+        Rights {
+            change: vec![true; cells],
+            read: vec![true; cells],
+            set: vec![false; cells],
+            input: vec![true; elements],
+            output: vec![true; elements],
+        }
+    }
+
+    /// The rights of the components of a PAR; what is not shared is parted among them.
+    pub fn part(
+        &self,
+        count: usize,
+        variables: &[Part],
+        share: Share,
+        random: &mut Random,
+    ) -> Vec<Rights> {
+        let mut parts = vec![self.clone(); count];
+        if !share.cells {
+            for variable in variables {
+                part_cells(&mut parts, *variable, random);
+            }
+        }
+        for element in 0..self.input.len() {
+            let inputs = random.below(count);
+            let outputs = (inputs + 1 + random.below(count - 1)) % count;
+            for (number, part) in parts.iter_mut().enumerate() {
+                part.input[element] &= share.inputs || number == inputs;
+                part.output[element] &= share.outputs || number == outputs;
+            }
+        }
+        parts
+    }
+
+    /// Takes over which cells the components have set.
+    pub fn join(&mut self, parts: &[Rights]) {
+        for part in parts {
+            for (set, also) in self.set.iter_mut().zip(&part.set) {
+                *set |= also;
+            }
+        }
+    }
+}
+
+/// Parts the cells of one variable: all to one component, each to some, or only for reading.
+fn part_cells(parts: &mut [Rights], variable: Part, random: &mut Random) {
+    let whole = random.chance(50).then(|| random.below(parts.len()));
+    let only_read = random.chance(20);
+    for cell in variable.first..variable.first + variable.length {
+        let owner = whole.unwrap_or_else(|| random.below(parts.len()));
+        for (number, part) in parts.iter_mut().enumerate() {
+            part.change[cell] &= !only_read && number == owner;
+            part.read[cell] &= only_read || number == owner;
+        }
+    }
+}

@@ -1,0 +1,35 @@
+//! The separate program: an occam table checker and runner, from the papers alone.
+//!
+//! The modules read top-down like document 01: the table and its refusals, usage,
+//! values, steps, readings and results, then the run on paper.
+
+pub mod number;
+pub mod refusal;
+
+pub mod table;
+
+pub mod kinds;
+pub mod references;
+
+pub mod limits;
+pub mod usage;
+
+pub mod program;
+pub mod values;
+
+pub mod state;
+pub mod steps;
+
+pub mod run;
+pub mod sheet;
+
+pub mod answer;
+pub mod printing;
+
+pub mod explore;
+pub mod generate;
+
+pub use answer::{answer_bytes, answer_rows, check_bytes, check_rows, Answer, Ran};
+pub use answer::{BUDGET_LIMIT, BUFFER_LENGTHS};
+pub use refusal::Refusal;
+pub use run::Outcome;

@@ -1,0 +1,202 @@
+//! The sheet runner of "A run on paper", with flags for comparing programs.
+
+use reference::answer::{answer_bytes, answer_rows, check_bytes, check_rows};
+use reference::explore::explore;
+use reference::number::read_number;
+use reference::printing::{printed, split_input};
+use reference::program::Program;
+use reference::refusal::Refusal;
+use reference::{Answer, BUDGET_LIMIT, BUFFER_LENGTHS};
+use std::io::{self, Read, Write};
+use std::process::ExitCode;
+use std::str::FromStr;
+
+const HELP: &str = "\
+reference: checks and runs an occam table (document 01), from standard input
+
+Standard input is a table up to the first line `=`, then a readings sheet.
+With no flags it prints what the sheet runner of \"A run on paper\" prints.
+
+  --budget N        budget in steps (default 65536; above that is refusal 11)
+  --choices A,B,C   choices, each 0 to 65535 (default none)
+  --lengths C,M,S,P,O,K
+                    lengths of the lent buffers: cells, marks, row states, places,
+                    output numbers, counts (default 256,256,1024,8,1024,8)
+  --numbers         the table part is rows lent as numbers: whole numbers parted by
+                    commas or line feeds, no line of names, empty pieces passed over
+  --full            after the paper's lines also: cell,ROW,I,V and mark,ROW,I,0|1 of
+                    each cell; state,ROW,0,S of each row; place,CH,0,N of each role 1
+                    channel; strip,CH,I,V of each place of each role 2 channel's
+                    capacity; count,CH,0,N of each role 2 channel
+  --check           the verdict alone: accepted,0,0,0 or refused,NUMBER,PLACE,0
+                    (only the table is looked at)
+  --explore MAX     looks at all orders of steps of any length, up to MAX points (a
+                    point is a state and the steps taken to it), and prints one line:
+                      agree,ORDERS,LENGTH,OUTCOME  every order comes to rest, all after
+                            LENGTH steps, in one state; ORDERS is how many lists of steps
+                            come to rest (at most 18446744073709551615 is told)
+                      differ,LENGTH,OTHER,WHAT  two orders disagree: one rests after LENGTH
+                            steps, another rests after OTHER steps (WHAT is length) or
+                            rests after as many steps in another state (WHAT is state)
+                      open,POINTS,DEPTH,WHY  not known: MAX points were seen (WHY is limit),
+                            or some order never rests (WHY is loop: a state comes again);
+                            DEPTH is the length of the longest order seen
+                    or refused,NUMBER,PLACE,0; budget and choices play no part in it
+  --help            this text
+";
+
+/// What the command line asks for.
+struct Request {
+    budget: u64,
+    choices: Vec<u16>,
+    lengths: [usize; 6],
+    numbers: bool,
+    full: bool,
+    check: bool,
+    explore: Option<usize>,
+}
+
+fn main() -> ExitCode {
+    let arguments: Vec<String> = std::env::args().skip(1).collect();
+    if arguments.iter().any(|argument| argument == "--help") {
+        return print(HELP);
+    }
+    let text = requested(&arguments).and_then(|request| {
+        let input = read_standard_input()?;
+        respond(&request, &input)
+    });
+    match text {
+        Ok(text) => print(&text),
+        Err(message) => {
+            eprintln!("reference: {message}");
+            ExitCode::from(2)
+        }
+    }
+}
+
+/// Prints a text; fails if standard output cannot be written.
+fn print(text: &str) -> ExitCode {
+    match io::stdout().write_all(text.as_bytes()) {
+        Ok(()) => ExitCode::SUCCESS,
+        Err(_) => ExitCode::FAILURE,
+    }
+}
+
+/// All bytes of standard input.
+fn read_standard_input() -> Result<Vec<u8>, String> {
+    let mut input = Vec::new();
+    match io::stdin().read_to_end(&mut input) {
+        Ok(_) => Ok(input),
+        Err(error) => Err(format!("standard input: {error}")),
+    }
+}
+
+/// Reads the flags.
+fn requested(arguments: &[String]) -> Result<Request, String> {
+    let mut request = Request {
+        budget: BUDGET_LIMIT,
+        choices: Vec::new(),
+        lengths: BUFFER_LENGTHS,
+        numbers: false,
+        full: false,
+        check: false,
+        explore: None,
+    };
+    let mut rest = arguments.iter();
+    while let Some(flag) = rest.next() {
+        let mut operand = || {
+            rest.next()
+                .ok_or_else(|| format!("{flag} needs a value (see --help)"))
+        };
+        match flag.as_str() {
+            "--budget" => request.budget = one_number(flag, operand()?)?,
+            "--choices" => request.choices = numbers(flag, operand()?)?,
+            "--lengths" => {
+                request.lengths = numbers(flag, operand()?)?
+                    .try_into()
+                    .map_err(|_| format!("{flag} needs six numbers (see --help)"))?;
+            }
+            "--explore" => request.explore = Some(one_number(flag, operand()?)?),
+            "--numbers" => request.numbers = true,
+            "--full" => request.full = true,
+            "--check" => request.check = true,
+            _ => return Err(format!("unknown flag {flag:?} (see --help)")),
+        }
+    }
+    Ok(request)
+}
+
+/// Reads the one number of a flag.
+fn one_number<N: FromStr>(flag: &str, text: &str) -> Result<N, String> {
+    text.parse()
+        .map_err(|_| format!("{flag} needs a number in range, not {text:?} (see --help)"))
+}
+
+/// Reads the numbers of a flag, joined by commas; no text is no numbers.
+fn numbers<N: FromStr>(flag: &str, text: &str) -> Result<Vec<N>, String> {
+    let pieces = text.split(',').filter(|_| !text.is_empty());
+    pieces.map(|piece| one_number(flag, piece)).collect()
+}
+
+/// The text that answers a request on this input.
+fn respond(request: &Request, input: &[u8]) -> Result<String, String> {
+    let (table, sheet) = split_input(input);
+    if request.numbers {
+        let rows = lent_numbers(table)?;
+        let answer = || {
+            answer_rows(
+                &rows,
+                sheet,
+                &request.choices,
+                request.budget,
+                request.lengths,
+            )
+        };
+        Ok(respond_with(request, sheet, || check_rows(&rows), answer))
+    } else {
+        let answer = || {
+            answer_bytes(
+                table,
+                sheet,
+                &request.choices,
+                request.budget,
+                request.lengths,
+            )
+        };
+        Ok(respond_with(request, sheet, || check_bytes(table), answer))
+    }
+}
+
+/// The text of the verdict, of all orders, or of the answer.
+fn respond_with(
+    request: &Request,
+    sheet: &[u8],
+    check: impl FnOnce() -> Result<Program, Refusal>,
+    answer: impl FnOnce() -> Answer,
+) -> String {
+    if request.check {
+        return match check() {
+            Ok(_) => "accepted,0,0,0\n".to_string(),
+            Err(refusal) => format!("{refusal}\n"),
+        };
+    }
+    if let Some(most_points) = request.explore {
+        return match check().and_then(|program| explore(&program, sheet, most_points)) {
+            Ok(finding) => format!("{finding}\n"),
+            Err(refusal) => format!("{refusal}\n"),
+        };
+    }
+    printed(&answer(), request.full)
+}
+
+/// Rows lent as numbers: whole numbers parted by commas or line feeds.
+fn lent_numbers(table: &[u8]) -> Result<Vec<i32>, String> {
+    let pieces = table.split(|byte| matches!(byte, b',' | b'\n'));
+    let numbers = pieces.filter(|piece| !piece.is_empty());
+    numbers
+        .map(|piece| {
+            let text = String::from_utf8_lossy(piece);
+            read_number(piece).ok_or_else(|| format!("--numbers: {text:?} is no whole number"))
+        })
+        .collect()
+}

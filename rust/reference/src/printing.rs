@@ -1,0 +1,111 @@
+//! The sheet runner's input and printing: "A run on paper".
+
+use crate::answer::{Answer, Ran};
+use crate::state::STOPPED;
+use std::fmt::{Result, Write};
+
+/// The line of names above a result.
+const NAMES_LINE: &str = "what,name,at,value";
+
+/// The table up to the first line `=`, and the readings after it; without that line no readings.
+pub fn split_input(input: &[u8]) -> (&[u8], &[u8]) {
+    let mut start = 0;
+    for line in input.split_inclusive(|&byte| byte == b'\n') {
+        if line == b"=\n" {
+            return (&input[..start], &input[start + line.len()..]);
+        }
+        start += line.len();
+    }
+    (input, &[])
+}
+
+/// The sheet runner's lines for an answer; with `full`, also all that the buffers hold.
+pub fn printed(answer: &Answer, full: bool) -> String {
+    let mut text = String::new();
+    let written = match answer {
+        Answer::Refused(refusal) => writeln!(text, "{refusal}"),
+        Answer::Ran(ran) => print_result(&mut text, ran, full),
+    };
+    debug_assert!(written.is_ok());
+    text
+}
+
+/// Prints a result: names, outcome and steps, cells, host outputs, stopped rows.
+fn print_result(text: &mut String, ran: &Ran, full: bool) -> Result {
+    writeln!(text, "{NAMES_LINE}")?;
+    writeln!(text, "{},0,0,{}", ran.outcome.word(), ran.steps)?;
+    print_cells(text, ran)?;
+    print_outputs(text, ran)?;
+    print_stops(text, ran)?;
+    if full {
+        print_buffers(text, ran)?;
+    }
+    Ok(())
+}
+
+/// Prints each cell: variable, cell number, value or empty.
+fn print_cells(text: &mut String, ran: &Ran) -> Result {
+    for (row, number, cell) in cells(ran) {
+        match ran.marks[cell] {
+            0 => writeln!(text, "var,{row},{number},")?,
+            _ => writeln!(text, "var,{row},{number},{}", ran.cells[cell])?,
+        }
+    }
+    Ok(())
+}
+
+/// Prints each host output: channel, position, value.
+fn print_outputs(text: &mut String, ran: &Ran) -> Result {
+    for (strip, &count) in ran.layout.strips.iter().zip(&ran.counts) {
+        for position in 0..count as usize {
+            let value = ran.numbers[strip.first + position];
+            writeln!(text, "out,{},{position},{value}", strip.row)?;
+        }
+    }
+    Ok(())
+}
+
+/// Prints each stopped row with its reason.
+fn print_stops(text: &mut String, ran: &Ran) -> Result {
+    for (row, &state) in ran.states.iter().enumerate() {
+        if state > STOPPED {
+            writeln!(text, "stop,{row},0,{}", state - STOPPED)?;
+        }
+    }
+    Ok(())
+}
+
+/// Prints all that the buffers hold: cells, marks, row states, places, strips and counts.
+fn print_buffers(text: &mut String, ran: &Ran) -> Result {
+    for (row, number, cell) in cells(ran) {
+        writeln!(text, "cell,{row},{number},{}", ran.cells[cell])?;
+    }
+    for (row, number, cell) in cells(ran) {
+        writeln!(text, "mark,{row},{number},{}", ran.marks[cell])?;
+    }
+    for (row, state) in ran.states[..ran.row_count].iter().enumerate() {
+        writeln!(text, "state,{row},0,{state}")?;
+    }
+    for (row, place) in ran.layout.readings.iter().zip(&ran.places) {
+        writeln!(text, "place,{row},0,{place}")?;
+    }
+    for strip in &ran.layout.strips {
+        for position in 0..strip.length {
+            let value = ran.numbers[strip.first + position];
+            writeln!(text, "strip,{},{position},{value}", strip.row)?;
+        }
+    }
+    for (strip, count) in ran.layout.strips.iter().zip(&ran.counts) {
+        writeln!(text, "count,{},0,{count}", strip.row)?;
+    }
+    Ok(())
+}
+
+/// Each declared cell: its variable's row, its number of that name, and its place in the store.
+fn cells(ran: &Ran) -> impl Iterator<Item = (usize, usize, usize)> + '_ {
+    let of_variable = |part: &crate::limits::Part| {
+        let part = *part;
+        (0..part.length).map(move |number| (part.row, number, part.first + number))
+    };
+    ran.layout.variables.iter().flat_map(of_variable)
+}

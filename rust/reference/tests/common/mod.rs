@@ -1,0 +1,79 @@
+//! Small tables written as rows with spaces between them.
+#![allow(dead_code)]
+
+use reference::printing::printed;
+use reference::{answer_bytes, answer_rows, Answer, Ran, BUDGET_LIMIT, BUFFER_LENGTHS};
+
+/// The bytes of a table of these rows.
+pub fn table(rows: &str) -> Vec<u8> {
+    let lines: Vec<&str> = std::iter::once("kind,a,b,c")
+        .chain(rows.split_whitespace())
+        .collect();
+    (lines.join("\n") + "\n").into_bytes()
+}
+
+/// What the sheet runner prints for these rows and this sheet.
+pub fn print(rows: &str, sheet: &str) -> String {
+    print_bytes(&table(rows), sheet.as_bytes())
+}
+
+/// What the sheet runner prints for this table and sheet.
+pub fn print_bytes(table: &[u8], sheet: &[u8]) -> String {
+    let answer = answer_bytes(table, sheet, &[], BUDGET_LIMIT, BUFFER_LENGTHS);
+    printed(&answer, false)
+}
+
+/// The number and place of a refusal, or (0, 0).
+pub fn refusal_of(answer: &Answer) -> (u8, u32) {
+    match answer {
+        Answer::Refused(refusal) => (refusal.number, refusal.place),
+        Answer::Ran(_) => (0, 0),
+    }
+}
+
+/// The refusal of these rows beside a sheet of one empty line.
+pub fn refused(rows: &str) -> (u8, u32) {
+    refused_bytes(&table(rows), b"\n")
+}
+
+/// The refusal of this table and sheet.
+pub fn refused_bytes(table: &[u8], sheet: &[u8]) -> (u8, u32) {
+    refusal_of(&answer_bytes(
+        table,
+        sheet,
+        &[],
+        BUDGET_LIMIT,
+        BUFFER_LENGTHS,
+    ))
+}
+
+/// The refusal of rows lent as numbers.
+pub fn refused_numbers(numbers: &[i32]) -> (u8, u32) {
+    refusal_of(&answer_rows(
+        numbers,
+        b"\n",
+        &[],
+        BUDGET_LIMIT,
+        BUFFER_LENGTHS,
+    ))
+}
+
+/// The result of these rows with a sheet, choices and a budget.
+pub fn ran(rows: &str, sheet: &str, choices: &[u16], budget: u64) -> Box<Ran> {
+    match answer_bytes(
+        &table(rows),
+        sheet.as_bytes(),
+        choices,
+        budget,
+        BUFFER_LENGTHS,
+    ) {
+        Answer::Ran(ran) => ran,
+        Answer::Refused(refusal) => panic!("{refusal} for {rows}"),
+    }
+}
+
+/// Outcome and steps of these rows without readings, choices and with the runner's budget.
+pub fn outcome(rows: &str) -> (&'static str, u64) {
+    let ran = ran(rows, "\n", &[], BUDGET_LIMIT);
+    (ran.outcome.word(), ran.steps)
+}
