@@ -24,7 +24,7 @@ use Rattle.agreement.specs.Statements.{NoAlt, OneRest, CallsAnswer, Dema
 use Rattle.agreement.proofs.TableFit.{fit}
 use Rattle.agreement.proofs.OneRest.{agreement}
 
-buffers-suffice : (b : Buffers) → tooShort b ≡ false → bufferFault b ≡ none
+pub buffers-suffice : (b : Buffers) → tooShort b ≡ false → bufferFault b ≡ none
 unfolding bufferFault
 buffers-suffice b e = rw e
 
@@ -49,7 +49,7 @@ module _ (rows : List ℤ) (sheet : List ℕ) (accepted : check rows ≡ none) (
   unfolding result firstFault
   runs choices budget h = rw (accepted, read, budget-allowed budget h)
 
-  replies : (choices : List ℕ) (budget : ℕ) (b : Buffers) → tooShort b ≡ false → budget ≤ maxBudget
+  pub replies : (choices : List ℕ) (budget : ℕ) (b : Buffers) → tooShort b ≡ false → budget ≤ maxBudget
       → reply (task choices budget) b ≡ replyOf rows b (ran (ending choices budget))
   unfolding reply
   replies choices budget b e h = rw (buffers-suffice b e, runs choices budget h)

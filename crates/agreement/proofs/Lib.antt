@@ -74,4 +74,5 @@ pub mod DataKept
 pub mod OrdersSettle
 pub mod OrdersCoherent
 pub mod Answered
+pub mod Calls
 pub mod Claims

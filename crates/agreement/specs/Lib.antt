@@ -4,3 +4,4 @@ pub mod NotEmptyClaims
 pub mod SettlingClaims
 pub mod VerdictClaims
 pub mod Coherence
+pub mod CallClaims

@@ -1,0 +1,165 @@
+-- The demands about calls: what an answer of the public entries' definitions `reply` and `replyToBytes` tells.
+use mathlib.Core.Path.{_≡_, refl, sym, ap, subst, _∙_}
+use mathlib.Core.Bool.{Bool, true, false}
+use mathlib.Core.Logic.{_≢_, _↔_}
+use mathlib.Core.Option.{Option, none, some}
+use mathlib.Core.List.{List}
+use Prim.Native.Nat.{ℕ, _<_, _≤_}
+use native.Mathlib.Omega.{arith}
+use lib.IntN.{ℤ, pos}
+use lib.ListN.{length, getD}
+use lib.Dec.{ltb}
+use borrow.Author.Tests.{ltb-false}
+use Rattle.meaning.specs.declared.Outcome.{Outcome}
+use Rattle.meaning.specs.declared.Answer.{Answer}
+use Rattle.meaning.specs.declared.Answer.the-variants.{Refused, Ran}
+use Rattle.meaning.specs.Basics.{ifElse}
+use Rattle.meaning.specs.Limits.{maxBudget, maxCells}
+use Rattle.meaning.specs.TableBytes.{Refusal, bytesFault, rowsOf}
+use Rattle.meaning.specs.State.{Message, State}
+use Rattle.meaning.specs.Ready.{Label}
+use Rattle.meaning.specs.Run as R
+use Rattle.meaning.specs.Run.{run}
+use Rattle.meaning.specs.Sheet.{sheetFault, readings}
+use Rattle.meaning.specs.Buffers.{Buffers, tooShort, mark, numberIn, encode}
+use Rattle.meaning.specs.Answers.{Task, Result, refused, ran, either, unless, firstFault, stages, check, budgetFault, bufferFault, result, resultOfBytes, Reply, replyOf, reply, replyToBytes}
+use Rattle.meaning.specs.declared.Outcome.the-variants.{Spent}
+use Rattle.meaning.specs.Order.{OrderOf, RestOf}
+use Rattle.agreement.specs.Statements.{StepOf}
+use Rattle.agreement.specs.CallClaims.{RefusedUntouched, BytesAsRows, RanAs, RunAnswered, OrderAnswered, HandedTo, MissingAnswered}
+use Rattle.agreement.specs.MissingClaims.{cellOf}
+use Rattle.agreement.proofs.Answered.{replies, buffers-suffice}
+use Rattle.agreement.proofs.Demands.{run-takes-order, every-order-chosen}
+use Rattle.agreement.proofs.MissingMarks.{encoded-cells}
+use Rattle.agreement.proofs.MissingSteps.{set-in-order}
+
+-- a refused result leaves the buffers
+refused-leaves : (rows : List ℤ) (b : Buffers) (r : Result) (number place : ℕ) → replyOf rows b r .answer ≡ Refused number place → replyOf rows b r .buffers ≡ b
+refused-leaves rows b (refused f) number place e = refl
+refused-leaves rows b (ran r) number place e = let z : _≡_ {A = ℕ} 0 1 = cc in absurd (omega arith)
+
+pub refused-untouched : RefusedUntouched
+unfolding reply
+refused-untouched t b number place e = refused-leaves (t .rows) b (unless (bufferFault b) (result t)) number place e
+
+pub bytes-as-rows : BytesAsRows
+unfolding replyToBytes resultOfBytes reply
+bytes-as-rows table sheet choices budget b = (λ e. rw e, λ f long e. rw (buffers-suffice b long, e))
+
+-- a result that ran comes from no refusal
+ran-unrefused : (f : Option Refusal) (r : Result) (q : R.Result) → unless f r ≡ ran q → (f ≡ none) × (r ≡ ran q)
+ran-unrefused none r q e = (refl, e)
+ran-unrefused (some f) r q e = let z : _≡_ {A = ℕ} 0 1 = cc in absurd (omega arith)
+
+-- an answer of a run is that of a result that ran
+ran-answer : (rows : List ℤ) (b : Buffers) (r : Result) (o : Outcome) (n : ℕ) → replyOf rows b r .answer ≡ Ran o n → (q : R.Result) × (r ≡ ran q) × (q .outcome ≡ o) × (q .steps ≡ n)
+ran-answer rows b (refused f) o n e = let z : _≡_ {A = ℕ} 0 1 = cc in absurd (omega arith)
+ran-answer rows b (ran q) o n e = (q, refl, cc, cc)
+
+ran-parts : (p q : Outcome) (m n : ℕ) → Ran p m ≡ Ran q n → (p ≡ q) × (m ≡ n)
+ran-parts p q m n e = (cc, cc)
+
+-- no stage refuses where the first of three finds none
+none-of-three : (a b c : Option Refusal) → either a (either b (either c none)) ≡ none → (a ≡ none) × (b ≡ none) × (c ≡ none)
+none-of-three none none none e = (refl, refl, refl)
+none-of-three none none (some f) e = let z : _≡_ {A = ℕ} 0 1 = cc in absurd (omega arith)
+none-of-three none (some f) c e = let z : _≡_ {A = ℕ} 0 1 = cc in absurd (omega arith)
+none-of-three (some f) b c e = let z : _≡_ {A = ℕ} 0 1 = cc in absurd (omega arith)
+
+long-enough : (b : Buffers) → bufferFault b ≡ none → tooShort b ≡ false
+unfolding bufferFault
+long-enough b e = go (tooShort b) e
+  where
+    go : (t : Bool) → ifElse {A = Option Refusal} t (some (1, 0)) none ≡ none → t ≡ false
+    go true e = let z : _≡_ {A = ℕ} 0 1 = cc in absurd (omega arith)
+    go false e = refl
+
+within-limit : (budget : ℕ) → budgetFault maxBudget budget ≡ none → budget ≤ maxBudget
+unfolding budgetFault
+within-limit budget e = go (ltb maxBudget budget) refl e
+  where
+    go : (t : Bool) → ltb maxBudget budget ≡ t → ifElse {A = Option Refusal} t (some (11, 0)) none ≡ none → budget ≤ maxBudget
+    go true p e = let z : _≡_ {A = ℕ} 0 1 = cc in absurd (omega arith)
+    go false p e = let h = ltb-false maxBudget budget p in omega arith
+
+-- a call that ran: nothing refused it
+pub record Unrefused (t : Task) (b : Buffers) : Type 0 where
+  pub long : tooShort b ≡ false
+  pub accepted : check (t .rows) ≡ none
+  pub read : sheetFault (t .rows) (t .sheet) ≡ none
+  pub allowed : t .budget ≤ maxBudget
+
+ran-call : (t : Task) (b : Buffers) (o : Outcome) (n : ℕ) → reply t b .answer ≡ Ran o n
+    → let q = run (t .rows) (readings (t .rows) (t .sheet)) (t .choices) (t .budget) in
+    Unrefused t b × (q .outcome ≡ o) × (q .steps ≡ n) × (reply t b .buffers ≡ encode (t .rows) (q .state) b)
+unfolding reply result firstFault
+ran-call t b o n e =
+    let (q, p, _, _) = ran-answer (t .rows) b (unless (bufferFault b) (result t)) o n e in
+    let (f, r) = ran-unrefused (bufferFault b) (result t) q p in
+    let (g, _) = ran-unrefused (firstFault stages t) (ran (run (t .rows) (readings (t .rows) (t .sheet)) (t .choices) (t .budget))) q r in
+    let (x, y, z) = none-of-three (check (t .rows)) (sheetFault (t .rows) (t .sheet)) (budgetFault maxBudget (t .budget)) g in
+    let u : Unrefused t b = record { long = long-enough b f; accepted = x; read = y; allowed = within-limit (t .budget) z } in
+    let w = replies (t .rows) (t .sheet) x y (t .choices) (t .budget) b (u .long) (u .allowed) in
+    let q = run (t .rows) (readings (t .rows) (t .sheet)) (t .choices) (t .budget) in
+    let (outcome, steps) = ran-parts (q .outcome) o (q .steps) n (ap (λ (z : Reply). z .answer) (sym w) ∙ e) in
+    (u, outcome, steps, ap (λ (z : Reply). z .buffers) w)
+
+pub run-answered : RunAnswered
+run-answered t b o n e =
+    let (u, outcome, steps, left) = ran-call t b o n e in
+    let sheet = readings (t .rows) (t .sheet) in
+    let q = run (t .rows) sheet (t .choices) (t .budget) in
+    let (l, order, picked, long, within, rest, ended, spent) = run-takes-order (t .rows) sheet (t .choices) (t .budget) in
+    record {
+      buffers-long = u .long;
+      table-accepted = u .accepted;
+      sheet-accepted = u .read;
+      budget-allowed = u .allowed;
+      labels = l;
+      end = q .state;
+      order = order;
+      chosen = picked;
+      steps-taken = long ∙ steps;
+      steps-within = subst (λ (k : ℕ). k ≤ t .budget) steps within;
+      left = left;
+      rest-exactly = subst (λ (k : Outcome). (k ≢ Spent) ↔ RestOf (t .rows) sheet (q .state)) outcome rest;
+      rest-outcome = λ r. sym outcome ∙ ended r;
+      spent-exactly =
+          subst (λ (k : Outcome). (k ≡ Spent) ↔ ((n ≡ t .budget) × ((x : Label) × ((s : State) × StepOf (t .rows) sheet (q .state) x s)))) outcome
+          (subst (λ (k : ℕ). (q .outcome ≡ Spent) ↔ ((k ≡ t .budget) × ((x : Label) × ((s : State) × StepOf (t .rows) sheet (q .state) x s)))) steps spent);
+    }
+
+pub order-answered : OrderAnswered
+order-answered rows sheet accepted read l s o few b long =
+    let (choices, small, _, end, steps) = every-order-chosen rows (readings rows sheet) (accepted, (sheet, (read, refl))) l s o in
+    let q = run rows (readings rows sheet) choices (length l) in
+    let w = replies rows sheet accepted read choices (length l) b long few in
+    (choices, small, (q .outcome, w ∙ rw (end, steps)))
+
+-- a cell by its mark and number
+set-or-not : (c : Message) → (mark c ≢ 0 → (mark c ≡ 1) × (c ≡ some (numberIn c))) × (mark c ≡ 0 → numberIn c ≡ pos 0)
+set-or-not none = (λ h. absurd (h refl), λ e. refl)
+set-or-not (some z) = (λ h. (refl, refl), λ e. absurd (omega arith))
+
+pub missing-answered : MissingAnswered
+missing-answered t b o n e =
+    let a = run-answered t b o n e in
+    (a .labels, (a .end, a .order, a .steps-taken, cell a))
+  where
+    cell : (a : RanAs t b o n) (i : ℕ) → i < maxCells
+        → let m = getD (reply t b .buffers .marks) i 0 in
+        let z = getD (reply t b .buffers .cells) i (pos 0) in
+        (m ≢ 0 → (m ≡ 1) × HandedTo (t .rows) (t .sheet) (a .labels) i z) × (m ≡ 0 → z ≡ pos 0)
+    cell a i h =
+        let (m, z) = encoded-cells (t .rows) (a .end) b i h in
+        let p : getD (reply t b .buffers .marks) i 0 ≡ mark (cellOf (a .end) i) = ap (λ (x : Buffers). getD (x .marks) i 0) (a .left) ∙ m in
+        let q : getD (reply t b .buffers .cells) i (pos 0) ≡ numberIn (cellOf (a .end) i) = ap (λ (x : Buffers). getD (x .cells) i (pos 0)) (a .left) ∙ z in
+        let (set, unset) = set-or-not (cellOf (a .end) i) in (
+          λ k. let (one, number) = set (λ y. k (p ∙ y)) in (p ∙ one, subst (HandedTo (t .rows) (t .sheet) (a .labels) i) (sym q) (handed a i _ number)),
+          λ k. q ∙ unset (sym p ∙ k),
+        )
+      where
+        handed : (a : RanAs t b o n) (i : ℕ) (z : ℤ) → cellOf (a .end) i ≡ some z → HandedTo (t .rows) (t .sheet) (a .labels) i z
+        handed a i z c =
+            let (before, (x, (later, (u, (parts, order, handed))))) = set-in-order (t .rows) (readings (t .rows) (t .sheet)) (a .labels) (a .end) (a .order) i z c in
+            record { before = before; label = x; later = later; at = u; parts = parts; order = order; handed = handed }
