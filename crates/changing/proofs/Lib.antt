@@ -1,0 +1,4 @@
+pub mod ChangesMade
+pub mod Reasons
+pub mod StripStarts
+pub mod StepChanges

@@ -1,0 +1,2 @@
+pub mod ArraysPut
+pub mod Chosen
