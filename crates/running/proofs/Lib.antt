@@ -1,0 +1,5 @@
+pub mod Starting
+pub mod Outcomes
+pub mod Going
+pub mod Stages
+pub mod Underway

@@ -1,0 +1,36 @@
+-- What a run leaves: the outcome, the length of its order, and the arrays that hold its last state.
+use mathlib.Core.Path.{_≡_}
+use mathlib.Core.List.{List}
+use Prim.Native.Nat.{ℕ}
+use lib.IntN.{ℤ}
+use lib.ListN.{getD, take}
+use lib.Dec.{eqb}
+use Rattle.meaning.specs.declared.Outcome.{Outcome}
+use Rattle.meaning.specs.declared.Outcome.the-variants.{Ended, Stuck, Broken}
+use Rattle.meaning.specs.Basics.{ifElse}
+use Rattle.meaning.specs.Settle.{anyOf}
+use Rattle.meaning.specs.Run as meaning
+use Rattle.meaning.specs.Run.{isStopped}
+use Rattle.meaning.specs.Buffers.{Buffers, encode}
+use Rattle.machine.specs.Held.{blank}
+use Rattle.running.specs.declared.result.Run.{Run}
+
+-- the outcome at rest of n rows, by their states
+abbrev pub restOutcome : ℕ → ℕ → List ℕ → Outcome
+restOutcome root n states = ifElse (eqb (getD states root 0) 2) Ended (ifElse (anyOf isStopped (take n states)) Broken Stuck)
+
+-- an outcome, a number of steps and arrays are those of a result
+pub record Reached (rows : List ℤ) (q : meaning.Result) (o : Outcome) (n : ℕ) (b : Buffers) : Type 0 where
+  pub outcome : o ≡ q .outcome
+  pub steps : n ≡ q .steps
+  pub arrays : b ≡ encode rows (q .state) blank
+
+-- the arrays of a run
+abbrev pub arraysIn : Run → Buffers
+arraysIn r = record { cells = r .values; marks = r .marks; states = r .states; places = r .places; numbers = r .numbers; counts = r .counts }
+
+-- a run has the outcome, the steps and the state of a result
+pub record RunHeld (rows : List ℤ) (q : meaning.Result) (r : Run) : Type 0 where
+  pub outcome : r .outcome ≡ q .outcome
+  pub steps : r .steps ≡ q .steps
+  pub arrays : arraysIn r ≡ encode rows (q .state) blank

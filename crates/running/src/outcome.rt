@@ -1,0 +1,37 @@
+// The outcome at rest: ended if the root has ended, broken if a row is stopped, else stuck.
+ghost use mathlib.Core.Path.{_≡_};
+ghost use Prim.Native.Nat.{_≤_};
+ghost use lib.ListN.{length, take};
+ghost use Rattle.meaning.specs.Settle.{anyOf};
+ghost use Rattle.meaning.specs.Run.{isStopped};
+ghost use Rattle.running.specs.Ran.{restOutcome};
+use meaning::Outcome;
+
+// Whether one of the first n rows is stopped.
+fn any_stopped(states: &[u8], n: usize) -> bool
+    requires { ⌜ n ≤ length (now states) ⌝ }
+    ensures { λ t. ⌜ t ≡ anyOf isStopped (take n (now (states .entry))) ⌝ }
+{
+    let mut r = 0;
+    while r < n {
+        if 10 <= states[r] {
+            return true;
+        }
+        r += 1;
+    }
+    false
+}
+
+// The outcome at rest of a table of n rows.
+pub fn rest_outcome(states: &[u8], root: usize, n: usize) -> Outcome
+    requires { ⌜ n ≤ length (now states) ⌝ }
+    ensures { λ o. ⌜ o ≡ restOutcome root n (now (states .entry)) ⌝ }
+{
+    if settling::states::state_at(states, root) == 2 {
+        return Outcome::Ended;
+    }
+    if any_stopped(states, n) {
+        return Outcome::Broken;
+    }
+    Outcome::Stuck
+}

@@ -1,0 +1,121 @@
+// The steps of a run, one after another, up to rest or the budget.
+ghost use mathlib.Core.Path.{_≡_};
+ghost use mathlib.Core.Option.{none};
+ghost use Prim.Native.Nat.{_≤_};
+ghost use lib.ListN.{getD};
+ghost use Rattle.meaning.specs.Rows as table;
+ghost use Rattle.meaning.specs.State.{program, start};
+ghost use Rattle.meaning.specs.Intent.{Sheet};
+ghost use Rattle.meaning.specs.Run.{run};
+ghost use Rattle.meaning.specs.Answers.{check};
+ghost use Rattle.layout.specs.Names.{Named};
+ghost use Rattle.offers.specs.Held.{KeptReadings};
+ghost use Rattle.machine.specs.Held.{Holds};
+ghost use Rattle.taking.specs.Stands.{arraysOf, Owned};
+ghost use Rattle.running.specs.Stages.{stageOf};
+ghost use Rattle.running.specs.Ran.{Reached};
+use crate::outcome::rest_outcome;
+use meaning::Outcome;
+use taking::State;
+use turns::take_turn;
+
+// How a run ends: its outcome, the length of its order, and its last state.
+pub struct Done {
+    pub outcome: Outcome,
+    pub steps: u32,
+    pub state: State,
+}
+
+// The choice for a step after n steps; 0 when the list is used up.
+fn choice_at(choices: &[u16], n: u32) -> u16
+    ensures { λ c. ⌜ c ≡ getD (now (choices .entry)) n 0 ⌝ }
+{
+    let i = n as usize;
+    if i < choices.len() { choices[i] } else { 0 }
+}
+
+// What a run comes to after n steps: rest if no step is ready, else its budget if that is used, else a further step.
+enum Stage {
+    AtRest,
+    Spent,
+    Further,
+}
+
+// The stage of a run after n steps, with `count` steps ready.
+fn stage_of(count: usize, n: u32, budget: u32) -> Stage
+    ensures { λ s. ⌜ s ≡ stageOf count n budget ⌝ }
+{
+    if count == 0 {
+        return Stage::AtRest;
+    }
+    if n == budget {
+        return Stage::Spent;
+    }
+    Stage::Further
+}
+
+// From the start, the steps that the choices pick, up to rest or the budget.
+pub fn take_steps<'a>(
+    rows: &'a [i32],
+    names: &'a [u16],
+    readings: &'a [i32],
+    given: &'a [u8],
+    lines: usize,
+    owners: &'a [u16],
+    root: usize,
+    choices: &[u16],
+    budget: u32,
+    first: State,
+    states: &mut [u8],
+    numbers: &mut [i32],
+    counts: &mut [u32],
+) -> Done
+    requires accepted { ⌜ check (now rows) ≡ none ⌝ }
+    requires rooted { ⌜ root ≡ table.root (now rows) ⌝ }
+    requires named { ⌜ Named (now rows) (now names) ⌝ }
+    requires owned { ⌜ Owned (now rows) (now owners) ⌝ }
+    requires kept { ⌜ ((sheet : Sheet) × KeptReadings (now rows) sheet (now readings) (now given) lines) ⌝ }
+    requires few { ⌜ lines ≤ 128 ⌝ }
+    requires started { ⌜ Holds (now rows) (start (program (now rows))) (arraysOf first (now states) (now numbers) (now counts)) ⌝ }
+    ensures { λ d. ⌜ ((sheet : Sheet) → KeptReadings (now (rows .entry)) sheet (now (readings .entry)) (now (given .entry)) lines → Reached (now (rows .entry)) (run (now (rows .entry)) sheet (now (choices .entry)) budget) (d .outcome) (d .steps) (arraysOf (d .state) (now (states .exit)) (now (numbers .exit)) (now (counts .exit)))) ⌝ }
+{
+    let mut state = first;
+    let mut n: u32 = 0;
+    loop {
+        let turn = take_turn(
+            rows,
+            names,
+            readings,
+            given,
+            lines,
+            owners,
+            root,
+            choice_at(choices, n),
+            n < budget,
+            state,
+            states,
+            numbers,
+            counts,
+        );
+        state = turn.state;
+        let stage = stage_of(turn.count, n, budget);
+        match stage {
+            Stage::AtRest => {
+                return Done {
+                    outcome: rest_outcome(&states[..], root, rows.len() / 4),
+                    steps: n,
+                    state,
+                };
+            }
+            Stage::Spent => {
+                return Done {
+                    outcome: Outcome::Spent,
+                    steps: n,
+                    state,
+                };
+            }
+            Stage::Further => {}
+        }
+        n += 1;
+    }
+}
