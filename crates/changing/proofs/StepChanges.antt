@@ -37,7 +37,7 @@ use Rattle.machine.proofs.StepEffects.{own-effect, pass-effect, take-effect, ta
 use Rattle.machine.proofs.MachineSteps.{writes-in, row-step-held}
 use Rattle.machine.proofs.RowReady.{waiting-outputs, alt-is}
 use Rattle.machine.proofs.RowKinds.{option-kind, no-process, no-own-step}
-use Rattle.stepping.specs.Marks.{rowNote}
+use Rattle.notes.specs.Marks.{rowNote}
 use Rattle.stepping.specs.Acts.{workingDoes, Noted}
 use Rattle.stepping.proofs.StepsNoted.{store-held, intent-noted, none-waits, waiting-is, offer-noted}
 use Rattle.changing.specs.declared.Data.{Data}

@@ -19,7 +19,7 @@ use Rattle.intents.specs.declared.Does.{Does}
 use Rattle.intents.specs.declared.Does.the-variants.{Waits, Stops, Assigns, Ends, Starts, Reads, Writes, InputsFrom, OutputsTo, Selects}
 use Rattle.machine.specs.Held.{stripStart, putCell, putPlace, putState, putOutput, putSettled}
 use Rattle.stepping.specs.Acts.{workingDoes}
-use Rattle.stepping.specs.Changes.{endNoted}
+use Rattle.notes.specs.Changes.{endNoted}
 use Rattle.changing.specs.declared.Data.{Data}
 use Rattle.changing.specs.declared.Data.the-variants.{Nothing, Cell, Reading, Output}
 use Rattle.changing.specs.declared.Change.{Change}

@@ -32,7 +32,7 @@ pub fn run<'a>(
     let layout = layout::layout_of(rows);
     let root = rows::declarations(rows);
     let mut owners = [0u16; 1024];
-    stepping::owners::note_owners(rows, &mut owners);
+    notes::owners::note_owners(rows, &mut owners);
     let values = [0i32; 256];
     let marks = [0u8; 256];
     let places = [0u32; 8];

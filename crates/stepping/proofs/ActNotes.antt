@@ -10,12 +10,12 @@ use lib.Seq.{getD-set-same, getD-set-other}
 use lib.Dec.{eqb}
 use borrow.Author.Tests.{eqb-true, eqb-false, eq-eqb, ne-eqb}
 use Rattle.meaning.specs.Basics.{ifElse, any, among, lowest}
-use Rattle.stepping.specs.Marks.{rowNote, firstNote, noteAt}
+use Rattle.notes.specs.Marks.{rowNote, firstNote, noteAt}
 use Rattle.meaning.specs.Intent.{Sheet}
 use Rattle.intents.specs.declared.Does.{Does}
 use Rattle.stepping.specs.Acts.{actCode, sentCode, noteSender, workingDoes, Noted}
-use Rattle.stepping.proofs.Below.{lowest-none, lowest-next}
-use Rattle.stepping.proofs.Noting.{noted-none, note-given, note-length}
+use Rattle.notes.proofs.Below.{lowest-none, lowest-next}
+use Rattle.notes.proofs.Noting.{noted-none, note-given, note-length}
 
 -- a number for each row
 pub acts-next : (f : ℕ → ℕ) (acts : List ℕ) (r : ℕ) → r < length acts → ((j : ℕ) → j < r → getD acts j 0 ≡ f j) → (x : ℕ) → x ≡ f r → (j : ℕ) → j < r + 1 → getD (set acts r x) j 0 ≡ f j

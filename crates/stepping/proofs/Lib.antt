@@ -1,8 +1,3 @@
-pub mod Below
-pub mod OptionLinks
-pub mod WorkingRows
-pub mod Noting
-pub mod OwnerNotes
 pub mod ActNotes
 pub mod OutputElements
 pub mod OptionOffers

@@ -21,9 +21,9 @@ use Rattle.meaning.specs.Answers.{check}
 use Rattle.machine.specs.RowSteps.{altOf, stepAt, stepRows}
 use Rattle.machine.specs.Held.{Holds}
 use Rattle.machine.proofs.RowTables.{ready-count}
-use Rattle.stepping.specs.Marks.{marked, rowNote, Marked}
+use Rattle.notes.specs.Marks.{marked, rowNote, Marked}
 use Rattle.stepping.specs.Acts.{Noted, hasStep}
-use Rattle.stepping.proofs.Below.{none-below, count-passed, count-failed, below-next}
+use Rattle.notes.proofs.Below.{none-below, count-passed, count-failed, below-next}
 use Rattle.stepping.proofs.StepsNoted.{has-step-is}
 
 module _ (step : ℕ → Bool) where

@@ -47,9 +47,9 @@ use Rattle.machine.proofs.LiveRows.{intent-by-members}
 use Rattle.machine.proofs.RowReady.{waiting-outputs, alt-is}
 use Rattle.machine.proofs.RowKinds.{option-kind, no-process, no-own-step}
 use Rattle.machine.proofs.RowTables.{states-length}
-use Rattle.stepping.specs.Marks.{rowNote}
+use Rattle.notes.specs.Marks.{rowNote}
 use Rattle.stepping.specs.Acts.{inputCode, actCode, offerCode, sentCode, readyBy, workingDoes, waitsAt, Noted, hasStep}
-use Rattle.stepping.proofs.OptionLinks.{isOptionOf, alt-lowest}
+use Rattle.notes.proofs.OptionLinks.{isOptionOf, alt-lowest}
 use Rattle.stepping.proofs.OptionOffers.{OfRows, options-known, rows-of-options, AllOf, offer-of-row}
 use Rattle.stepping.proofs.OutputElements.{output-below}
 

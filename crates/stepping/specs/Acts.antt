@@ -20,7 +20,7 @@ use Rattle.offers.specs.Offers.{guardOffered}
 use Rattle.intents.specs.Does.{doesOf}
 use Rattle.offers.specs.Rows.{optionAt}
 use Rattle.machine.specs.RowSteps.{liveByMembers}
-use Rattle.stepping.specs.Marks.{rowNote, noteAt}
+use Rattle.notes.specs.Marks.{rowNote, noteAt}
 
 -- an input from an element
 abbrev pub inputCode : ℕ → ℕ

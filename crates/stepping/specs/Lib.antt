@@ -1,4 +1,1 @@
-pub mod Working
-pub mod Marks
 pub mod Acts
-pub mod Changes

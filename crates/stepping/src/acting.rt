@@ -7,10 +7,10 @@ ghost use Rattle.meaning.specs.Intent.{Sheet};
 ghost use Rattle.layout.specs.Names.{Named};
 ghost use Rattle.offers.specs.Held.{KeptReadings};
 ghost use Rattle.stepping.specs.Acts.{inputCode, actCode, sentCode, noteSender, workingDoes, Noted};
-use crate::owners::clear_notes;
-use crate::owners::note_at;
-use crate::working::live;
 use intents::Does;
+use notes::owners::clear_notes;
+use notes::owners::note_at;
+use notes::working::live;
 
 // What row r would do; nothing where it is not at work.
 pub fn working_does<'a>(

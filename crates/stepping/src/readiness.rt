@@ -9,7 +9,7 @@ ghost use Rattle.meaning.specs.Intent.{Sheet};
 ghost use Rattle.layout.specs.Names.{Named};
 ghost use Rattle.offers.specs.Held.{KeptReadings};
 ghost use Rattle.stepping.specs.Acts.{offerCode, readyBy, hasStep};
-ghost use Rattle.stepping.specs.Marks.{Marked};
+ghost use Rattle.notes.specs.Marks.{Marked};
 use crate::acting::input_code;
 use offers::Offer;
 use settling::states::put;

@@ -12,7 +12,7 @@ use Rattle.meaning.specs.State.{program, processAt, whole}
 use Rattle.meaning.specs.Buffers.{Buffers}
 use Rattle.evaluation.specs.Cells.{cellOf}
 use Rattle.machine.specs.Held.{stripStart, putState, putSettled}
-use Rattle.stepping.specs.Changes.{endNoted}
+use Rattle.notes.specs.Changes.{endNoted}
 use Rattle.changing.specs.declared.Data.{Data}
 use Rattle.changing.specs.declared.Data.the-variants.{Nothing, Cell, Reading, Output}
 use Rattle.changing.specs.declared.Change.{Change}

@@ -21,7 +21,7 @@ use Rattle.machine.specs.RowSteps.{stepAt, stepRows}
 use Rattle.machine.specs.Held.{Holds}
 use Rattle.machine.proofs.RowTables.{ready-count, ready-of-row}
 use Rattle.machine.proofs.StepRows.{any-default}
-use Rattle.stepping.specs.Marks.{marked}
+use Rattle.notes.specs.Marks.{marked}
 use Rattle.stepping.proofs.ReadyMarks.{marked-rows, marked-count}
 use Rattle.changing.specs.declared.Change.{Change}
 use Rattle.changing.specs.Changes.{changeOf, putChange, DataFits}

@@ -14,7 +14,7 @@ use Rattle.meaning.specs.Order.{OrderOf}
 use Rattle.offers.specs.Held.{KeptReadings}
 use Rattle.machine.specs.RowSteps.{altOf}
 use Rattle.machine.specs.Held.{Holds}
-use Rattle.stepping.specs.Marks.{rowNote, Marked}
+use Rattle.notes.specs.Marks.{rowNote, Marked}
 use Rattle.stepping.specs.Acts.{Noted, hasStep}
 use Rattle.taking.specs.declared.State.{State}
 

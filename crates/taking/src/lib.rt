@@ -25,11 +25,11 @@ use changing::Data;
 use changing::change_of;
 use changing::strip_start;
 use evaluation::store::Store;
-use stepping::changes::add_output;
-use stepping::changes::change_states;
-use stepping::changes::raise_place;
-use stepping::changes::write_cell;
-use stepping::choosing::kth_row;
+use notes::changes::add_output;
+use notes::changes::change_states;
+use notes::changes::raise_place;
+use notes::changes::write_cell;
+use notes::choosing::kth_row;
 
 // The run's state: cell values, set marks, and places in the readings.
 pub struct State {

@@ -9,7 +9,7 @@ use Rattle.meaning.specs.Rows.{rowCount}
 use Rattle.meaning.specs.Intent.{Sheet}
 use Rattle.offers.specs.Held.{KeptReadings}
 use Rattle.stepping.specs.Acts.{Noted}
-use Rattle.stepping.proofs.Noting.{zeros-at}
+use Rattle.notes.proofs.Noting.{zeros-at}
 use Rattle.stepping.proofs.ActNotes.{noted-start, noted-next, sender-length}
 use Rattle.stepping.proofs.acting.note_acts.Statement.{statement}
 use Rattle.stepping.proofs.acting.note_acts.Tie as tie

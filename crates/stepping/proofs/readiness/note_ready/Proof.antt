@@ -9,7 +9,7 @@ use Rattle.meaning.specs.Rows.{rowCount}
 use Rattle.meaning.specs.Intent.{Sheet}
 use Rattle.offers.specs.Held.{KeptReadings}
 use Rattle.stepping.specs.Acts.{hasStep}
-use Rattle.stepping.specs.Marks.{Marked}
+use Rattle.notes.specs.Marks.{Marked}
 use Rattle.stepping.proofs.ReadyMarks.{marked-start, marked-next}
 use Rattle.stepping.proofs.readiness.note_ready.Statement.{statement}
 use Rattle.stepping.proofs.readiness.note_ready.Tie as tie

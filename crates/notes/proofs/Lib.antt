@@ -1,0 +1,5 @@
+pub mod Below
+pub mod OptionLinks
+pub mod WorkingRows
+pub mod Noting
+pub mod OwnerNotes

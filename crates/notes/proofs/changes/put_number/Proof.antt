@@ -1,0 +1,24 @@
+-- `put_number` meets its contract: past the end nothing is stored.
+use mathlib.Core.Path.{sym}
+use lib.Seq.{set-out}
+use borrow.Author.Needs.{needs}
+use Rattle.notes.proofs.changes.put_number.Statement.{statement}
+use Rattle.notes.proofs.changes.put_number.Tie as tie
+
+mul-x : tie.Need-mul-x
+mul-x c = search needs
+
+slice-set-from-x : tie.Need-slice-set-from-x
+slice-set-from-x c = search needs
+
+same-length : tie.Need-same-length
+same-length c = search needs
+
+returns : tie.Need-returns
+returns c = search needs
+
+returns-2 : tie.Need-returns-2
+returns-2 c = let args = c .before .args in sym (set-out (args .numbers .now) (args .i) (args .x) (c .if1 .left))
+
+pub put-number-spec : {M : Type 1} → statement M
+put-number-spec = tie.close (tie.spec mul-x slice-set-from-x same-length returns returns-2)

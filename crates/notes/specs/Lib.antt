@@ -1,0 +1,3 @@
+pub mod Working
+pub mod Marks
+pub mod Changes
