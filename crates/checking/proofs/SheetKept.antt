@@ -1,11 +1,10 @@
 -- Of an accepted table and a sheet that is not refused, what is read keeps the readings: below the number of lines each channel has one, kept at its place.
 use mathlib.Core.Path.{_≡_, refl, sym, ap, _∙_}
-use mathlib.Core.Bool.{Bool, true, false}
 use mathlib.Core.List.{List, [], _∷_}
-use mathlib.Core.Option.{Option, none, some, Option·getD}
+use mathlib.Core.Option.{none, some}
 use Prim.Native.Nat.{ℕ, zero, suc, _≤_, _<_}
 use native.Mathlib.Omega.{arith}
-use lib.IntN.{ℤ, pos}
+use lib.IntN.{ℤ}
 use lib.ListN.{length, getD}
 use lib.Dec.{ltb, leb·suc-suc}
 use borrow.Author.Tests.{ltb-true, lt-ltb, le-ltb}

@@ -1,17 +1,16 @@
 -- A reply put into lent buffers is the reply to the call that lent them; and what holds of buffers that are not too short.
-use mathlib.Core.Path.{_≡_, refl, sym, ap, ap₂, _∙_}
+use mathlib.Core.Path.{_≡_, refl, sym, ap, _∙_}
 use mathlib.Core.Bool.{Bool, true, false, _||_, false≢true}
 use mathlib.Core.List.{List, _++_, map, append-nil}
 use Prim.Native.Nat.{ℕ, _+_, _≤_}
 use native.Mathlib.Omega.{arith}
 use lib.IntN.{ℤ, pos}
-use lib.ListN.{length, take, drop, replicate, length-append, length-replicate, length-take, drop-of-length-le}
+use lib.ListN.{length, replicate, length-append, length-replicate, length-take, drop-of-length-le}
 use lib.Dec.{ltb}
 use borrow.Author.Tests.{ltb-false}
-use Rattle.meaning.specs.Basics.{ifElse}
 use Rattle.meaning.specs.Limits.{maxRows, maxCells, maxPorts, maxCapacity}
 use Rattle.meaning.specs.State.{State}
-use Rattle.meaning.specs.Buffers.{Buffers, tooShort, mark, numberIn, capacities, strips, sized, lent, encode}
+use Rattle.meaning.specs.Buffers.{Buffers, mark, numberIn, capacities, strips, sized, lent, encode}
 use Rattle.meaning.specs.TableBytes.{rowsOf}
 use Rattle.meaning.specs.Answers.{Task, Result, Reply, refused, ran, replyOf, unless, bufferFault, result, resultOfBytes, reply, replyToBytes}
 use Rattle.meaning.specs.declared.Outcome.{Outcome}

@@ -1,0 +1,115 @@
+// The exported functions: a table's verdict, a run's answer with what it leaves in the lent buffers, a table's rows, and the strip of
+// an output channel. A slice is a pointer and a length.
+ghost use mathlib.Core.Path.{_≡_};
+ghost use Rattle.meaning.specs.Answers.{check, checkBytes, verdictOf, reply, replyToBytes};
+ghost use Rattle.packing.specs.Packing.{verdictNumber};
+ghost use Rattle.occam_table.specs.Exports.{packed, stripNumber};
+ghost use Rattle.occam_table.specs.RowsLent.{rowsLent};
+use meaning::Verdict;
+
+// The verdict on rows lent as numbers.
+#[no_mangle]
+pub extern "C" fn occam_check_rows(rows: &[i32]) -> u64
+    ensures { λ n. ⌜ n ≡ verdictNumber (verdictOf (check (now (rows .entry)))) ⌝ }
+{
+    packing::verdict_number(checking::check_rows(rows))
+}
+
+// The verdict on a table's bytes.
+#[no_mangle]
+pub extern "C" fn occam_check_table(table: &[u8]) -> u64
+    ensures { λ n. ⌜ n ≡ verdictNumber (verdictOf (checkBytes (now (table .entry)))) ⌝ }
+{
+    packing::verdict_number(checking::check_table(table))
+}
+
+// A run of rows lent as numbers.
+#[no_mangle]
+pub extern "C" fn occam_run_rows(
+    rows: &[i32],
+    sheet: &[u8],
+    choices: &[u16],
+    budget: u32,
+    cells: &mut [i32],
+    marks: &mut [u8],
+    states: &mut [u8],
+    places: &mut [u32],
+    numbers: &mut [i32],
+    counts: &mut [u32],
+) -> u64
+    ensures { λ n. ⌜ record { number = n; buffers = record { cells = now (cells .exit); marks = now (marks .exit); states = now (states .exit); places = now (places .exit); numbers = now (numbers .exit); counts = now (counts .exit) } } ≡ packed (reply (record { rows = now (rows .entry); sheet = now (sheet .entry); choices = now (choices .entry); budget = budget }) (record { cells = now (cells .entry); marks = now (marks .entry); states = now (states .entry); places = now (places .entry); numbers = now (numbers .entry); counts = now (counts .entry) })) ⌝ }
+{
+    packing::answer_number(entries::run_rows(
+        rows,
+        sheet,
+        choices,
+        budget,
+        cells,
+        marks,
+        states,
+        places,
+        numbers,
+        counts,
+    ))
+}
+
+// A run of a table's bytes.
+#[no_mangle]
+pub extern "C" fn occam_run_table(
+    table: &[u8],
+    sheet: &[u8],
+    choices: &[u16],
+    budget: u32,
+    cells: &mut [i32],
+    marks: &mut [u8],
+    states: &mut [u8],
+    places: &mut [u32],
+    numbers: &mut [i32],
+    counts: &mut [u32],
+) -> u64
+    ensures { λ n. ⌜ record { number = n; buffers = record { cells = now (cells .exit); marks = now (marks .exit); states = now (states .exit); places = now (places .exit); numbers = now (numbers .exit); counts = now (counts .exit) } } ≡ packed (replyToBytes (now (table .entry)) (now (sheet .entry)) (now (choices .entry)) budget (record { cells = now (cells .entry); marks = now (marks .entry); states = now (states .entry); places = now (places .entry); numbers = now (numbers .entry); counts = now (counts .entry) })) ⌝ }
+{
+    packing::answer_number(entries::run_table(
+        table,
+        sheet,
+        choices,
+        budget,
+        cells,
+        marks,
+        states,
+        places,
+        numbers,
+        counts,
+    ))
+}
+
+// A table's rows as numbers in a lent buffer of 4,096: how many numbers. 0 and nothing written if the bytes are refused, or the buffer is
+// too short.
+#[no_mangle]
+pub extern "C" fn occam_read_rows(table: &[u8], rows: &mut [i32]) -> u64
+    ensures { λ n. ⌜ (n, now (rows .exit)) ≡ rowsLent (now (table .entry)) (now (rows .entry)) ⌝ }
+{
+    if rows.len() < 4096 {
+        return 0;
+    }
+    let read = table::read_table(table);
+    let verdict = read.verdict;
+    match verdict {
+        Verdict::Rejected(_, _) => 0,
+        Verdict::Accepted => {
+            let n = 4 * read.count;
+            let held = read.rows;
+            lending::copying::copy_numbers(&held[..n], rows);
+            n as u64
+        }
+    }
+}
+
+// Where the strip of an output channel begins, and its capacity.
+#[no_mangle]
+pub extern "C" fn occam_strip(rows: &[i32], channel: usize) -> u64
+    ensures { λ n. ⌜ n ≡ stripNumber (now (rows .entry)) channel ⌝ }
+{
+    let span = strips::span_of(rows, channel, 65535);
+    span.start as u64 + 65536 * (span.size as u64)
+}

@@ -1,0 +1,25 @@
+-- Answers as one number: the low 8 bits are the refusal's number, 0 for none; the next 8 the outcome's, 0 for none; the rest the place of a refusal or the steps of a run.
+use Prim.Native.Nat.{ℕ, _+_, _*_}
+use Rattle.meaning.specs.declared.Outcome.{Outcome}
+use Rattle.meaning.specs.declared.Outcome.the-variants.{Ended, Stuck, Broken, Spent}
+use Rattle.meaning.specs.declared.Answer.{Answer}
+use Rattle.meaning.specs.declared.Answer.the-variants.{Refused, Ran}
+use Rattle.meaning.specs.declared.Verdict.{Verdict}
+use Rattle.meaning.specs.declared.Verdict.the-variants.{Accepted, Rejected}
+
+-- an outcome's number
+abbrev pub outcomeNumber : Outcome → ℕ
+outcomeNumber Ended = 1
+outcomeNumber Stuck = 2
+outcomeNumber Broken = 3
+outcomeNumber Spent = 4
+
+-- a verdict: 0, or a refusal's number with its place
+abbrev pub verdictNumber : Verdict → ℕ
+verdictNumber Accepted = 0
+verdictNumber (Rejected n p) = n + 65536 * p
+
+-- an answer: a refusal's number with its place, or an outcome with its steps
+abbrev pub answerNumber : Answer → ℕ
+answerNumber (Refused n p) = n + 65536 * p
+answerNumber (Ran o k) = 256 * outcomeNumber o + 65536 * k
