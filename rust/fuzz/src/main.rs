@@ -1,0 +1,42 @@
+//! A fuzz target: reads the sheet runner's input (a table, a line `=`, a sheet) from standard
+//! input, and aborts where the proved library and the separate program differ.
+//!
+//! It runs with no choices, and with choices that follow from the input's bytes. The budget is
+//! small, so that a loop that never ends costs little.
+
+use fuzz::random::Random;
+use fuzz::{compare, Given};
+use occam_table::Machine;
+use reference::printing::split_input;
+use std::io::Read;
+
+/// The budget of each run.
+const BUDGET: u32 = 2_000;
+/// No more bytes than this settle what is answered.
+const MOST_BYTES: u64 = 32_768 + 2 + 16_385;
+
+fn main() {
+    let mut input = Vec::new();
+    if let Err(error) = std::io::stdin().take(MOST_BYTES).read_to_end(&mut input) {
+        eprintln!("standard input: {error}");
+        std::process::exit(2);
+    }
+    let (table, sheet) = split_input(&input);
+    let mut machine = Machine::new();
+    for choices in [Vec::new(), choices_of(&input)] {
+        let given = Given::new(table, sheet, choices, BUDGET);
+        if let Err(difference) = compare(&given, &mut machine) {
+            eprintln!("{difference}");
+            std::process::abort();
+        }
+    }
+}
+
+/// Choices that follow from the bytes.
+fn choices_of(bytes: &[u8]) -> Vec<u16> {
+    let mixed = bytes.iter().fold(0xCBF2_9CE4_8422_2325, |mixed, &byte| {
+        (mixed ^ u64::from(byte)).wrapping_mul(0x0100_0000_01B3)
+    });
+    let mut random = Random(mixed);
+    (0..256).map(|_| random.below(65_536) as u16).collect()
+}

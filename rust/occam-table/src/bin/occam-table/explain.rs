@@ -1,0 +1,133 @@
+//! `explain`: what each refusal means.
+
+use crate::arguments::Arguments;
+use crate::report::Report;
+
+/// What a refusal means.
+pub struct Meaning {
+    /// One line.
+    pub summary: &'static str,
+    /// What the place counts.
+    place: &'static str,
+    /// What to look for.
+    advice: &'static str,
+}
+
+/// The meanings of the refusals 1 to 11.
+const MEANINGS: [Meaning; 11] = [
+    Meaning {
+        summary: "a lent buffer is too short",
+        place: "0",
+        advice: "Only a program that calls the library itself can see this; the six buffers must\n\
+                 be at least 256, 256, 1024, 8, 1024 and 8 long.",
+    },
+    Meaning {
+        summary: "the table's bytes are not as they should be",
+        place: "the line, counted from 1; 0 if the table has more than 32768 bytes",
+        advice: "The first line is kind,a,b,c. Every other line is four whole numbers parted by\n\
+                 commas: no spaces, no plus, no leading zeros, no -0, from -2147483648 to\n\
+                 2147483647. Every line, the last too, ends with a line feed and no carriage\n\
+                 return.",
+    },
+    Meaning {
+        summary: "there are more than 1024 rows",
+        place: "1024; for rows lent as numbers the count of whole rows, at most 1024",
+        advice: "Line 1026 of the table is one too many. Rows lent as numbers are also refused\n\
+                 if they are not four numbers each.",
+    },
+    Meaning {
+        summary: "a row has a wrong kind, number, name or unused field",
+        place: "the lowest row at fault, counted from 0 (row r is line r + 2)",
+        advice: "The kind is unknown; or a variable or channel comes after another kind; or an\n\
+                 operator, size, role or capacity is out of range; or a name is not the row of a\n\
+                 declaration of the sort and role wanted; or a field that the kind does not use\n\
+                 is not 0.",
+    },
+    Meaning {
+        summary: "a reference is wrong, or a row is not referred to exactly once",
+        place: "the lowest row at fault; the count of rows if there is no root",
+        advice: "The root is the first row after the declarations and must be a process, kind 20\n\
+                 to 34. Every reference goes to a higher row of the kind named (-1 only for\n\
+                 \"first\" and \"next\"). Every row after the root is referred to exactly once;\n\
+                 wrong references are not counted.",
+    },
+    Meaning {
+        summary: "a declaration passes a limit",
+        place: "the declaration that passes it",
+        advice:
+            "At most 256 cells, 256 channel elements (host channels too), 8 channels from the\n\
+                 host, 8 to the host, and capacities of 1024 together.",
+    },
+    Meaning {
+        summary: "a cell changed in one member of a PAR is used in another",
+        place: "the lowest PAR with such a clash",
+        advice:
+            "A cell is changed by an assignment or as an input's target, and used wherever it\n\
+                 stands, subscripts included. A literal subscript counts for that cell only; any\n\
+                 other subscript counts for the whole array.",
+    },
+    Meaning {
+        summary: "two members of a PAR input from the same channel element",
+        place: "the lowest PAR with such a clash",
+        advice: "Inputs in the guards of an ALT count as inputs. A subscript that is no literal\n\
+                 counts for every element of the channel.",
+    },
+    Meaning {
+        summary: "two members of a PAR output to the same channel element",
+        place: "the lowest PAR with such a clash",
+        advice: "A subscript that is no literal counts for every element of the channel.",
+    },
+    Meaning {
+        summary: "the readings are not as they should be",
+        place: "the line, counted from 1; 0 if the sheet has more than 16384 bytes",
+        advice:
+            "The first line is the rows of the channels from the host, joined by commas. Then\n\
+                 come at most 128 lines, one value for each of these channels; an empty field is\n\
+                 an absent reading. Without such a channel the sheet is one empty line. Every\n\
+                 line ends with a line feed.",
+    },
+    Meaning {
+        summary: "the budget is above 65536",
+        place: "0",
+        advice: "Ask for at most 65536 steps.",
+    },
+];
+
+/// The meaning of a refusal; the library tells only 1 to 11.
+pub fn meaning(number: u8) -> &'static Meaning {
+    &MEANINGS[usize::from(number.clamp(1, 11)) - 1]
+}
+
+/// The command: one number, or all of them in one line each.
+pub fn command(words: &[String]) -> Result<Report, String> {
+    let arguments = Arguments::part("explain", words, &[], &[])?;
+    if words.is_empty() {
+        return Ok(Report::accepted(all()));
+    }
+    let [word] = arguments.named(["NUMBER"])?;
+    match word.parse() {
+        Ok(number @ 1..=11) => Ok(Report::accepted(one(number))),
+        _ => Err(format!(
+            "there is no refusal {word:?}; they are numbered 1 to 11"
+        )),
+    }
+}
+
+/// All refusals, one line each.
+fn all() -> String {
+    let lines = MEANINGS
+        .iter()
+        .zip(1..)
+        .map(|(meaning, number)| format!("{number:2}  {}\n", meaning.summary));
+    lines.collect()
+}
+
+/// One refusal.
+fn one(number: u8) -> String {
+    let Meaning {
+        summary,
+        place,
+        advice,
+    } = meaning(number);
+    format!("refusal {number}: {summary}\nplace: {place}\n\n{advice}\n")
+}

@@ -1,0 +1,114 @@
+//! The help texts.
+
+pub const OVERVIEW: &str = "\
+occam-table: checks and runs small occam programs kept as tables of rows
+
+  occam-table check TABLE                 is the table accepted, and if not, what is wrong where
+  occam-table run TABLE SHEET             run it on a sheet of readings
+  occam-table steps TABLE SHEET           the same step by step, for a desk trial
+  occam-table orders TABLE SHEET          many random orders: do they agree?
+  occam-table explain [NUMBER]            what a refusal means
+  occam-table COMMAND --help              more about a command, with examples
+
+Every answer comes from the proved library; the words around it are presentation.
+Exit status: 0 done, 1 the table, sheet or budget is refused, 2 wrong use or an unreadable file.
+";
+
+const CHECK: &str = "\
+occam-table check TABLE
+
+Tells whether a table is accepted. If it is refused: the number and the place, which are the
+proved answer, and what is wrong there in plain words: the line or row as written, which field,
+what stands there, what was expected; for a clash in a PAR the two members and the cell or
+channel element.
+Exit status: 0 accepted, 1 refused, 2 wrong use or an unreadable file.
+
+Examples:
+  occam-table check examples/kiln.csv
+  occam-table check edited-on-site.csv && echo may be loaded
+";
+
+const RUN: &str = "\
+occam-table run TABLE SHEET [--budget N] [--choices A,B,C] [--full] [--table]
+
+Runs a table on a sheet of readings and prints the lines of the sheet runner: outcome and steps,
+each cell (nothing after the last comma if it is unset), each host output, each stopped row. A
+refusal is one line on standard output, and in plain words on standard error.
+
+  --budget N        at most N steps (default and greatest: 65536)
+  --choices A,B,C   which ready step to take, in turn (default: always the first)
+  --full            also each row's state and each channel's place in the readings
+  --table           aligned columns to be read by people; an unset cell is shown empty
+Exit status: 0 it ran (whatever the outcome), 1 refused, 2 wrong use or an unreadable file.
+
+Examples:
+  occam-table run examples/kiln.csv examples/kiln.readings.csv
+  occam-table run examples/kiln.csv examples/kiln.readings.csv --table --full
+  occam-table run examples/intake.csv examples/intake.readings.csv --choices 1,0,1
+";
+
+const STEPS: &str = "\
+occam-table steps TABLE SHEET [--budget N] [--choices A,B,C]
+
+Shows a run step by step: which row moved, what passed on which channel, and at rest what is
+waiting and why. Each state comes from the library, which runs with budgets of 0, 1, 2 and so on;
+the words come from comparing these states.
+
+  --budget N        at most N steps (default 1000; a long run takes time, since step n is
+                    found by a run of n steps)
+  --choices A,B,C   which ready step to take, in turn (default: always the first)
+Exit status: 0 it ran (whatever the outcome), 1 refused, 2 wrong use or an unreadable file.
+
+Examples:
+  occam-table steps examples/relay.csv examples/relay.readings.csv
+  occam-table steps examples/kiln.csv examples/kiln.readings.csv --choices 1,1,1 --budget 12
+";
+
+const ORDERS: &str = "\
+occam-table orders TABLE SHEET [--trials N] [--seed S] [--budget N]
+
+Runs the desk order (no choices) and N orders of random choices, and reports that they agree in
+outcome, steps, cells, row states, places in the readings and output lists, or how they differ.
+For an accepted table without ALT it is proved that all orders that come to rest agree; with ALT
+they may differ. Orders that spend the budget are counted apart: nothing is promised of them but
+their number of steps.
+
+  --trials N        how many random orders (default 1000)
+  --seed S          the same seed gives the same orders (default 1)
+  --budget N        at most N steps each (default and greatest: 65536)
+Exit status: 0 they ran (whether they agree or not), 1 refused, 2 wrong use or an unreadable file.
+
+Examples:
+  occam-table orders examples/kiln.csv examples/kiln.readings.csv --trials 1000 --seed 7
+  occam-table orders examples/intake.csv examples/intake.readings.csv
+";
+
+const EXPLAIN: &str = "\
+occam-table explain [NUMBER]
+
+Tells what a refusal means, what its place counts and what to look for; without a number it
+lists all eleven.
+
+Examples:
+  occam-table explain 7
+  occam-table explain
+";
+
+/// The help text that the words ask for, if they do.
+pub fn wanted(command: &str, rest: &[String]) -> Option<&'static str> {
+    if matches!(command, "--help" | "-h" | "help") {
+        return Some(OVERVIEW);
+    }
+    let asked = rest
+        .iter()
+        .any(|word| matches!(word.as_str(), "--help" | "-h"));
+    let text = match command {
+        "check" => CHECK,
+        "run" => RUN,
+        "steps" => STEPS,
+        "orders" => ORDERS,
+        "explain" => EXPLAIN,
+        _ => return None,
+    };
+    asked.then_some(text)
+}

@@ -1,0 +1,91 @@
+//! `run`: a run of a table on a sheet, as the sheet runner prints it or aligned to be read.
+
+use crate::aligned;
+use crate::arguments::{read_file, short_name, Arguments};
+use crate::faults::Given;
+use crate::program::Program;
+use crate::report::{refusal_words, Report};
+use crate::sheet_lines;
+use occam_table::{read_rows, Machine, Refusal, Run, BUDGET};
+
+/// A table, a sheet, choices and a budget from the command line.
+pub struct Asked {
+    pub table: Vec<u8>,
+    pub sheet: Vec<u8>,
+    pub names: String,
+    pub choices: Vec<u16>,
+    pub budget: u64,
+}
+
+impl Asked {
+    /// Reads the files and flags that `run`, `steps` and `orders` have in common.
+    pub fn read(arguments: &Arguments, budget: u32) -> Result<Asked, String> {
+        let [table, sheet] = arguments.named(["TABLE", "SHEET"])?;
+        Ok(Asked {
+            table: read_file(table)?,
+            sheet: read_file(sheet)?,
+            names: format!("{} and {}", short_name(table), short_name(sheet)),
+            choices: arguments.numbers("--choices")?,
+            budget: arguments.number("--budget")?.unwrap_or(u64::from(budget)),
+        })
+    }
+
+    /// Runs on a machine with these choices and this budget.
+    pub fn run_with<'m>(
+        &self,
+        machine: &'m mut Machine,
+        choices: &[u16],
+        budget: u64,
+    ) -> Result<Run<'m>, Refusal> {
+        let budget = u32::try_from(budget).unwrap_or(u32::MAX);
+        machine.run_table(&self.table, &self.sheet, choices, budget)
+    }
+
+    /// The rows, for words about them.
+    pub fn program(&self) -> Program {
+        Program::new(&read_rows(&self.table).unwrap_or_default())
+    }
+
+    /// What was given, for words about a refusal.
+    pub fn given(&self) -> Given<'_> {
+        Given {
+            table: &self.table,
+            sheet: &self.sheet,
+            budget: self.budget,
+        }
+    }
+
+    /// The report of a refusal in plain words.
+    pub fn refused(&self, refusal: Refusal) -> Report {
+        Report::refused(refusal, &self.names, &self.given())
+    }
+}
+
+/// The command.
+pub fn command(words: &[String]) -> Result<Report, String> {
+    let valued = ["--budget", "--choices"];
+    let arguments = Arguments::part("run", words, &valued, &["--full", "--table"])?;
+    let asked = Asked::read(&arguments, BUDGET)?;
+    let (full, table) = (arguments.has("--full"), arguments.has("--table"));
+    let mut machine = Machine::new();
+    let run = match asked.run_with(&mut machine, &asked.choices, asked.budget) {
+        Ok(run) => run,
+        Err(refusal) if table => return Ok(asked.refused(refusal)),
+        Err(refusal) => return Ok(refused_line(refusal, &asked)),
+    };
+    let program = asked.program();
+    Ok(Report::accepted(if table {
+        aligned::page(&program, &run, full)
+    } else {
+        sheet_lines::page(&program, &run, full)
+    }))
+}
+
+/// The sheet runner's line of a refusal; the plain words go beside it.
+fn refused_line(refusal: Refusal, asked: &Asked) -> Report {
+    Report {
+        text: format!("{refusal}\n"),
+        aside: refusal_words(refusal, &asked.names, &asked.given()),
+        status: 1,
+    }
+}

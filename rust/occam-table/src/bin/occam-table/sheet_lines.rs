@@ -1,0 +1,61 @@
+//! The sheet runner's lines for a run: document 01, "A run on paper".
+
+use crate::program::Program;
+use occam_table::{RowState, Run};
+use std::fmt::Write;
+
+/// The lines of a run; with `full` also row states and places in the readings.
+pub fn page(program: &Program, run: &Run, full: bool) -> String {
+    let mut text = format!("what,name,at,value\n{},0,0,{}\n", run.outcome, run.steps);
+    let written = cells(&mut text, program, run)
+        .and_then(|()| outputs(&mut text, program, run))
+        .and_then(|()| stops(&mut text, run))
+        .and_then(|()| match full {
+            true => states_and_places(&mut text, program, run),
+            false => Ok(()),
+        });
+    debug_assert!(written.is_ok());
+    text
+}
+
+/// Each cell: variable, cell number, value or empty.
+fn cells(text: &mut String, program: &Program, run: &Run) -> std::fmt::Result {
+    for variable in program.variables() {
+        for (number, cell) in program.part(variable).enumerate() {
+            let value = run.cell(cell).map_or(String::new(), |z| z.to_string());
+            writeln!(text, "var,{variable},{number},{value}")?;
+        }
+    }
+    Ok(())
+}
+
+/// Each host output: channel, position, value.
+fn outputs(text: &mut String, program: &Program, run: &Run) -> std::fmt::Result {
+    for (channel, list) in program.output_channels().zip(run.lists()) {
+        for (position, value) in list.iter().enumerate() {
+            writeln!(text, "out,{channel},{position},{value}")?;
+        }
+    }
+    Ok(())
+}
+
+/// Each stopped row with its reason.
+fn stops(text: &mut String, run: &Run) -> std::fmt::Result {
+    for (row, state) in run.states().enumerate() {
+        if let RowState::Stopped(reason) = state {
+            writeln!(text, "stop,{row},0,{}", reason.number())?;
+        }
+    }
+    Ok(())
+}
+
+/// Each row's state, and each place in the readings.
+fn states_and_places(text: &mut String, program: &Program, run: &Run) -> std::fmt::Result {
+    for (row, state) in run.states().enumerate() {
+        writeln!(text, "state,{row},0,{}", state.number())?;
+    }
+    for (channel, place) in program.reading_channels().zip(run.places()) {
+        writeln!(text, "place,{channel},0,{place}")?;
+    }
+    Ok(())
+}

@@ -1,0 +1,82 @@
+//! The six buffers that a run leaves its state in.
+
+/// Most rows of a table.
+pub const ROWS: usize = 1_024;
+/// Most cells of all variables together.
+pub const CELLS: usize = 256;
+/// Most channels of role 1, and of role 2.
+pub const HOST_CHANNELS: usize = 8;
+/// Most positions in all strips together.
+pub const CAPACITIES: usize = 1_024;
+/// Greatest budget.
+pub const BUDGET: u32 = 65_536;
+
+/// Six lent buffers. Each has to be at least as long as its limit; a shorter one is refusal 1.
+///
+/// ```
+/// use occam_table::{calls, Buffers};
+///
+/// let mut buffers = Buffers::default();
+/// let mut lent = buffers.lend();
+/// lent.counts = &mut lent.counts[..7];
+/// let answer = calls::run_rows(&[21, 0, 0, 0], b"\n", &[], 0, lent);
+/// assert_eq!(answer, 1, "refusal 1 at place 0");
+/// ```
+pub struct Lent<'b> {
+    /// Each cell's value, 0 if it is unset: 256.
+    pub cells: &'b mut [i32],
+    /// Each cell's set mark, 1 set, 0 unset: 256.
+    pub marks: &'b mut [u8],
+    /// Each row's state: 1,024.
+    pub states: &'b mut [u8],
+    /// Each role 1 channel's place in the readings: 8.
+    pub places: &'b mut [u32],
+    /// The strips of the role 2 channels, each following the one before it: 1,024.
+    pub numbers: &'b mut [i32],
+    /// How long each role 2 channel's list is: 8.
+    pub counts: &'b mut [u32],
+}
+
+/// Six buffers, each exactly as long as its limit.
+#[derive(Clone, Debug, PartialEq, Eq)]
+pub struct Buffers {
+    /// Each cell's value, 0 if it is unset.
+    pub cells: [i32; CELLS],
+    /// Each cell's set mark: 1 set, 0 unset.
+    pub marks: [u8; CELLS],
+    /// Each row's state.
+    pub states: [u8; ROWS],
+    /// Each role 1 channel's place in the readings.
+    pub places: [u32; HOST_CHANNELS],
+    /// The strips of the role 2 channels, each following the one before it.
+    pub numbers: [i32; CAPACITIES],
+    /// How long each role 2 channel's list is.
+    pub counts: [u32; HOST_CHANNELS],
+}
+
+impl Default for Buffers {
+    fn default() -> Buffers {
+        Buffers {
+            cells: [0; CELLS],
+            marks: [0; CELLS],
+            states: [0; ROWS],
+            places: [0; HOST_CHANNELS],
+            numbers: [0; CAPACITIES],
+            counts: [0; HOST_CHANNELS],
+        }
+    }
+}
+
+impl Buffers {
+    /// Lends all six.
+    pub fn lend(&mut self) -> Lent<'_> {
+        Lent {
+            cells: &mut self.cells,
+            marks: &mut self.marks,
+            states: &mut self.states,
+            places: &mut self.places,
+            numbers: &mut self.numbers,
+            counts: &mut self.counts,
+        }
+    }
+}

@@ -1,0 +1,170 @@
+//! The machine: buffers owned once and lent to every run.
+
+use crate::answers::{self, Refusal, Verdict};
+use crate::buffers::{Buffers, HOST_CHANNELS, ROWS};
+use crate::calls;
+use crate::run::Run;
+use crate::sizes::Sizes;
+
+/// The verdict on a table's bytes.
+///
+/// ```
+/// use occam_table::check_table;
+///
+/// assert!(check_table(b"kind,a,b,c\n21,0,0,0\n").is_ok());
+/// let refusal = check_table(b"kind,a,b,c\n21,0,0\n").unwrap_err();
+/// assert_eq!((refusal.number, refusal.place), (2, 2), "line 2 has three numbers");
+/// ```
+pub fn check_table(table: &[u8]) -> Verdict {
+    answers::verdict(calls::check_table(table))
+}
+
+/// The verdict on rows lent as numbers, four to each.
+///
+/// ```
+/// use occam_table::check_rows;
+///
+/// assert!(check_rows(&[21, 0, 0, 0]).is_ok());
+/// let refusal = check_rows(&[21, 0, 0, 0, 21]).unwrap_err();
+/// assert_eq!((refusal.number, refusal.place), (3, 1), "one whole row");
+/// ```
+pub fn check_rows(rows: &[i32]) -> Verdict {
+    answers::verdict(calls::check_rows(rows))
+}
+
+/// The rows of a table's bytes; none if the bytes are refused (2, 3) or hold no row.
+///
+/// ```
+/// use occam_table::read_rows;
+///
+/// assert_eq!(read_rows(b"kind,a,b,c\n21,0,0,0\n"), Some(vec![[21, 0, 0, 0]]));
+/// assert_eq!(read_rows(b"21,0,0,0\n"), None);
+/// ```
+pub fn read_rows(table: &[u8]) -> Option<Vec<[i32; 4]>> {
+    let mut numbers = vec![0; 4 * ROWS];
+    let written = calls::read_rows(table, &mut numbers) as usize;
+    let rows = numbers[..written].chunks_exact(4);
+    (written != 0).then(|| rows.map(|row| [row[0], row[1], row[2], row[3]]).collect())
+}
+
+/// The part of the output numbers that belongs to one channel to the host.
+#[derive(Clone, Copy, Debug, Default, PartialEq, Eq)]
+pub struct Strip {
+    /// The position of its first number.
+    pub begin: usize,
+    /// How many numbers it can hold.
+    pub capacity: usize,
+}
+
+/// The strip of a channel to the host of an accepted table; `channel` counts those of role 2
+/// from 0, in row order.
+///
+/// ```
+/// use occam_table::{strip, Strip};
+///
+/// let rows = [[2, 1, 2, 4], [2, 1, 2, 9], [21, 0, 0, 0]];
+/// let second = Strip { begin: 4, capacity: 9 };
+/// assert_eq!(strip(rows.as_flattened(), 1), second);
+/// ```
+pub fn strip(rows: &[i32], channel: usize) -> Strip {
+    let packed = calls::strip(rows, channel);
+    Strip {
+        begin: (packed & 0xFFFF) as usize,
+        capacity: (packed >> 16) as usize,
+    }
+}
+
+/// Runs tables. It owns the buffers that runs leave their state in, so that a run allocates
+/// nothing; a [`Run`] is a look at them until the next run.
+///
+/// ```
+/// use occam_table::{Machine, Outcome, BUDGET};
+///
+/// // WHILE 1 SKIP
+/// let rows = [[33, 1, 2, 0], [10, 1, 0, 0], [21, 0, 0, 0]];
+/// let mut machine = Machine::new();
+/// for budget in [0, 7, BUDGET] {
+///     let run = machine.run_rows(rows.as_flattened(), b"\n", &[], budget)?;
+///     assert_eq!((run.outcome, run.steps), (Outcome::Spent, budget));
+/// }
+/// let refusal = machine.run_rows(rows.as_flattened(), b"\n", &[], BUDGET + 1).unwrap_err();
+/// assert_eq!(refusal.number, 11);
+/// # Ok::<(), occam_table::Refusal>(())
+/// ```
+pub struct Machine {
+    held: Box<Held>,
+}
+
+/// What a machine owns.
+struct Held {
+    buffers: Buffers,
+    rows: [i32; 4 * ROWS],
+    strips: [Strip; HOST_CHANNELS],
+}
+
+impl Default for Machine {
+    fn default() -> Machine {
+        Machine::new()
+    }
+}
+
+impl Machine {
+    /// A machine with its buffers, which no run has used yet.
+    pub fn new() -> Machine {
+        Machine {
+            held: Box::new(Held {
+                buffers: Buffers::default(),
+                rows: [0; 4 * ROWS],
+                strips: [Strip::default(); HOST_CHANNELS],
+            }),
+        }
+    }
+
+    /// Runs a table's bytes on a sheet's bytes.
+    ///
+    /// The choice for a step is divided by the number of ready steps, and the remainder picks;
+    /// when the list is used up, 0 is meant. A budget above [`BUDGET`](crate::BUDGET) is refused.
+    pub fn run_table(
+        &mut self,
+        table: &[u8],
+        sheet: &[u8],
+        choices: &[u16],
+        budget: u32,
+    ) -> Result<Run<'_>, Refusal> {
+        let held = &mut *self.held;
+        let packed = calls::run_table(table, sheet, choices, budget, held.buffers.lend());
+        let answer = answers::answer(packed)?;
+        let written = calls::read_rows(table, &mut held.rows) as usize;
+        let sizes = note_strips(&held.rows[..written], &mut held.strips);
+        Ok(Run::new(answer, &held.buffers, sizes, &held.strips))
+    }
+
+    /// Runs rows lent as numbers, four to each, on a sheet's bytes.
+    pub fn run_rows(
+        &mut self,
+        rows: &[i32],
+        sheet: &[u8],
+        choices: &[u16],
+        budget: u32,
+    ) -> Result<Run<'_>, Refusal> {
+        let held = &mut *self.held;
+        let packed = calls::run_rows(rows, sheet, choices, budget, held.buffers.lend());
+        let answer = answers::answer(packed)?;
+        let sizes = note_strips(rows, &mut held.strips);
+        Ok(Run::new(answer, &held.buffers, sizes, &held.strips))
+    }
+
+    /// The buffers as the last run left them; a refused call changes nothing in them.
+    pub fn buffers(&self) -> &Buffers {
+        &self.held.buffers
+    }
+}
+
+/// Notes the strip of each output channel of an accepted table, and tells its sizes.
+fn note_strips(rows: &[i32], strips: &mut [Strip; HOST_CHANNELS]) -> Sizes {
+    let sizes = Sizes::of(rows);
+    for (channel, noted) in strips[..sizes.outputs].iter_mut().enumerate() {
+        *noted = strip(rows, channel);
+    }
+    sizes
+}

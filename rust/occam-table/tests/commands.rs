@@ -1,0 +1,128 @@
+//! The command line against stored outputs.
+//!
+//! A file `commands/NAME.txt` holds a command line after `$ `, what it prints on standard output,
+//! after `--- error` what it prints on standard error (if anything), and after `--- status` its
+//! exit status. It runs in the folder `commands`. `OCCAM_STORE=1` writes the files anew: read
+//! them before they are kept.
+
+use std::fs;
+use std::path::{Path, PathBuf};
+use std::process::Command;
+
+/// The folder of the stored outputs.
+fn folder() -> PathBuf {
+    Path::new(env!("CARGO_MANIFEST_DIR")).join("tests/commands")
+}
+
+/// What a command line prints, in the stored form.
+fn printed(line: &str) -> String {
+    let words = line.strip_prefix("$ occam-table").expect("a command line");
+    let output = Command::new(env!("CARGO_BIN_EXE_occam-table"))
+        .args(words.split_whitespace())
+        .current_dir(folder())
+        .output()
+        .expect("the program starts");
+    let text = |bytes: Vec<u8>| String::from_utf8(bytes).expect("text");
+    let (out, error) = (text(output.stdout), text(output.stderr));
+    let status = output.status.code().expect("a status");
+    let error = match error.is_empty() {
+        true => String::new(),
+        false => format!("--- error\n{error}"),
+    };
+    format!("{line}\n{out}{error}--- status {status}\n")
+}
+
+#[test]
+fn stored_outputs() {
+    let store = std::env::var_os("OCCAM_STORE").is_some();
+    let mut failed = Vec::new();
+    let mut count = 0;
+    for entry in fs::read_dir(folder()).expect("the folder is there") {
+        let path = entry.expect("an entry").path();
+        if path.extension().is_none_or(|extension| extension != "txt") {
+            continue;
+        }
+        let stored = fs::read_to_string(&path).expect("text");
+        let printed = printed(stored.lines().next().expect("a first line"));
+        count += 1;
+        if store {
+            fs::write(&path, &printed).expect("written");
+        } else if stored != printed {
+            failed.push(format!("{}:\n{printed}", path.display()));
+        }
+    }
+    assert!(count > 80, "{count} commands");
+    assert!(failed.is_empty(), "{}", failed.join("\n"));
+}
+
+/// The number of the refusal that a stored output tells, if it tells one.
+fn refusal_told(stored: &str) -> Option<u32> {
+    let told = stored.lines().find_map(|line| {
+        line.strip_prefix("refused: number ")
+            .or_else(|| line.strip_prefix("refused,"))
+    })?;
+    told.split(',').next()?.parse().ok()
+}
+
+#[test]
+fn every_refusal_that_a_small_file_can_provoke_is_stored() {
+    let files = fs::read_dir(folder()).expect("the folder is there");
+    let texts = files.map(|entry| fs::read_to_string(entry.expect("an entry").path()));
+    let told: Vec<u32> = texts.filter_map(|text| refusal_told(&text.ok()?)).collect();
+    for number in [2, 4, 5, 6, 7, 8, 9, 10, 11] {
+        assert!(told.contains(&number), "{number}");
+    }
+}
+
+/// Writes a file for one test, and tells its name.
+fn write(name: &str, text: &str) -> String {
+    let path = std::env::temp_dir().join(format!("occam-table-{}-{name}", std::process::id()));
+    fs::write(&path, text).expect("written");
+    path.display().to_string()
+}
+
+/// Runs a command on files and tells its status and standard output; removes the files.
+fn told(command: &str, files: &[String]) -> (Option<i32>, String) {
+    let output = Command::new(env!("CARGO_BIN_EXE_occam-table"))
+        .arg(command)
+        .args(files)
+        .output()
+        .expect("the program starts");
+    for file in files {
+        fs::remove_file(file).expect("it is there");
+    }
+    let text = String::from_utf8(output.stdout).expect("text");
+    (output.status.code(), text)
+}
+
+#[test]
+fn large_files() {
+    let rows = format!("kind,a,b,c\n30,-1,0,0\n{}", "21,0,0,0\n".repeat(1_024));
+    let (status, text) = told("check", &[write("rows.csv", &rows)]);
+    assert_eq!(status, Some(1));
+    assert!(
+        text.starts_with("refused: number 3, after 1024 rows\n"),
+        "{text}"
+    );
+    assert!(
+        text.contains("the table has 1025 rows; at most 1024"),
+        "{text}"
+    );
+    assert!(text.contains("line 1026: 21,0,0,0"), "{text}");
+
+    let (status, text) = told("check", &[write("long.csv", &"7".repeat(32_769))]);
+    assert_eq!(status, Some(1));
+    assert!(text.starts_with("refused: number 2, place 0\n"), "{text}");
+    assert!(text.contains("has 32769 bytes; at most 32768"), "{text}");
+
+    let table = "kind,a,b,c\n2,1,1,0\n21,0,0,0\n";
+    let long = format!("0\n{}", "7".repeat(16_384));
+    let files = [write("reads.csv", table), write("long.sheet.csv", &long)];
+    let (status, text) = told("run", &files);
+    assert_eq!((status, text.as_str()), (Some(1), "refused,10,0,0\n"));
+
+    let many = format!("0\n{}", "7\n".repeat(129));
+    let files = [write("reads2.csv", table), write("many.sheet.csv", &many)];
+    let (status, text) = told("run", &files);
+    assert_eq!((status, text.as_str()), (Some(1), "refused,10,130,0\n"));
+}
