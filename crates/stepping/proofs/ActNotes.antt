@@ -13,6 +13,8 @@ use Rattle.meaning.specs.Basics.{ifElse, any, among, lowest}
 use Rattle.notes.specs.Marks.{rowNote, firstNote, noteAt}
 use Rattle.meaning.specs.Intent.{Sheet}
 use Rattle.intents.specs.declared.Does.{Does}
+use Rattle.intents.specs.declared.Does.the-variants.{Waits}
+use Rattle.notes.proofs.WorkingRows.{not-running}
 use Rattle.stepping.specs.Acts.{actCode, sentCode, noteSender, workingDoes, Noted}
 use Rattle.notes.proofs.Below.{lowest-none, lowest-next}
 use Rattle.notes.proofs.Noting.{noted-none, note-given, note-length}
@@ -76,3 +78,8 @@ module _ (rows : List ℤ) (sheet : Sheet) (values : List ℤ) (marks places cou
             let k : i < length waiting = rw (ap (λ (o : List ℕ). length o) q ∙ sender-length waiting s (r + 1)) at h in
             ap (λ (o : List ℕ). getD o i 0) q ∙ waiting-next (λ j. sentCode (does j)) waiting r i s k (N .waiting i k) (t ∙ ap sentCode e);
       }
+
+-- a row that is not running does nothing
+pub idle-waits : (rows : List ℤ) (r : ℕ) (states : List ℕ) {n : ℕ} → n ≡ getD states r 0 → (n ≡ 1 → ⊥) → (sheet : Sheet) (values : List ℤ) (marks places counts : List ℕ) → workingDoes rows sheet values marks places counts states r ≡ Waits
+unfolding workingDoes
+idle-waits rows r states e h sheet values marks places counts = rw (sym (not-running rows r states e h))

@@ -11,6 +11,7 @@ use intents::Does;
 use notes::owners::clear_notes;
 use notes::owners::note_at;
 use notes::working::live;
+use settling::states::state_at;
 
 // What row r would do; nothing where it is not at work.
 pub fn working_does<'a>(
@@ -115,6 +116,50 @@ fn note_sender(waiting: &mut [u16], sent: u16, note: u16)
     }
 }
 
+// Notes what row r would do, and at the element that it would output to that it waits. A row that is not running does nothing.
+fn note_act<'a>(
+    rows: &'a [i32],
+    names: &'a [u16],
+    values: &'a [i32],
+    marks: &'a [u8],
+    places: &'a [u32],
+    counts: &'a [u32],
+    readings: &'a [i32],
+    given: &'a [u8],
+    lines: usize,
+    states: &'a [u8],
+    r: usize,
+    acts: &mut [u16],
+    waiting: &mut [u16],
+)
+    requires named { ⌜ Named (now rows) (now names) ⌝ }
+    requires row { ⌜ r < 1024 ⌝ }
+    ensures acts { λ _. ⌜ ((sheet : Sheet) → KeptReadings (now (rows .entry)) sheet (now (readings .entry)) (now (given .entry)) lines → now (acts .exit) ≡ set (now (acts .entry)) r (actCode (workingDoes (now (rows .entry)) sheet (now (values .entry)) (now (marks .entry)) (now (places .entry)) (now (counts .entry)) (now (states .entry)) r))) ⌝ }
+    ensures waiting { λ _. ⌜ ((sheet : Sheet) → KeptReadings (now (rows .entry)) sheet (now (readings .entry)) (now (given .entry)) lines → now (waiting .exit) ≡ noteSender (now (waiting .entry)) (sentCode (workingDoes (now (rows .entry)) sheet (now (values .entry)) (now (marks .entry)) (now (places .entry)) (now (counts .entry)) (now (states .entry)) r)) (r + 1)) ⌝ }
+    ensures lengths { λ _. ⌜ (length (now (acts .exit)) ≡ length (now (acts .entry))) × (length (now (waiting .exit)) ≡ length (now (waiting .entry))) ⌝ }
+{
+    let n = state_at(states, r);
+    if n != 1 {
+        put_note(acts, r, 0);
+        return;
+    }
+    let d = working_does(
+        rows,
+        names,
+        values,
+        marks,
+        places,
+        counts,
+        readings,
+        given,
+        lines,
+        states,
+        r,
+    );
+    put_note(acts, r, act_code(d));
+    note_sender(waiting, sent_code(d), (r + 1) as u16);
+}
+
 // Notes what each row would do, and for each element the row that waits to output there.
 pub fn note_acts<'a>(
     rows: &'a [i32],
@@ -137,7 +182,7 @@ pub fn note_acts<'a>(
     clear_notes(waiting);
     let mut r = 0;
     while r < rows.len() / 4 {
-        let d = working_does(
+        note_act(
             rows,
             names,
             values,
@@ -149,9 +194,9 @@ pub fn note_acts<'a>(
             lines,
             states,
             r,
+            acts,
+            waiting,
         );
-        put_note(acts, r, act_code(d));
-        note_sender(waiting, sent_code(d), (r + 1) as u16);
         r += 1;
     }
 }

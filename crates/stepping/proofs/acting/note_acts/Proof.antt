@@ -31,26 +31,8 @@ loop-holds c =
     let args = c .before .before .before .before .before .before .before .before .before .before .before .before .args in
     (zero-le, refl, refl, λ sheet K. noted-start _ sheet _ _ _ _ _ _ _ (λ e. ap (λ (o : List ℕ). getD o e 0) (at-clear .clear-notes .ensures) ∙ zeros-at (length (args .waiting .now)) e))
 
-working-does-requires : tie.Need-working-does-requires Inv-loop μ-loop
-working-does-requires c κs = search needs
-
-act-code-requires : tie.Need-act-code-requires Inv-loop μ-loop
-act-code-requires c κs = search needs
-
-put-note-requires : tie.Need-put-note-requires Inv-loop μ-loop
-put-note-requires c κs = search needs
-
-sent-code-requires : tie.Need-sent-code-requires Inv-loop μ-loop
-sent-code-requires c κs = search needs
-
-add-note-sender : tie.Need-add-note-sender Inv-loop μ-loop
-add-note-sender c = search needs
-
-cast-note-sender : tie.Need-cast-note-sender Inv-loop μ-loop
-cast-note-sender c = search needs
-
-note-sender-requires : tie.Need-note-sender-requires Inv-loop μ-loop
-note-sender-requires c κs = search needs
+note-act-requires : tie.Need-note-act-requires Inv-loop μ-loop
+note-act-requires c κs = search needs
 
 add-r : tie.Need-add-r Inv-loop μ-loop
 add-r c = search needs
@@ -60,15 +42,12 @@ loop-less c = search needs
 
 loop-again : tie.Need-loop-again Inv-loop μ-loop
 loop-again c =
-    let at-note = c .before .before in
-    let at-sent = at-note .before in
-    let at-put = at-sent .before .before .before .before in
-    let at-act = at-put .before in
-    let at-does = at-act .before .before in
-    let at-loop = at-does .before .before in
+    let at-note = c .before .before .before .before in
+    let at-loop = at-note .before .before .before .before in
     let start = at-loop .before .before .before .before .before .before .before .before .before .before .before .before .before in
     let l = at-loop .loop in
-    (omega (arith, at-does .before .loop-test .taken), ap (λ (o : List ℕ). length o) (at-put .put-note .ensures) ∙ length-set (l .acts) (l .r) (at-act .act-code .result) ∙ l .inv .1, ap (λ (o : List ℕ). length o) (at-note .note-sender .ensures) ∙ sender-length (l .waiting) (at-sent .sent-code .result) (l .r + 1) ∙ l .inv .2, λ sheet K. noted-next _ sheet _ _ _ _ _ (l .r) (l .acts) (l .waiting) (l .inv .3 sheet K) (omega (arith, at-does .before .loop-test .taken, l .inv .1, start .pre .1 .1)) (at-does .working-does .result) (at-does .working-does .ensures sheet K) (at-act .act-code .result) (at-sent .sent-code .result) (at-act .act-code .ensures) (at-sent .sent-code .ensures) _ _ (at-put .put-note .ensures) (at-note .note-sender .ensures))
+    let (acts, (waiting, lengths)) = at-note .note-act .ensures in
+    (omega (arith, at-note .before .before .before .loop-test .taken), lengths .0 ∙ l .inv .1, lengths .1 ∙ l .inv .2, λ sheet K. noted-next _ sheet _ _ _ _ _ (l .r) (l .acts) (l .waiting) (l .inv .3 sheet K) (omega (arith, at-note .before .before .before .loop-test .taken, l .inv .1, start .pre .1 .1)) _ refl _ _ refl refl _ _ (acts sheet K) (waiting sheet K))
 
 same-length : tie.Need-same-length Inv-loop μ-loop
 same-length c = search needs
@@ -92,13 +71,7 @@ note-acts-spec =
     μ-loop
     clear-notes-requires
     loop-holds
-    working-does-requires
-    act-code-requires
-    put-note-requires
-    sent-code-requires
-    add-note-sender
-    cast-note-sender
-    note-sender-requires
+    note-act-requires
     add-r
     loop-less
     loop-again
