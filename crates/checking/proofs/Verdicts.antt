@@ -1,39 +1,18 @@
 -- The verdict on rows and on bytes: the refusal of the stages before, or that of the stage that follows.
-use mathlib.Core.Path.{_≡_, refl, sym, ap, ap₂}
+use mathlib.Core.Path.{_≡_, refl, sym, ap}
 use mathlib.Core.List.{List, [], _∷_}
 use mathlib.Core.Option.{Option, none, some}
-use Prim.Native.Nat.{ℕ, _*_, _≤_}
-use native.Mathlib.Omega.{arith}
+use Prim.Native.Nat.{ℕ, _≤_}
 use lib.IntN.{ℤ}
-use lib.ListN.{length, length-take}
 use Rattle.meaning.specs.PrintedForms.{Each, each-none, each-more}
 use Rattle.meaning.specs.Rows.{rowCount}
 use Rattle.meaning.specs.TableBytes.{Refusal, bytesFault, rowsOf, numbersFault}
 use Rattle.meaning.specs.Verdict.{formFault, treeFault, limitFault}
 use Rattle.meaning.specs.Usage.{usageFault}
 use Rattle.meaning.specs.Answers.{Stage, either, firstFault, check, checkBytes, verdictOf}
-use Rattle.meaning.specs.declared.Verdict.the-variants.{Accepted, Rejected}
-use Rattle.meaning.proofs.AnswerLaws.{none-found}
+use Rattle.meaning.specs.declared.Verdict.the-variants.{Rejected}
+use Rattle.meaning.proofs.AnswerLaws.{none-found, or-nothing}
 use Rattle.agreement.proofs.VerdictStages.{whole-passes}
-use Rattle.table.specs.TableRead.{tableRead}
-use Rattle.table.proofs.AcceptedRows.{count-read, rows-read}
-
--- what a verdict says of the refusal
-pub accepted-none : (o : Option Refusal) → Accepted ≡ verdictOf o → o ≡ none
-accepted-none none e = refl
-accepted-none (some f) e = absurd (let z : _≡_ {A = ℕ} 0 1 = cc in omega arith)
-
-pub rejected-some : (o : Option Refusal) (n p : ℕ) → Rejected n p ≡ verdictOf o → o ≡ some (n, p)
-rejected-some none n p e = absurd (let z : _≡_ {A = ℕ} 0 1 = cc in omega arith)
-rejected-some (some f) n p e =
-    let i : f .0 ≡ n = cc in
-    let j : f .1 ≡ p = cc in
-    ap₂ (λ (a b : ℕ). some (a, b)) i j
-
--- nothing is looked at after the last stage
-pub or-nothing : (o : Option Refusal) → either o none ≡ o
-or-nothing none = refl
-or-nothing (some f) = refl
 
 -- a fifth stage counts where four find nothing
 after-four : (a b c d e : Option Refusal) → either a (either b (either c (either d (either e none)))) ≡ either (either a (either b (either c (either d none)))) e
@@ -73,11 +52,3 @@ module _ (bytes : List ℕ) where
   pub rows-judged : bytesFault bytes ≡ none → verdictOf (check (rowsOf bytes)) ≡ verdictOf (checkBytes bytes)
   unfolding checkBytes firstFault
   rows-judged e = rw e (ap verdictOf (sym (or-nothing (check (rowsOf bytes)))))
-
-  -- the rows read are among the numbers that the code holds
-  pub rows-held : bytesFault bytes ≡ none → 4 * tableRead bytes .count ≤ length (tableRead bytes .rows)
-  rows-held e =
-      let t = tableRead bytes in
-      let k = count-read bytes e in
-      let l = ap length (rows-read bytes e) in
-      omega (arith, length-take (4 * t .count) (t .rows))

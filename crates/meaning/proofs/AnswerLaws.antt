@@ -1,15 +1,17 @@
 -- A refusal is that of the first stage that finds a fault; a table is accepted if every row is right in every stage.
-use mathlib.Core.Path.{_≡_, refl, sym, ap, _∙_}
+use mathlib.Core.Path.{_≡_, refl, sym, ap, ap₂, _∙_}
 use mathlib.Core.Logic.{_↔_}
 use mathlib.Core.List.{List, [], _∷_}
 use mathlib.Core.Option.{Option, none, some, Option·map, Option·none-ne-some, Option·some-ne-none}
 use Prim.Native.Nat.{ℕ, suc, _<_}
+use native.Mathlib.Omega.{arith}
 use lib.IntN.{ℤ}
+use Rattle.meaning.specs.declared.Verdict.the-variants.{Accepted, Rejected}
 use Rattle.meaning.specs.Rows.{rowCount, declarations}
 use Rattle.meaning.specs.TableBytes.{Refusal, numbersFault}
 use Rattle.meaning.specs.Verdict.{formFault, treeFault, limitFault}
 use Rattle.meaning.specs.Usage.{usageFault}
-use Rattle.meaning.specs.Answers.{Stage, either, firstFault, rowStages, check}
+use Rattle.meaning.specs.Answers.{Stage, either, firstFault, rowStages, check, verdictOf}
 use Rattle.meaning.specs.PrintedForms.{Each, each-none, each-more}
 use Rattle.meaning.specs.Faults.{LowestWrong, Finds, WellFormed, WellPlaced, WithinLimits, FormStage, TreeStage, LimitStage}
 use Rattle.meaning.proofs.FaultLaws.{form-stage, limit-stage}
@@ -86,3 +88,20 @@ accepted rows = (λ e. to (none-found rows rowStages e), λ h. found-none rows r
 
     from : RightRows rows → Each (λ (s : Stage (List ℤ)). s rows ≡ none) rowStages
     from h = each-more (h .0) (each-more (form .1 (h .1)) (each-more (tree .1 (h .2)) (each-more (limit .1 (h .3)) (each-more (h .4) each-none))))
+
+-- what a verdict says of the refusal
+pub accepted-none : (o : Option Refusal) → Accepted ≡ verdictOf o → o ≡ none
+accepted-none none e = refl
+accepted-none (some f) e = absurd (let z : _≡_ {A = ℕ} 0 1 = cc in omega arith)
+
+pub rejected-some : (o : Option Refusal) (n p : ℕ) → Rejected n p ≡ verdictOf o → o ≡ some (n, p)
+rejected-some none n p e = absurd (let z : _≡_ {A = ℕ} 0 1 = cc in omega arith)
+rejected-some (some f) n p e =
+    let i : f .0 ≡ n = cc in
+    let j : f .1 ≡ p = cc in
+    ap₂ (λ (a b : ℕ). some (a, b)) i j
+
+-- nothing is looked at after the last stage
+pub or-nothing : (o : Option Refusal) → either o none ≡ o
+or-nothing none = refl
+or-nothing (some f) = refl

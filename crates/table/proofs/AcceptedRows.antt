@@ -5,7 +5,7 @@ use mathlib.Core.Option.{Option, none}
 use Prim.Native.Nat.{ℕ, _*_, _/_, _≤_}
 use native.Mathlib.Omega.{arith}
 use lib.IntN.{ℤ}
-use lib.ListN.{length, take, length-append}
+use lib.ListN.{length, take, length-append, length-take}
 use lib.Seq.{take-at}
 use Rattle.meaning.specs.Basics.{concat}
 use Rattle.meaning.specs.TableBytes.{Refusal, bytesFault, rowsOf}
@@ -45,3 +45,11 @@ module _ (bytes : List ℕ) (e : bytesFault bytes ≡ none) where
   pub rows-read : take (4 * tableRead bytes .count) (tableRead bytes .rows) ≡ rowsOf bytes
   unfolding padded
   rows-read = rw (count-read, ap (λ r. r .rows) read-is) (take-at (rowsOf bytes) _ (length (rowsOf bytes)) refl)
+
+  -- and are among the numbers that the code holds
+  pub rows-held : 4 * tableRead bytes .count ≤ length (tableRead bytes .rows)
+  rows-held =
+      let t = tableRead bytes in
+      let k = count-read in
+      let l = ap length rows-read in
+      omega (arith, length-take (4 * t .count) (t .rows))

@@ -3,7 +3,8 @@ use mathlib.Core.Path.{_≡_, sym, _∙_}
 use mathlib.Core.Option.{none}
 use borrow.Author.Needs.{needs}
 use Rattle.meaning.specs.Answers.{firstFault}
-use Rattle.checking.proofs.Verdicts.{accepted-none, rejected-some, formStages, form-refused, form-limits, usage-judged}
+use Rattle.meaning.proofs.AnswerLaws.{accepted-none, rejected-some}
+use Rattle.checking.proofs.Verdicts.{formStages, form-refused, form-limits, usage-judged}
 use Rattle.checking.proofs.check_rows.Statement.{statement}
 use Rattle.checking.proofs.check_rows.Tie as tie
 

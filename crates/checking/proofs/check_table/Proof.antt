@@ -8,7 +8,9 @@ use lib.Seq.{length-take-le}
 use borrow.Author.Needs.{needs}
 use Rattle.meaning.specs.TableBytes.{bytesFault, rowsOf}
 use Rattle.table.proofs.AcceptedRows.{verdict-read, count-fits, rows-read}
-use Rattle.checking.proofs.Verdicts.{accepted-none, rejected-some, bytes-refused, rows-judged, rows-held}
+use Rattle.meaning.proofs.AnswerLaws.{accepted-none, rejected-some}
+use Rattle.table.proofs.AcceptedRows.{rows-held}
+use Rattle.checking.proofs.Verdicts.{bytes-refused, rows-judged}
 use Rattle.checking.proofs.check_table.Statement.{statement}
 use Rattle.checking.proofs.check_table.Tie as tie
 

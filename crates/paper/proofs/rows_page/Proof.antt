@@ -4,7 +4,7 @@ use borrow.Author.Needs.{needs}
 use Rattle.meaning.specs.Answers.{Result, check}
 use Rattle.meaning.specs.Runner.{printedResult}
 use Rattle.writing.specs.Writing.{printedIn}
-use Rattle.checking.proofs.Verdicts.{accepted-none, rejected-some}
+use Rattle.meaning.proofs.AnswerLaws.{accepted-none, rejected-some}
 use Rattle.paper.proofs.Stages.{rows-refused}
 use Rattle.paper.proofs.rows_page.Statement.{statement}
 use Rattle.paper.proofs.rows_page.Tie as tie

@@ -7,7 +7,7 @@ use Rattle.meaning.specs.Answers.{Result}
 use Rattle.meaning.specs.Runner.{printedResult}
 use Rattle.readings.proofs.KeptReadings.{verdict-read}
 use Rattle.writing.specs.Writing.{printedIn}
-use Rattle.checking.proofs.Verdicts.{accepted-none, rejected-some}
+use Rattle.meaning.proofs.AnswerLaws.{accepted-none, rejected-some}
 use Rattle.paper.proofs.Ranges.{run-short}
 use Rattle.paper.proofs.Stages.{sheet-refused, runs, read-kept}
 use Rattle.paper.proofs.sheet_page.Statement.{statement}

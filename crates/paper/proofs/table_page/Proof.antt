@@ -15,7 +15,8 @@ use Rattle.meaning.specs.Runner.{printedResult}
 use Rattle.table.proofs.AcceptedRows.{verdict-read, count-fits, rows-read}
 use Rattle.writing.specs.Writing.{printedIn}
 use Rattle.paper.specs.Pages.{taskOf, maxPage}
-use Rattle.checking.proofs.Verdicts.{accepted-none, rejected-some, rows-held}
+use Rattle.meaning.proofs.AnswerLaws.{accepted-none, rejected-some}
+use Rattle.table.proofs.AcceptedRows.{rows-held}
 use Rattle.paper.proofs.Ranges.{rows-in}
 use Rattle.paper.proofs.Stages.{bytes-refused, bytes-read}
 use Rattle.paper.proofs.table_page.Statement.{statement}

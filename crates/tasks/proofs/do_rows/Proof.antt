@@ -3,7 +3,7 @@ use mathlib.Core.Path.{sym, ap, _∙_}
 use borrow.Author.Needs.{needs}
 use Rattle.meaning.specs.Answers.{check, replyOf}
 use Rattle.machine.specs.Held.{blank}
-use Rattle.checking.proofs.Verdicts.{accepted-none, rejected-some}
+use Rattle.meaning.proofs.AnswerLaws.{accepted-none, rejected-some}
 use Rattle.tasks.proofs.Stages.{table-refused}
 use Rattle.tasks.proofs.do_rows.Statement.{statement}
 use Rattle.tasks.proofs.do_rows.Tie as tie

@@ -10,7 +10,8 @@ use Rattle.meaning.specs.TableBytes.{bytesFault, rowsOf}
 use Rattle.meaning.specs.Answers.{replyOf}
 use Rattle.machine.specs.Held.{blank}
 use Rattle.table.proofs.AcceptedRows.{verdict-read, count-fits, rows-read}
-use Rattle.checking.proofs.Verdicts.{accepted-none, rejected-some, rows-held}
+use Rattle.meaning.proofs.AnswerLaws.{accepted-none, rejected-some}
+use Rattle.table.proofs.AcceptedRows.{rows-held}
 use Rattle.tasks.proofs.Stages.{bytes-refused, rows-done}
 use Rattle.tasks.proofs.do_table.Statement.{statement}
 use Rattle.tasks.proofs.do_table.Tie as tie

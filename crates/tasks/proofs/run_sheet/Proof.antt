@@ -8,7 +8,7 @@ use Rattle.meaning.specs.Answers.{replyOf}
 use Rattle.machine.specs.Held.{blank}
 use Rattle.offers.specs.Held.{KeptReadings}
 use Rattle.readings.proofs.KeptReadings.{verdict-read}
-use Rattle.checking.proofs.Verdicts.{accepted-none, rejected-some}
+use Rattle.meaning.proofs.AnswerLaws.{accepted-none, rejected-some}
 use Rattle.checking.proofs.SheetKept.{sheet-kept, few-lines}
 use Rattle.tasks.proofs.Stages.{sheet-refused, budget-refused, task-run, held-reply}
 use Rattle.tasks.proofs.run_sheet.Statement.{statement}

@@ -5,7 +5,7 @@ use borrow.Author.Needs.{needs}
 use Rattle.meaning.specs.Sheet.{sheetFault}
 use Rattle.readings.proofs.KeptReadings.{verdict-read, lines-few}
 use Rattle.leaves.specs.Leaves.{sheetLent}
-use Rattle.leaves.proofs.Verdicts.{accepted-none}
+use Rattle.meaning.proofs.AnswerLaws.{accepted-none}
 use Rattle.leaves.proofs.SheetAnswers.{sheet-refused, sheet-accepted}
 use Rattle.leaves.proofs.sheets.leaf_sheet.Statement.{statement}
 use Rattle.leaves.proofs.sheets.leaf_sheet.Tie as tie

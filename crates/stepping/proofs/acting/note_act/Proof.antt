@@ -26,8 +26,10 @@ returns c =
     let s = at-state .before .before .before .before .before .before .before .before .before in
     let idle = idle-waits (s .args .rows .now) (s .args .r) (s .args .states .now) (at-state .state-at .ensures) (at-put .before .before .if1 .taken) in (
       λ sheet K. at-put .put-note .ensures ∙ ap (λ (d : Does). set (s .args .acts .now) (s .args .r) (actCode d)) (sym (idle sheet (s .args .values .now) (s .args .marks .now) (s .args .places .now) (s .args .counts .now))),
-      (λ sheet K. ap (λ (d : Does). noteSender (s .args .waiting .now) (sentCode d) (s .args .r + 1)) (sym (idle sheet (s .args .values .now) (s .args .marks .now) (s .args .places .now) (s .args .counts .now))),
-      (ap (λ (o : List ℕ). length o) (at-put .put-note .ensures) ∙ length-set (s .args .acts .now) (s .args .r) 0, refl)),
+      (
+        λ sheet K. ap (λ (d : Does). noteSender (s .args .waiting .now) (sentCode d) (s .args .r + 1)) (sym (idle sheet (s .args .values .now) (s .args .marks .now) (s .args .places .now) (s .args .counts .now))),
+        (ap (λ (o : List ℕ). length o) (at-put .put-note .ensures) ∙ length-set (s .args .acts .now) (s .args .r) 0, refl),
+      ),
     )
 
 working-does-requires : tie.Need-working-does-requires
@@ -66,8 +68,10 @@ returns-2 c =
     let at-does = at-act .before .before in
     let s = at-does .before .before .before .before .before .before .before .before .before .before .before in (
       λ sheet K. at-put .put-note2 .ensures ∙ ap (set (s .args .acts .now) (s .args .r)) (at-act .act-code .ensures ∙ ap actCode (at-does .working-does .ensures sheet K)),
-      (λ sheet K. at-note .note-sender .ensures ∙ ap (λ (n : ℕ). noteSender (s .args .waiting .now) n (s .args .r + 1)) (at-sent .sent-code .ensures ∙ ap sentCode (at-does .working-does .ensures sheet K)),
-      (ap (λ (o : List ℕ). length o) (at-put .put-note2 .ensures) ∙ length-set (s .args .acts .now) (s .args .r) (at-act .act-code .result), ap (λ (o : List ℕ). length o) (at-note .note-sender .ensures) ∙ sender-length (s .args .waiting .now) (at-sent .sent-code .result) (s .args .r + 1))),
+      (
+        λ sheet K. at-note .note-sender .ensures ∙ ap (λ (n : ℕ). noteSender (s .args .waiting .now) n (s .args .r + 1)) (at-sent .sent-code .ensures ∙ ap sentCode (at-does .working-does .ensures sheet K)),
+        (ap (λ (o : List ℕ). length o) (at-put .put-note2 .ensures) ∙ length-set (s .args .acts .now) (s .args .r) (at-act .act-code .result), ap (λ (o : List ℕ). length o) (at-note .note-sender .ensures) ∙ sender-length (s .args .waiting .now) (at-sent .sent-code .result) (s .args .r + 1)),
+      ),
     )
 
 pub note-act-spec : {M : Type 1} → statement M
