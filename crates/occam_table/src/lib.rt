@@ -1,4 +1,4 @@
-// The exported functions: a table's verdict, a run's answer with what it leaves in the lent buffers, a table's rows, and the strip of
+// The public entries, and the exported functions: a table's verdict, a run's answer with what it leaves in the lent buffers, a table's rows, and the strip of
 // an output channel. A slice is a pointer and a length.
 ghost use mathlib.Core.Path.{_≡_};
 ghost use Rattle.meaning.specs.Answers.{check, checkBytes, verdictOf, reply, replyToBytes};
@@ -6,6 +6,13 @@ ghost use Rattle.packing.specs.Packing.{verdictNumber};
 ghost use Rattle.occam_table.specs.Exports.{packed, stripNumber};
 ghost use Rattle.occam_table.specs.RowsLent.{rowsLent};
 use meaning::Verdict;
+
+// The public entries of Rattle callers: the verdict, the run, the strip of a host channel.
+pub use checking::check_rows;
+pub use checking::check_table;
+pub use entries::run_rows;
+pub use entries::run_table;
+pub use strips::strip;
 
 // The verdict on rows lent as numbers.
 #[no_mangle]
