@@ -1,4 +1,4 @@
--- Two ready steps with no row in common leave one another ready, and commute.
+-- A step leaves as it was what every other row at work would do; so two ready steps with no row in common leave one another ready, and commute.
 use mathlib.Core.Path.{_≡_, refl, sym, ap, ap₂, _∙_}
 use mathlib.Core.Logic.{_≢_}
 use mathlib.Core.Option.{some}
@@ -9,15 +9,15 @@ use Rattle.meaning.specs.State.{Store, State, Program, processAt, whole, Write,
 use Rattle.meaning.specs.Intent.{Sheet, openOffer, inputOffer, Intent, intent}
 use Rattle.meaning.specs.Ready.{Label, effectOf, intentAt}
 use Rattle.meaning.specs.Step.{Step}
-use Rattle.agreement.proofs.Commute.{At}
-use Rattle.agreement.proofs.Parts.{Part, Each, Differ, Cross, leap, leap-stays, leap-comm}
+use Rattle.agreement.proofs.Commute.{own, At}
+use Rattle.agreement.proofs.Parts.{Part, Differ, Cross, leap, leap-stays, leap-comm}
 use Rattle.agreement.proofs.Takeable.{takeable, DistinctOptions}
 use Rattle.agreement.proofs.Allowed.{allowed}
 use Rattle.agreement.proofs.Fit.{Apt, Fit}
 use Rattle.agreement.proofs.Near.{near}
 use Rattle.agreement.proofs.Proper.{AllOwned, offer-proper}
 use Rattle.agreement.proofs.Active.{RowOf, its, receiver, sender, chooser, selector, giver, offerAt-is, Active, acts-alone, passes-on, takes-open, takes-input, active, effect-same}
-use Rattle.agreement.proofs.Working.{acts, Inv, Works, works, works-proper, works-apart, frontier-does}
+use Rattle.agreement.proofs.Working.{acts, Inv, Works, works, works-at, works-proper, works-apart, frontier-does}
 use Rattle.agreement.proofs.Invariant.{partsOf, step-parts, settled-leaps}
 use Rattle.agreement.proofs.Writes.{AllBy, near-writes, writes-comm}
 
@@ -45,14 +45,14 @@ cross-of : (x y : Label) → RowsApart x y → (l m : List StateChange) → Made
 cross-of x y d [] m h g = tt
 cross-of x y d (c ∷ l) m h g = (differ-of x y d (c .by) (h .0) (record { b = c .by; x = c .at; v = c .become }) refl m g, cross-of x y d l m (h .1) g)
 
--- each row of a step makes one of its changes
-row-at : {w : ℕ → Intent} {x : Label} {e : Effect} (p : Process) (s : List ℕ) → Active w x e → (r : ℕ) → RowOf x r → Each p (partsOf (e .changes)) s → (y : ℕ) × ((v : ℕ) × At r y v s p)
-row-at p s (acts-alone {x = y} {v} h) r its k = (y, (v, k .0))
-row-at p s (passes-on h g) r receiver k = (r, (2, k .0))
-row-at p s (passes-on h g) r sender k = (r, (2, k .1 .0))
-row-at p s (takes-open {q} h g) r chooser k = (q, (1, k .0))
-row-at p s (takes-input {q} h g f) r selector k = (q, (1, k .0))
-row-at p s (takes-input h g f) r giver k = (r, (2, k .1 .0))
+-- a row that is none of a step's rows
+abbrev pub NoneOf : Label → ℕ → Type 0
+NoneOf x r = (q : ℕ) → RowOf x q → q ≢ r
+
+-- makes none of its changes
+cross-row : (x : Label) (r : ℕ) → NoneOf x r → (l : List StateChange) → MadeBy x l → Cross (partsOf l) (record { b = r; x = r; v = 2 } ∷ [])
+cross-row x r d [] h = tt
+cross-row x r d (c ∷ l) h = ((d (c .by) (h .0), tt), cross-row x r d l (h .1))
 
 module _ (P : Program) (n : ℕ) (F : Fit P n) (sheet : Sheet) where
   -- the actions of the rows of a step
@@ -97,22 +97,23 @@ module _ (P : Program) (n : ℕ) (F : Fit P n) (sheet : Sheet) where
     actions-apart : (x y : Label) → RowsApart x y → (k j : Action) → Of s x k → Of s y j → Apt k j
     actions-apart x y d k j (r, h, (A, e)) (q, g, (B, f)) = rw (← e, ← f) (works-apart P n F sheet s r q i A B (d r q h g))
 
-    -- a row of the second step would do the same after the first
-    does-same : {x y : Label} {e f : Effect} → Active (intentAt P sheet s) x e → Active (intentAt P sheet s) y f → RowsApart x y
-        → (q : ℕ) → RowOf y q → intentAt P sheet (settled P e s) q ≡ intentAt P sheet s q
-    does-same {x} {y} {e} {f} A B d q h =
-        let C = row-works s i B q h in
+    -- a row at work that is none of the step's rows stays at work
+    pub works-stays : {x : Label} {e : Effect} → Active (intentAt P sheet s) x e → (r : ℕ) → NoneOf x r → Works P n F sheet s r → At r r 2 (settled P e s .states) (whole P)
+    works-stays {x} {e} A r d C =
+        let (ea, pa) = step-parts P n F sheet s i A in
+        rw (settled-leaps P n F sheet e s)
+        (leap-stays (whole P) n (F .sound) (partsOf (e .changes)) (record { b = r; x = r; v = 2 } ∷ []) (s .states) (i .size) ea pa (works-at P n F sheet s r r 2 i C (own 0 refl refl), tt) (tt, tt)
+        (cross-row x r d (e .changes) (made-by A)) .0)
+
+    -- and would do the same after it
+    pub works-same : {x : Label} {e : Effect} → Active (intentAt P sheet s) x e → (r : ℕ) → NoneOf x r → Works P n F sheet s r → intentAt P sheet (settled P e s) r ≡ intentAt P sheet s r
+    works-same {x} {e} A r d C =
         let k = C .action in
         let t = settled P e s in
-        let (ea, pa) = step-parts P n F sheet s i A in
-        let (eb, pb) = step-parts P n F sheet s i B in
-        let stay = leap-stays (whole P) n (F .sound) (partsOf (e .changes)) (partsOf (f .changes)) (s .states) (i .size) ea pa eb pb (cross-of x y d (e .changes) (f .changes) (made-by A) (made-by B)) in
-        let each : Each (whole P) (partsOf (f .changes)) (t .states) = rw (settled-leaps P n F sheet e s) stay in
-        let (y′, (v, at)) = row-at (whole P) (t .states) B q h each in
-        let z : processAt P q ≡ node k q (C .members) = F .placed k q (C .members) (C .sub) in
-        let g = near (F .source) (F .sink) sheet (s .store) (writeAll (e .writes) (s .store)) k q (F .hosts k q (C .members) (C .sub))
-        (near-writes (F .source) (F .sink) (Of s x) k (λ j o. actions-apart x y d j k o (q, h, (C, refl))) (e .writes) (s .store) (writes-by s i A)) in
-        frontier-does P n F sheet t q y′ v at ∙ ap (λ (p : Process). intent sheet (actionOf p) q (t .store)) z ∙ ap (intent sheet k q) (store-of e s) ∙ sym g ∙ sym (C .does)
+        let z : processAt P r ≡ node k r (C .members) = F .placed k r (C .members) (C .sub) in
+        let g = near (F .source) (F .sink) sheet (s .store) (writeAll (e .writes) (s .store)) k r (F .hosts k r (C .members) (C .sub))
+        (near-writes (F .source) (F .sink) (Of s x) k (λ j (q, h, (B, f)). rw (← f) (works-apart P n F sheet s q r i B C (d q h))) (e .writes) (s .store) (writes-by s i A)) in
+        frontier-does P n F sheet t r r 2 (works-stays A r d C) ∙ ap (λ (p : Process). intent sheet (actionOf p) r (t .store)) z ∙ ap (intent sheet k r) (store-of e s) ∙ sym g ∙ sym (C .does)
 
     module _ (x y : Label) (e f : Effect) (qe : effectOf x (intentAt P sheet s) ≡ some e) (qf : effectOf y (intentAt P sheet s) ≡ some f) (d : RowsApart x y) where
       abbrev A : Active (intentAt P sheet s) x e
@@ -123,7 +124,7 @@ module _ (P : Program) (n : ℕ) (F : Fit P n) (sheet : Sheet) where
 
       -- the second step does the same after the first
       pub stays-ready : effectOf y (intentAt P sheet (settled P e s)) ≡ some f
-      stays-ready = effect-same y (intentAt P sheet (settled P e s)) (intentAt P sheet s) (λ q h. does-same A B d q h) ∙ qf
+      stays-ready = effect-same y (intentAt P sheet (settled P e s)) (intentAt P sheet s) (λ q h. works-same A q (λ p g. d p q g h) (row-works s i B q h)) ∙ qf
 
       -- the two, in either order, leave one state
       pub one-state : settled P f (settled P e s) ≡ settled P e (settled P f s)

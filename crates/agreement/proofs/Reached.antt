@@ -1,7 +1,7 @@
 -- In every state that an order reaches there is a state for each row; so the list of ready steps is what the rules allow, of every table.
 use mathlib.Core.Path.{_≡_, refl, ap, _∙_}
 use mathlib.Core.Bool.{true, false}
-use mathlib.Core.List.{List, [], _∷_, map}
+use mathlib.Core.List.{List, [], _∷_, _++_, map}
 use Prim.Native.Nat.{ℕ}
 use lib.IntN.{ℤ}
 use lib.ListN.{length, length-set, length-map}
@@ -17,6 +17,11 @@ use Rattle.agreement.proofs.Takeable.{takeable}
 use Rattle.meaning.specs.Order.{Order, halt, then, OrderOf}
 use Rattle.agreement.proofs.Claims.{ReadySteps}
 use Rattle.agreement.proofs.Steps.{distinct-options, ready-allowed, allowed-ready}
+
+-- an order with one step more at its end
+pub order-more : (P : Program) (sheet : Sheet) {s t u : State} {l : List Label} {x : Label} → Order P sheet s l t → Step P sheet t x u → Order P sheet s (l ++ (x ∷ [])) u
+order-more P sheet halt h = then h halt
+order-more P sheet (then k o) h = then k (order-more P sheet o h)
 
 pub length-marks : (l : List StateChange) (s : List ℕ) → length (changeStates l s) ≡ length s
 length-marks [] s = refl

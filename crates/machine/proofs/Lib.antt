@@ -14,5 +14,6 @@ pub mod HeldSteps
 pub mod NamesInRange
 pub mod IntentsInRange
 pub mod MachineSteps
+pub mod Unmoved
 pub mod RowStepExamples
 pub mod RowKinds

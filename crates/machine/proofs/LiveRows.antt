@@ -43,15 +43,15 @@ mutual
 
 -- ---- tests of idle rows
 
-both : (a b : Bool) → (a && b) ≡ true → (a ≡ true) × (b ≡ true)
+pub both : (a b : Bool) → (a && b) ≡ true → (a ≡ true) × (b ≡ true)
 both true b e = (refl, e)
 both false b e = absurd (false≢true e)
 
-idle-all : (l s : List ℕ) → allIdle l s ≡ true → Idle l s
+pub idle-all : (l s : List ℕ) → allIdle l s ≡ true → Idle l s
 idle-all (r ∷ l) s e b (List·Memᴰ·head q) = rw q (eqb-true (getD s r 0) 0 (both (eqb (getD s r 0) 0) (allIdle l s) e .0))
 idle-all (r ∷ l) s e b (List·Memᴰ·tail m) = idle-all l s (both (eqb (getD s r 0) 0) (allIdle l s) e .1) b m
 
-all-idle : (l s : List ℕ) → Idle l s → allIdle l s ≡ true
+pub all-idle : (l s : List ℕ) → Idle l s → allIdle l s ≡ true
 all-idle [] s h = refl
 all-idle (r ∷ l) s h = rw (h r (List·Memᴰ·head refl), all-idle l s (λ b m. h b (List·Memᴰ·tail m)))
 

@@ -3,14 +3,14 @@ mod operators; // operators.rt: the values of operators
 mod wide; // wide.rt: sums, products and quotients in 64 bits, and back to 32
 mod subscripts; // subscripts.rt: the place that a subscript means
 mod reading; // reading.rt: a field's number
-mod printing; // printing.rt: a number's digits
+mod numerals; // numerals.rt: a number's digits
 
+pub use numerals::decimal;
+pub use numerals::printed;
 pub use operators::decides;
 pub use operators::dyadic;
 pub use operators::is_true;
 pub use operators::monadic;
-pub use printing::decimal;
-pub use printing::printed;
 pub use reading::read_number;
 pub use subscripts::subscript;
 

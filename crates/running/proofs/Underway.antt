@@ -14,15 +14,15 @@ use borrow.Author.Tests.{lt-ltb, le-ltb}
 use Rattle.meaning.specs.declared.Outcome.{Outcome}
 use Rattle.meaning.specs.declared.Outcome.the-variants.{Spent}
 use Rattle.meaning.specs.Rows.{rowCount, root}
-use Rattle.meaning.specs.State.{State, Program, program, start}
+use Rattle.meaning.specs.State.{State, program, start}
 use Rattle.meaning.specs.Intent.{Sheet}
 use Rattle.meaning.specs.Ready.{Label, ready, after}
-use Rattle.meaning.specs.Step.{Step}
 use Rattle.meaning.specs.Run.{Result, chosenStep, go, run}
-use Rattle.meaning.specs.Order.{Order, halt, then}
+use Rattle.meaning.specs.Order.{halt}
 use Rattle.meaning.specs.Buffers.{Buffers}
 use Rattle.meaning.specs.Answers.{check}
 use Rattle.agreement.proofs.Steps.{ready-allowed}
+use Rattle.agreement.proofs.Reached.{order-more}
 use Rattle.offers.specs.Held.{KeptReadings}
 use Rattle.machine.specs.Held.{Holds}
 use Rattle.taking.specs.Stands.{StandsAt}
@@ -30,11 +30,6 @@ use Rattle.turns.specs.Turned.{turnFrom, Turned}
 use Rattle.running.specs.Ran.{restOutcome, Reached}
 use Rattle.running.proofs.Outcomes.{rest-is}
 use Rattle.running.proofs.Going.{goes-to-rest, goes-no-further, goes-on, chosen-first, chosen-ready}
-
--- an order with one step more at its end
-order-more : (P : Program) (sheet : Sheet) {s t u : State} {l : List Label} {x : Label} → Order P sheet s l t → Step P sheet t x u → Order P sheet s (l ++ (x ∷ [])) u
-order-more P sheet halt h = then h halt
-order-more P sheet (then k o) h = then k (order-more P sheet o h)
 
 -- the run has come to a state that the arrays hold, after n steps
 pub record Underway (rows : List ℤ) (sheet : Sheet) (readings : List ℤ) (given : List ℕ) (lines : ℕ) (choices : List ℕ) (budget n : ℕ) (b : Buffers) : Type 0 where

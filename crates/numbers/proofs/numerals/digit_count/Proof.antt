@@ -6,8 +6,8 @@ use native.Mathlib.Omega.{arith}
 use lib.ListN.{length}
 use Rattle.meaning.specs.Numerals.{decimal}
 use Rattle.numbers.proofs.Decimals.{one-digit-count, last-digit-count, ten-digits}
-use Rattle.numbers.proofs.printing.digit_count.Statement.{statement}
-use Rattle.numbers.proofs.printing.digit_count.Tie as tie
+use Rattle.numbers.proofs.numerals.digit_count.Statement.{statement}
+use Rattle.numbers.proofs.numerals.digit_count.Tie as tie
 
 abbrev Inv-loop : tie.InvT-loop
 Inv-loop n count₀ rest₀ count rest = count + length (decimal rest) ≡ 1 + length (decimal n)

@@ -6,8 +6,8 @@ use borrow.Author.Needs.{needs}
 use native.Mathlib.Omega.{arith}
 use lib.ListN.{length}
 use Rattle.numbers.proofs.Written.{Written, nothing-written, digit-before, one-written, all-written}
-use Rattle.numbers.proofs.printing.put_digits.Statement.{statement}
-use Rattle.numbers.proofs.printing.put_digits.Tie as tie
+use Rattle.numbers.proofs.numerals.put_digits.Statement.{statement}
+use Rattle.numbers.proofs.numerals.put_digits.Tie as tie
 
 abbrev Inv-loop : tie.InvT-loop
 Inv-loop end n out₀ at₀ rest₀ out at rest = Written out₀ end n out at rest

@@ -6,8 +6,8 @@ use Prim.Native.Nat.{ℕ, _+_}
 use Rattle.meaning.specs.Numerals.{decimal}
 use Rattle.numbers.proofs.Decimals.{ten-digits}
 use Rattle.numbers.proofs.Texts.{digits-after-minus}
-use Rattle.numbers.proofs.printing.with_minus.Statement.{statement}
-use Rattle.numbers.proofs.printing.with_minus.Tie as tie
+use Rattle.numbers.proofs.numerals.with_minus.Statement.{statement}
+use Rattle.numbers.proofs.numerals.with_minus.Tie as tie
 
 digit-count-requires : tie.Need-digit-count-requires
 digit-count-requires c κs = search needs

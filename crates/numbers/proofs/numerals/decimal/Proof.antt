@@ -4,8 +4,8 @@ use native.Mathlib.Omega.{arith}
 use Rattle.meaning.specs.Numerals as numerals
 use Rattle.numbers.proofs.Decimals.{ten-digits}
 use Rattle.numbers.proofs.Texts.{digits-alone}
-use Rattle.numbers.proofs.printing.decimal.Statement.{statement}
-use Rattle.numbers.proofs.printing.decimal.Tie as tie
+use Rattle.numbers.proofs.numerals.decimal.Statement.{statement}
+use Rattle.numbers.proofs.numerals.decimal.Tie as tie
 
 digit-count-requires : tie.Need-digit-count-requires
 digit-count-requires c κs = search needs

@@ -11,8 +11,8 @@ use Rattle.meaning.specs.Numerals.{decimal}
 use Rattle.numbers.specs.Printing.{textOf}
 use Rattle.numbers.proofs.Casts.{sign-test, to-32-bits, opposite-is, opposite-to-32-bits}
 use Rattle.numbers.proofs.Texts.{printed-negative, printed-natural}
-use Rattle.numbers.proofs.printing.printed.Statement.{statement}
-use Rattle.numbers.proofs.printing.printed.Tie as tie
+use Rattle.numbers.proofs.numerals.printed.Statement.{statement}
+use Rattle.numbers.proofs.numerals.printed.Tie as tie
 
 opposite-requires : tie.Need-opposite-requires
 opposite-requires c κs = search needs
