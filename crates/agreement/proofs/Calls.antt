@@ -144,7 +144,7 @@ set-or-not (some z) = (λ h. (refl, refl), λ e. absurd (omega arith))
 pub missing-answered : MissingAnswered
 missing-answered t b o n e =
     let a = run-answered t b o n e in
-    (a .labels, (a .end, a .order, a .steps-taken, cell a))
+    (a .labels, (a .end, a .order, a .chosen, a .steps-taken, a .left, cell a))
   where
     cell : (a : RanAs t b o n) (i : ℕ) → i < maxCells
         → let m = getD (reply t b .buffers .marks) i 0 in

@@ -75,7 +75,9 @@ pub record HandedTo (rows : List ℤ) (sheet : List ℕ) (l : List Label) (i : �
 -- input by a step of the order that the run took
 abbrev pub MissingAnswered : Type 0
 MissingAnswered = (t : Task) (b : Buffers) (outcome : Outcome) (steps : ℕ) → reply t b .answer ≡ Ran outcome steps
-    → (l : List Label) × ((s : State) × OrderOf (t .rows) (readings (t .rows) (t .sheet)) l s × (length l ≡ steps)
+    → (l : List Label) × ((s : State) × OrderOf (t .rows) (readings (t .rows) (t .sheet)) l s
+    × Chosen (program (t .rows)) (readings (t .rows) (t .sheet)) (start (program (t .rows))) (t .choices) l × (length l ≡ steps)
+    × (reply t b .buffers ≡ encode (t .rows) s b)
     × ((i : ℕ) → i < maxCells
     → let m = getD (reply t b .buffers .marks) i 0 in
     let z = getD (reply t b .buffers .cells) i (pos 0) in
