@@ -17,3 +17,8 @@ pub mod MachineSteps
 pub mod Unmoved
 pub mod RowStepExamples
 pub mod RowKinds
+pub mod Parents
+pub mod OneParent
+pub mod OneLevel
+pub mod Climbs
+pub mod Upwards

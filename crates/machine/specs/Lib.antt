@@ -1,2 +1,3 @@
 pub mod RowSteps
 pub mod Held
+pub mod Upward
