@@ -1,4 +1,5 @@
 pub mod ChangesMade
 pub mod Reasons
 pub mod StripStarts
+pub mod RowChanges
 pub mod StepChanges

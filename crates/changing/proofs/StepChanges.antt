@@ -1,18 +1,20 @@
--- Of an accepted table, in a state of an order that the arrays hold: the change of a row's step does to the arrays what the step does, and its numbers are small.
+-- Of an accepted table, in a state of an order that the arrays hold: the change of a row's step does to the arrays what the step does, its numbers are small, and its row states settle upward.
 use mathlib.Core.Path.{_≡_, refl, sym, ap, subst, _∙_}
+use mathlib.Core.Logic.{_⊎_}
 use mathlib.Core.Bool.{false}
 use mathlib.Core.Option.{Option, none, some, Option·map, Option·none-ne-some, Option·some-injective}
-use mathlib.Core.List.{List, [], _∷_, _++_}
+use mathlib.Core.List.{List, [], _∷_, _++_, List·Memᴰ}
 use Prim.Native.Nat.{ℕ, suc, _+_, _-_, _<_, _≤_}
 use native.Mathlib.Omega.{arith}
 use native.Mathlib.Decide.{decLt}
 use lib.IntN.{ℤ}
-use lib.ListN.{length, getD}
+use lib.ListN.{length, getD, set}
 use lib.Seq.{getD-append-seam}
 use borrow.Author.Tests.{ltb-true, eq-eqb, ne-eqb}
 use Rattle.meaning.specs.Rows.{rowCount, naturalAt}
 use Rattle.meaning.specs.Tree.{AltOption, actionOf}
-use Rattle.meaning.specs.State.{Message, State, program, processAt, Write, writeCell, writeOutput, Effect}
+use Rattle.meaning.specs.Settle.{settle}
+use Rattle.meaning.specs.State.{Message, State, program, processAt, whole, Write, writeCell, writeOutput, StateChange, changeStates, Effect}
 use Rattle.meaning.specs.Intent as meaning
 use Rattle.meaning.specs.Intent.{Sheet, openOffer, inputOffer, Intent, waits, moves, inputsFrom, outputsTo, selects, looks}
 use Rattle.meaning.specs.Ready.{Label, own, pass, take, takeFrom, effectOf, intentAt, after}
@@ -20,7 +22,7 @@ use Rattle.meaning.specs.Step as steps
 use Rattle.meaning.specs.Buffers.{Buffers}
 use Rattle.meaning.specs.Order.{OrderOf}
 use Rattle.meaning.specs.Answers.{check}
-use Rattle.agreement.proofs.Active.{offerAt, acts-alone, takes-open}
+use Rattle.agreement.proofs.Active.{offerAt, Active, acts-alone, takes-open, active}
 use Rattle.evaluation.specs.Cells.{cellOf, decoded}
 use Rattle.offers.specs.declared.Offer.{Offer}
 use Rattle.offers.specs.declared.Offer.the-variants.{Lacks, Nothing as Closed, Open, Reads as Read, Inputs}
@@ -31,13 +33,16 @@ use Rattle.intents.specs.declared.Does.{Does}
 use Rattle.intents.specs.declared.Does.the-variants.{Waits, Stops, Assigns, Ends, Starts, Reads, Writes, InputsFrom, OutputsTo, Selects}
 use Rattle.intents.specs.Stands.{optionsOf, standsFor}
 use Rattle.machine.specs.RowSteps.{altOf, ownStepBy, offerStep, optionStepBy, orElse, waitingAt, ownStep, optionStep, optionStepOf, stepAt}
-use Rattle.machine.specs.Held.{Holds, putCell, putPlace, putState, putOutput, putSettled, putWrites, putEffect, AllInRange}
+use Rattle.machine.specs.Held.{Holds, putCell, putPlace, putState, putOutput, putSettled, putWrites, putEffect, AllInRange, ChangesBelow}
+use Rattle.machine.specs.Upward.{changeUp, endUp, changesUp}
 use Rattle.machine.proofs.Declared.{capacities-length}
 use Rattle.machine.proofs.StepEffects.{own-effect, pass-effect, take-effect, takeFrom-effect}
-use Rattle.machine.proofs.MachineSteps.{writes-in, row-step-held}
+use Rattle.machine.proofs.MachineSteps.{writes-in, changes-below, row-step-held}
 use Rattle.machine.proofs.RowReady.{waiting-outputs, alt-is}
 use Rattle.machine.proofs.RowKinds.{option-kind, no-process, no-own-step}
+use Rattle.machine.proofs.Upwards.{held-upward}
 use Rattle.notes.specs.Marks.{rowNote}
+use Rattle.notes.specs.Changes.{endNoted}
 use Rattle.stepping.specs.Acts.{workingDoes, Noted}
 use Rattle.stepping.proofs.StepsNoted.{store-held, intent-noted, none-waits, waiting-is, offer-noted}
 use Rattle.changing.specs.declared.Data.{Data}
@@ -46,6 +51,7 @@ use Rattle.changing.specs.declared.Change.{Change}
 use Rattle.changing.specs.Changes.{numberSent, becomes, meets, meetingOf, ownChangeBy, ownChange, optionChangeBy, optionChange, changeOf, putData, putChange, DataFits}
 use Rattle.changing.proofs.Reasons.{Left, OfferKnown, DoesKnown, guard-known, working-known}
 use Rattle.changing.proofs.StripStarts.{strip-small}
+use Rattle.changing.proofs.RowChanges.{madeBy, both-made, made-states, made-up, made-within, made-rows}
 
 -- ---- a change in the arrays
 
@@ -87,6 +93,8 @@ module _ (rows : List ℤ) (ok : check rows ≡ none) (sheet : Sheet) (l : List 
     pub is-effect : effectOf x (intentAt (program rows) sheet s) ≡ some effect
     pub put : putEffect rows effect b ≡ putChange rows c b
     pub fits : DataFits rows (c .written) b
+    pub row : ℕ
+    pub changes-are : effect .changes ≡ madeBy row c
 
   -- ---- changes of data
 
@@ -147,7 +155,7 @@ module _ (rows : List ℤ) (ok : check rows ≡ none) (sheet : Sheet) (l : List 
   -- ---- the step of a row by itself
 
   moved : (j row state : ℕ) (ws : List Write) (d : Data) → W j ≡ moves row state ws → putWrites rows ws b ≡ putData rows d b → DataFits rows d b → Done (becomes row state d) (own j)
-  moved j row state ws d q p f = record { effect = _; is-effect = own-effect W j row state ws q; put = put-one rows b j row state ws d p; fits = f }
+  moved j row state ws d q p f = record { effect = _; is-effect = own-effect W j row state ws q; put = put-one rows b j row state ws d p; fits = f; row = j; changes-are = refl }
 
   abbrev ownBy : ℕ → Does → Change
   ownBy = ownChangeBy rows sheet (b .cells) (b .marks) (b .places) (b .counts) (b .states) waiting
@@ -161,6 +169,8 @@ module _ (rows : List ℤ) (ok : check rows ≡ none) (sheet : Sheet) (l : List 
         is-effect = pass-effect W j i e a (some (numberSent (does i))) q (sender-outputs e i p);
         put = put-both rows b j j 2 i a (numberSent (does i));
         fits = tt;
+        row = j;
+        changes-are = both-made j j 2 i a (numberSent (does i));
       }))
 
   own-done : (j : ℕ) (x : Label) (d : Does) → W j ≡ standsFor sheet (s .store) (options j) j d → DoesKnown sheet (decoded (b .cells) (b .marks)) (b .places) d
@@ -185,7 +195,7 @@ module _ (rows : List ℤ) (ok : check rows ≡ none) (sheet : Sheet) (l : List 
   optionBy j = optionChangeBy rows sheet (b .cells) (b .marks) (b .places) (b .counts) (b .states) waiting j (naturalAt rows j 1)
 
   opened : (r j i q : ℕ) (ws : List Write) (os : List meaning.Offer) (d : Data) → W r ≡ selects os → offerAt j os ≡ some (openOffer i q ws) → putWrites rows ws b ≡ putData rows d b → DataFits rows d b → Done (becomes q 1 d) (take r j)
-  opened r j i q ws os d p g e f = record { effect = _; is-effect = take-effect W r j i q ws os p g; put = put-one rows b r q 1 ws d e; fits = f }
+  opened r j i q ws os d p g e f = record { effect = _; is-effect = take-effect W r j i q ws os p g; put = put-one rows b r q 1 ws d e; fits = f; row = r; changes-are = refl }
 
   offer-done : (r j : ℕ) (x : Label) (os : List meaning.Offer) → W r ≡ selects os → (f : Offer) → OfferKnown sheet (decoded (b .cells) (b .marks)) (b .places) f
       → offerAt j os ≡ offerAt j (offersIn (lookedAs (s .store) (optionAt rows j) f)) → offerStep waiter r j (offerAt j os) ≡ some x → Done (optionBy j f) x
@@ -212,6 +222,8 @@ module _ (rows : List ℤ) (ok : check rows ≡ none) (sheet : Sheet) (l : List 
             is-effect = takeFrom-effect W r j i j (naturalAt rows j 1) n a (some (numberSent (does i))) os q p (sender-outputs n i v);
             put = put-both rows b r (naturalAt rows j 1) 1 i a (numberSent (does i));
             fits = tt;
+            row = r;
+            changes-are = both-made r (naturalAt rows j 1) 1 i a (numberSent (does i));
           }))
 
   option-done : (r j : ℕ) (x : Label) → altOf (program rows) j ≡ some r → (d : Does) → does r ≡ d → W r ≡ standsFor sheet (s .store) (options r) r d
@@ -253,6 +265,24 @@ module _ (rows : List ℤ) (ok : check rows ≡ none) (sheet : Sheet) (l : List 
           in
           rw (n ∙ ap rowNote q, ne-eqb (r + 1) 0 (λ z. absurd (omega arith))) (option-done r j x q (does r) refl (stands r) (ap (optionStepBy waiter r j) (sym (stands r)) ∙ e))
 
+  -- ---- what is known of a change that does what a step does
+
+  module _ (c : Change) (x : Label) (D : Done c x) where
+    is-active : Active (intentAt (program rows) sheet s) x (D .effect)
+    is-active = active (intentAt (program rows) sheet s) x (D .effect) (D .is-effect)
+
+    settles-up : settle (whole (program rows)) false (endNoted (set (b .states) (c .at) (c .next)) (c .sender)) ≡ endUp (program rows) (c .sender) (changeUp (program rows) (c .at) (c .next) (b .states))
+    settles-up =
+        ap (settle (whole (program rows)) false) (sym (made-states (D .row) c (b .states)) ∙ ap (λ (l : List StateChange). changeStates l (b .states)) (sym (D .changes-are)))
+        ∙ held-upward rows ok sheet l s o b h is-active
+        ∙ ap (λ (l : List StateChange). changesUp (program rows) l (b .states)) (D .changes-are) ∙ made-up (D .row) c (program rows) (b .states)
+
+    within : (c .at < rowCount rows) × (c .sender ≤ rowCount rows)
+    within = made-within (D .row) c (rowCount rows) (subst (ChangesBelow (rowCount rows)) (D .changes-are) (changes-below rows ok sheet l s o is-active))
+
+    made-themselves : (e : Effect) → effectOf x (intentAt (program rows) sheet s) ≡ some e → (m : StateChange) → List·Memᴰ m (e .changes) → (m .at ≡ c .at) ⊎ ((c .sender ≡ 0 → ⊥) × (m .at ≡ c .sender - 1))
+    made-themselves e q m k = made-rows (D .row) c m (subst (λ (l : List StateChange). List·Memᴰ m l) (sym (ap (λ (f : Effect). f .changes) (Option·some-injective (D .effect) e (sym (D .is-effect) ∙ q))) ∙ D .changes-are) k)
+
   module _ (j : ℕ) (x : Label) (n : getD owners j 0 ≡ rowNote (altOf (program rows) j)) (g : stepAt (program rows) sheet s j ≡ some x) where
     -- after the change the arrays hold the state that the step leaves
     pub change-held : Holds rows (after (program rows) sheet x s) (putChange rows (changeOf rows sheet (b .cells) (b .marks) (b .places) (b .counts) (b .states) owners waiting j) b)
@@ -264,3 +294,18 @@ module _ (rows : List ℤ) (ok : check rows ≡ none) (sheet : Sheet) (l : List 
     -- and the numbers that it adds to are small
     pub change-fits : DataFits rows (changeOf rows sheet (b .cells) (b .marks) (b .places) (b .counts) (b .states) owners waiting j .written) b
     change-fits = step-done j x n g .fits
+
+    -- its row states settle upward, from the changed row and then from the sender that ends
+    pub change-up : settle (whole (program rows)) false (endNoted (set (b .states) (changeOf rows sheet (b .cells) (b .marks) (b .places) (b .counts) (b .states) owners waiting j .at) (changeOf rows sheet (b .cells) (b .marks) (b .places) (b .counts) (b .states) owners waiting j .next)) (changeOf rows sheet (b .cells) (b .marks) (b .places) (b .counts) (b .states) owners waiting j .sender))
+        ≡ endUp (program rows) (changeOf rows sheet (b .cells) (b .marks) (b .places) (b .counts) (b .states) owners waiting j .sender) (changeUp (program rows) (changeOf rows sheet (b .cells) (b .marks) (b .places) (b .counts) (b .states) owners waiting j .at) (changeOf rows sheet (b .cells) (b .marks) (b .places) (b .counts) (b .states) owners waiting j .next) (b .states))
+    change-up = settles-up (changeOf rows sheet (b .cells) (b .marks) (b .places) (b .counts) (b .states) owners waiting j) x (step-done j x n g)
+
+    -- the rows that it changes are rows of the table
+    pub change-within : (changeOf rows sheet (b .cells) (b .marks) (b .places) (b .counts) (b .states) owners waiting j .at < rowCount rows) × (changeOf rows sheet (b .cells) (b .marks) (b .places) (b .counts) (b .states) owners waiting j .sender ≤ rowCount rows)
+    change-within = within (changeOf rows sheet (b .cells) (b .marks) (b .places) (b .counts) (b .states) owners waiting j) x (step-done j x n g)
+
+    -- and they are the rows that the step changes itself
+    pub change-made : (e : Effect) → effectOf x (intentAt (program rows) sheet s) ≡ some e → (m : StateChange) → List·Memᴰ m (e .changes)
+        → (m .at ≡ changeOf rows sheet (b .cells) (b .marks) (b .places) (b .counts) (b .states) owners waiting j .at)
+        ⊎ ((changeOf rows sheet (b .cells) (b .marks) (b .places) (b .counts) (b .states) owners waiting j .sender ≡ 0 → ⊥) × (m .at ≡ changeOf rows sheet (b .cells) (b .marks) (b .places) (b .counts) (b .states) owners waiting j .sender - 1))
+    change-made = made-themselves (changeOf rows sheet (b .cells) (b .marks) (b .places) (b .counts) (b .states) owners waiting j) x (step-done j x n g)

@@ -3,6 +3,7 @@ pub mod Entering
 pub mod Tests
 pub mod Idling
 pub mod Walks
+pub mod Recording
 pub mod Roots
 pub mod RowsBelow
 pub mod Longer

@@ -1,3 +1,4 @@
 pub mod Members
 pub mod Shapes
 pub mod States
+pub mod Touched

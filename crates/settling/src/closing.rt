@@ -5,13 +5,14 @@ ghost use Rattle.meaning.specs.Rows.{ifElse};
 ghost use Rattle.meaning.specs.Tree.{partAt, rowsBeneath};
 ghost use Rattle.meaning.specs.Settle.{statesOf, isEnded, allOf, anyOf, complete, makeIdle, byStep};
 ghost use Rattle.settling.specs.Members.{modeOf, isOver, alone};
+ghost use Rattle.settling.specs.Touched.{Records};
 use crate::reset::make_idle;
 use crate::shape::Mode;
 use crate::shape::Shape;
 use crate::shape::is_process;
 use crate::shape::shape_at;
-use crate::states::put;
 use crate::states::state_at;
+use crate::touched::change;
 
 // Whether the process of row p, if there is one, has ended, or is idle where that will do.
 pub fn is_over<'a>(rows: &'a [i32], p: usize, idle: bool, states: &'a [u8]) -> bool
@@ -94,19 +95,28 @@ pub fn closes<'a>(rows: &'a [i32], m: usize, mode: Mode, states: &'a [u8]) -> bo
 }
 
 // Row r ends if its members, from link m on, close it.
-pub fn finish(rows: &[i32], r: usize, m: usize, mode: Mode, states: &mut [u8])
-    ensures { λ _. ⌜ now (states .exit) ≡ ifElse (complete (modeOf mode) (statesOf (partAt (now (rows .entry)) m .members) (now (states .entry)))) (set (now (states .entry)) r 2) (now (states .entry)) ⌝ }
+pub fn finish(
+    rows: &[i32],
+    r: usize,
+    m: usize,
+    mode: Mode,
+    states: &mut [u8],
+    touched: &mut [usize],
+)
+    ensures closed { λ _. ⌜ now (states .exit) ≡ ifElse (complete (modeOf mode) (statesOf (partAt (now (rows .entry)) m .members) (now (states .entry)))) (set (now (states .entry)) r 2) (now (states .entry)) ⌝ }
+    ensures records { λ _. ⌜ Records (now (states .entry)) (now (states .exit)) (now (touched .entry)) (now (touched .exit)) ⌝ }
 {
     if closes(rows, m, mode, &states[..]) {
-        put(states, r, 2);
+        change(states, touched, r, 2);
     }
 }
 
 // Every row beneath a WHILE becomes idle if its body, of row b, has ended.
-pub fn restart(rows: &[i32], b: usize, states: &mut [u8])
-    ensures { λ _. ⌜ now (states .exit) ≡ ifElse (complete byStep (statesOf (alone (partAt (now (rows .entry)) b .process)) (now (states .entry)))) (makeIdle (rowsBeneath (alone (partAt (now (rows .entry)) b .process))) (now (states .entry))) (now (states .entry)) ⌝ }
+pub fn restart(rows: &[i32], b: usize, states: &mut [u8], touched: &mut [usize])
+    ensures restarted { λ _. ⌜ now (states .exit) ≡ ifElse (complete byStep (statesOf (alone (partAt (now (rows .entry)) b .process)) (now (states .entry)))) (makeIdle (rowsBeneath (alone (partAt (now (rows .entry)) b .process))) (now (states .entry))) (now (states .entry)) ⌝ }
+    ensures records { λ _. ⌜ Records (now (states .entry)) (now (states .exit)) (now (touched .entry)) (now (touched .exit)) ⌝ }
 {
     if has_ended(rows, b, &states[..]) {
-        make_idle(rows, b, states);
+        make_idle(rows, b, states, touched);
     }
 }

@@ -3,23 +3,25 @@ ghost use mathlib.Core.Path.{_≡_};
 ghost use Rattle.meaning.specs.Tree.{partAt, rowsBeneath};
 ghost use Rattle.meaning.specs.Settle.{makeIdle};
 ghost use Rattle.settling.specs.Members.{alone};
+ghost use Rattle.settling.specs.Touched.{Records};
 use crate::shape::Shape;
 use crate::shape::shape_at;
-use crate::states::put;
+use crate::touched::change;
 
 // Every row of the process of row r, if there is one, becomes idle.
-pub fn make_idle(rows: &[i32], r: usize, states: &mut [u8])
-    ensures { λ _. ⌜ now (states .exit) ≡ makeIdle (rowsBeneath (alone (partAt (now (rows .entry)) r .process))) (now (states .entry)) ⌝ }
+pub fn make_idle(rows: &[i32], r: usize, states: &mut [u8], touched: &mut [usize])
+    ensures reset { λ _. ⌜ now (states .exit) ≡ makeIdle (rowsBeneath (alone (partAt (now (rows .entry)) r .process))) (now (states .entry)) ⌝ }
+    ensures records { λ _. ⌜ Records (now (states .entry)) (now (states .exit)) (now (touched .entry)) (now (touched .exit)) ⌝ }
 {
     let s = shape_at(rows, r);
     match s {
         Shape::Ending(_, first) => {
-            put(states, r, 0);
-            make_members_idle(rows, first, states);
+            change(states, touched, r, 0);
+            make_members_idle(rows, first, states, touched);
         }
         Shape::Repeating(body) => {
-            put(states, r, 0);
-            make_idle(rows, body, states);
+            change(states, touched, r, 0);
+            make_idle(rows, body, states, touched);
         }
         Shape::Link(_, _) => {}
         Shape::Neither => {}
@@ -27,16 +29,17 @@ pub fn make_idle(rows: &[i32], r: usize, states: &mut [u8])
 }
 
 // Every row of the members from link m on becomes idle.
-fn make_members_idle(rows: &[i32], m: usize, states: &mut [u8])
-    ensures { λ _. ⌜ now (states .exit) ≡ makeIdle (rowsBeneath (partAt (now (rows .entry)) m .members)) (now (states .entry)) ⌝ }
+fn make_members_idle(rows: &[i32], m: usize, states: &mut [u8], touched: &mut [usize])
+    ensures reset { λ _. ⌜ now (states .exit) ≡ makeIdle (rowsBeneath (partAt (now (rows .entry)) m .members)) (now (states .entry)) ⌝ }
+    ensures records { λ _. ⌜ Records (now (states .entry)) (now (states .exit)) (now (touched .entry)) (now (touched .exit)) ⌝ }
 {
     let s = shape_at(rows, m);
     match s {
         Shape::Ending(_, _) => {}
         Shape::Repeating(_) => {}
         Shape::Link(p, next) => {
-            make_idle(rows, p, states);
-            make_members_idle(rows, next, states);
+            make_idle(rows, p, states, touched);
+            make_members_idle(rows, next, states, touched);
         }
         Shape::Neither => {}
     }

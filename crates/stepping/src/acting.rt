@@ -58,7 +58,7 @@ pub fn input_code(e: usize) -> u16
 }
 
 // The number of what a row would do.
-fn act_code(d: Does) -> u16
+pub fn act_code(d: Does) -> u16
     ensures { λ n. ⌜ n ≡ actCode d ⌝ }
 {
     match d {
@@ -76,7 +76,7 @@ fn act_code(d: Does) -> u16
 }
 
 // One more than the element that a row would output to, 0 where there is none.
-fn sent_code(d: Does) -> u16
+pub fn sent_code(d: Does) -> u16
     ensures { λ n. ⌜ n ≡ sentCode d ⌝ }
 {
     match d {

@@ -49,7 +49,7 @@ fn offer_code(o: Offer) -> u16
 }
 
 // Whether row j has a step: an option of an ALT that looks at its options, else the row by itself.
-fn has_step<'a>(
+pub fn has_step<'a>(
     rows: &'a [i32],
     names: &'a [u16],
     values: &'a [i32],

@@ -1,10 +1,8 @@
 -- `start` meets its contract: those of `clear` and `settle_from`, with STOP where there is no process.
-use mathlib.Core.List.{List}
-use mathlib.Core.Path.{sym, ap, _∙_}
-use Prim.Native.Nat.{ℕ}
-use lib.ListN.{length, set}
+use mathlib.Core.Path.{sym, _∙_}
+use lib.ListN.{length}
 use borrow.Author.Needs.{needs}
-use Rattle.settling.proofs.Roots.{root-starts, no-root-starts}
+use Rattle.settling.proofs.Roots.{root-started, no-root-started}
 use Rattle.settling.proofs.start.Statement.{statement}
 use Rattle.settling.proofs.start.Tie as tie
 
@@ -13,6 +11,9 @@ clear-requires c κs = search needs
 
 is-process-requires : tie.Need-is-process-requires
 is-process-requires c κs = search needs
+
+slice-aggregate-settle-from : tie.Need-slice-aggregate-settle-from
+slice-aggregate-settle-from c = search needs
 
 settle-from-requires : tie.Need-settle-from-requires
 settle-from-requires c κs = search needs
@@ -25,12 +26,12 @@ same-length c = search needs
 
 returns : tie.Need-returns
 returns c =
-    let at-settle-from = c .before .before in
-    let at-if1 = at-settle-from .before .before in
+    let at-settle-from = c .before .before .before in
+    let at-if1 = at-settle-from .before .before .before in
     let at-is-process = at-if1 .before in
     let at-clear = at-is-process .before .before .before in
     let args = at-clear .before .before .before .args in
-    rw (← at-clear .clear .ensures) (at-settle-from .settle-from .ensures ∙ root-starts (args .rows .now) (args .root) (at-clear .clear .last .0) (sym (at-if1 .if1 .taken) ∙ at-is-process .is-process .ensures))
+    root-started (args .rows .now) (args .root) (length (args .states .now)) (sym (at-if1 .if1 .taken) ∙ at-is-process .is-process .ensures) (at-clear .clear .ensures) (at-settle-from .settle-from .ensures .0)
 
 same-length-2 : tie.Need-same-length-2
 same-length-2 c = search needs
@@ -42,7 +43,7 @@ returns-2 c =
     let at-is-process = at-if1 .before in
     let at-clear = at-is-process .before .before .before in
     let args = at-clear .before .before .before .args in
-    at-put .put .ensures ∙ ap (λ (s : List ℕ). set s 0 1) (at-clear .clear .ensures) ∙ no-root-starts (args .rows .now) (args .root) (length (args .states .now)) (sym (at-if1 .if1 .left) ∙ at-is-process .is-process .ensures)
+    no-root-started (args .rows .now) (args .root) (length (args .states .now)) (sym (at-if1 .if1 .left) ∙ at-is-process .is-process .ensures) (at-clear .clear .ensures) (at-put .put .ensures)
 
 pub start-spec : {M : Type 1} → statement M
 start-spec =
@@ -50,6 +51,7 @@ start-spec =
     (tie.spec
     clear-requires
     is-process-requires
+    slice-aggregate-settle-from
     settle-from-requires
     put-requires
     same-length

@@ -1,0 +1,62 @@
+-- A process goes on after its member, as the code does it, by what stands at its row.
+use mathlib.Core.Path.{_≡_, refl, sym, ap, subst, _∙_}
+use mathlib.Core.Bool.{Bool, true, false}
+use mathlib.Core.Option.{Option, none, some}
+use mathlib.Core.List.{List, [], List·Memᴰ, List·Memᴰ·not-nil}
+use Prim.Native.Nat.{ℕ}
+use native.Mathlib.Omega.{arith}
+use lib.IntN.{ℤ}
+use lib.ListN.{set}
+use Rattle.meaning.specs.Basics.{ifElse}
+use Rattle.meaning.specs.Tree.{Process, partAt, orStop, actionOf, membersIn, rowsBeneath}
+use Rattle.meaning.specs.Settle.{inTurn, together, mode, complete, endsWhenClosed, closing, makeIdle, statesOf, settleMembers}
+use Rattle.meaning.specs.State.{program, processAt}
+use Rattle.agreement.proofs.TableTree.{process-is}
+use Rattle.machine.specs.Upward.{memberRows, membersAfter, parentOf, goesOn, goesOnAt}
+use Rattle.machine.proofs.Upwards.{parent-has}
+use Rattle.settling.specs.declared.shape.Mode.the-variants.{InTurn, Together, ByStep}
+use Rattle.settling.specs.Members.{alone}
+use Rattle.settling.proofs.Standing.{EndingAt, RepeatingAt}
+
+-- a process that ends when it closes
+closing-ends : (c : Bool) (q : ℕ) (rs t : List ℕ) → ifElse c (set t q 2) t ≡ closing c true q rs t
+closing-ends true q rs t = refl
+closing-ends false q rs t = refl
+
+module _ (rows : List ℤ) (q r : ℕ) (s : List ℕ) where
+  -- the process of row q, where there is one
+  stands-there : {p : Process} → partAt rows q .process ≡ some p → p ≡ processAt (program rows) q
+  stands-there e = sym (process-is rows q ∙ ap orStop e)
+
+  -- goesOnAt, of the process of row q
+  of-process : {p : Process} {w : List ℕ} → partAt rows q .process ≡ some p → w ≡ goesOn (mode (actionOf p)) (endsWhenClosed (actionOf p)) q r (membersIn p) s → w ≡ goesOnAt (program rows) q r s
+  of-process {p} {w} e h = subst (λ (p : Process). w ≡ goesOn (mode (actionOf p)) (endsWhenClosed (actionOf p)) q r (membersIn p) s) (stands-there e) h
+
+  -- a SEQ: the members after this one, in turn
+  pub in-turn-goes-on : (n : ℕ) {f : ℕ} {t w : List ℕ} → EndingAt rows q InTurn f → partAt rows n .members ≡ membersAfter r (membersIn (processAt (program rows) q))
+      → t ≡ settleMembers (partAt rows n .members) inTurn s → w ≡ ifElse (complete inTurn (statesOf (partAt rows n .members) t)) (set t q 2) t → w ≡ goesOnAt (program rows) q r s
+  in-turn-goes-on n {f} {t} {w} h a e k =
+      let ms = partAt rows n .members in
+      let m : ms ≡ membersAfter r (partAt rows f .members) = a ∙ ap (λ (p : Process). membersAfter r (membersIn p)) (sym (stands-there (h .process-is))) in
+      of-process (h .process-is) (rw (h .mode-is, ← m, ← e) (k ∙ closing-ends (complete inTurn (statesOf ms t)) q [] t))
+
+  -- a PAR: all its members
+  pub together-goes-on : {f : ℕ} {w : List ℕ} → EndingAt rows q Together f → w ≡ ifElse (complete together (statesOf (partAt rows f .members) s)) (set s q 2) s → w ≡ goesOnAt (program rows) q r s
+  together-goes-on {f} h k = of-process (h .process-is) (rw (h .mode-is) (k ∙ closing-ends (complete together (statesOf (partAt rows f .members) s)) q [] s))
+
+  -- an IF or ALT ends
+  pub by-step-goes-on : {f : ℕ} {w : List ℕ} → EndingAt rows q ByStep f → w ≡ set s q 2 → w ≡ goesOnAt (program rows) q r s
+  by-step-goes-on h k = of-process (h .process-is) (rw (h .mode-is, h .ends) k)
+
+  -- every row beneath a WHILE becomes idle
+  pub repeating-goes-on : {b : ℕ} {w : List ℕ} → RepeatingAt rows q b → w ≡ makeIdle (rowsBeneath (alone (partAt rows b .process))) s → w ≡ goesOnAt (program rows) q r s
+  repeating-goes-on h k = of-process (h .process-is) k
+
+module _ (rows : List ℤ) (q r : ℕ) where
+  no-members : (o : Option Process) → o ≡ none → List·Memᴰ r (memberRows (membersIn (orStop o))) → ⊥
+  no-members none e m = List·Memᴰ·not-nil m
+  no-members (some p) e m = let z : _≡_ {A = ℕ} 0 1 = cc in omega arith
+
+  -- a row that is no process has no member
+  pub no-parent : partAt rows q .process ≡ none → parentOf (program rows) r ≡ some q → ⊥
+  no-parent e i = no-members (partAt rows q .process) e (subst (λ (p : Process). List·Memᴰ r (memberRows (membersIn p))) (process-is rows q) (parent-has (program rows) r q i .1))

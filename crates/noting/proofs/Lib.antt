@@ -1,0 +1,2 @@
+pub mod RowCodes
+pub mod Filling

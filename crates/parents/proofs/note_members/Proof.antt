@@ -1,0 +1,146 @@
+-- `note_members` meets its contract. The invariant: what notes the members from t on notes those from m on.
+use mathlib.Core.Path.{_≡_, refl}
+use mathlib.Core.List.{List}
+use Prim.Native.Nat.{ℕ, _-_}
+use lib.IntN.{ℤ}
+use lib.ListN.{length}
+use borrow.Author.Needs.{needs}
+use Rattle.meaning.specs.Rows.{rowCount}
+use Rattle.meaning.specs.Tree.{empty, partAt}
+use Rattle.settling.proofs.Standing.{found}
+use Rattle.parents.specs.Parents.{MembersNoted}
+use Rattle.parents.proofs.MemberNotes.{none-past, no-members-noted, link-noted}
+use Rattle.parents.proofs.note_members.Statement.{statement}
+use Rattle.parents.proofs.note_members.Tie as tie
+
+abbrev Inv-loop : tie.InvT-loop
+Inv-loop rows m note parents₀ nexts₀ t₀ parents nexts t =
+    (length parents ≡ length parents₀)
+    × (length nexts ≡ length nexts₀)
+    × ((p n : List ℕ) → MembersNoted rows (partAt rows t .members) note parents nexts p n → MembersNoted rows (partAt rows m .members) note parents₀ nexts₀ p n)
+
+abbrev μ-loop : tie.MeasureT-loop
+μ-loop rows m note parents₀ nexts₀ t₀ parents nexts t = rowCount rows - t
+
+-- at the head of the loop
+module _ (c : tie.At-loop Inv-loop μ-loop) where
+  abbrev rows : List ℤ
+  rows = c .before .before .before .args .rows .now
+
+  abbrev note : ℕ
+  note = c .before .before .before .args .note
+
+  -- from t on there are no members: what is noted by now is all
+  no-more : partAt rows (c .loop .t) .members ≡ empty → MembersNoted rows (partAt rows (c .before .before .before .args .m) .members) note (c .before .before .before .args .parents .now) (c .before .before .before .args .nexts .now) (c .loop .parents) (c .loop .nexts)
+  no-more e = c .loop .inv .2 (c .loop .parents) (c .loop .nexts) (no-members-noted rows (partAt rows (c .loop .t) .members) note (c .loop .parents) (c .loop .nexts) e)
+
+loop-holds : tie.Need-loop-holds Inv-loop μ-loop
+loop-holds c = (refl, refl, λ p n h. h)
+
+shape-at-requires : tie.Need-shape-at-requires Inv-loop μ-loop
+shape-at-requires c κs = search needs
+
+enum-told : tie.Need-enum-told Inv-loop μ-loop
+enum-told c = search needs
+
+same-length : tie.Need-same-length Inv-loop μ-loop
+same-length c = search needs
+
+same-length-2 : tie.Need-same-length-2 Inv-loop μ-loop
+same-length-2 c = search needs
+
+returns : tie.Need-returns Inv-loop μ-loop
+returns c =
+    let at-shape = c .before .before in
+    let at-loop = at-shape .before .before in
+    no-more at-loop ((found (rows at-loop) (at-loop .loop .t) (at-shape .shape-at .ensures) (c .enum-told .given .1)) .no-members)
+
+enum-told-2 : tie.Need-enum-told-2 Inv-loop μ-loop
+enum-told-2 c = search needs
+
+same-length-3 : tie.Need-same-length-3 Inv-loop μ-loop
+same-length-3 c = search needs
+
+same-length-4 : tie.Need-same-length-4 Inv-loop μ-loop
+same-length-4 c = search needs
+
+returns-2 : tie.Need-returns-2 Inv-loop μ-loop
+returns-2 c =
+    let at-shape = c .before .before in
+    let at-loop = at-shape .before .before in
+    no-more at-loop ((found (rows at-loop) (at-loop .loop .t) (at-shape .shape-at .ensures) (c .enum-told2 .given .1)) .no-members)
+
+enum-known-s : tie.Need-enum-known-s Inv-loop μ-loop
+enum-known-s c = search needs
+
+note-member-requires : tie.Need-note-member-requires Inv-loop μ-loop
+note-member-requires c κs = search needs
+
+loop-less : tie.Need-loop-less Inv-loop μ-loop
+loop-less c =
+    let at-s = c .before .before .before .before .before .before .before .before in
+    let at-shape = at-s .before .before in
+    let at-loop = at-shape .before .before in
+    (found (rows at-loop) (at-loop .loop .t) (at-shape .shape-at .ensures) (at-s .s .given .1)) .fewer-next
+
+loop-again : tie.Need-loop-again Inv-loop μ-loop
+loop-again c =
+    let at-note = c .before .before .before .before in
+    let at-s = at-note .before .before .before .before in
+    let at-shape = at-s .before .before in
+    let at-loop = at-shape .before .before in
+    let l = at-loop .loop in
+    let link = found (rows at-loop) (l .t) (at-shape .shape-at .ensures) (at-s .s .given .1) in
+    (search needs, search needs, λ p n h. l .inv .2 p n (link-noted (rows at-loop) (note at-loop) (at-loop .before .before .before .pre .1 .1) (l .parents) (l .nexts) _ _ p n link (at-note .note-member .ensures) h))
+
+enum-told-3 : tie.Need-enum-told-3 Inv-loop μ-loop
+enum-told-3 c = search needs
+
+same-length-5 : tie.Need-same-length-5 Inv-loop μ-loop
+same-length-5 c = search needs
+
+same-length-6 : tie.Need-same-length-6 Inv-loop μ-loop
+same-length-6 c = search needs
+
+returns-3 : tie.Need-returns-3 Inv-loop μ-loop
+returns-3 c =
+    let at-shape = c .before .before in
+    let at-loop = at-shape .before .before in
+    no-more at-loop ((found (rows at-loop) (at-loop .loop .t) (at-shape .shape-at .ensures) (c .enum-told3 .given .1)) .no-members)
+
+same-length-7 : tie.Need-same-length-7 Inv-loop μ-loop
+same-length-7 c = search needs
+
+same-length-8 : tie.Need-same-length-8 Inv-loop μ-loop
+same-length-8 c = search needs
+
+returns-4 : tie.Need-returns-4 Inv-loop μ-loop
+returns-4 c = no-more (c .before) (none-past (rows (c .before)) (c .before .loop .t) (c .loop-test .left))
+
+pub note-members-spec : {M : Type 1} → statement M
+note-members-spec =
+    tie.close
+    (tie.spec
+    Inv-loop
+    μ-loop
+    loop-holds
+    shape-at-requires
+    enum-told
+    same-length
+    same-length-2
+    returns
+    enum-told-2
+    same-length-3
+    same-length-4
+    returns-2
+    enum-known-s
+    note-member-requires
+    loop-less
+    loop-again
+    enum-told-3
+    same-length-5
+    same-length-6
+    returns-3
+    same-length-7
+    same-length-8
+    returns-4)

@@ -1,0 +1,78 @@
+-- `note_parents` meets its contract. The invariant: each row has the note of its lowest parent below r.
+use mathlib.Core.Path.{_≡_, refl, ap, _∙_}
+use mathlib.Core.List.{List}
+use Prim.Native.Nat.{ℕ, _-_, _≤_, zero-le}
+use native.Mathlib.Omega.{arith}
+use lib.ListN.{length, getD, length-replicate}
+use borrow.Author.Needs.{needs}
+use Rattle.meaning.specs.Rows.{rowCount}
+use Rattle.agreement.proofs.TableFit.{rows-limit}
+use Rattle.notes.proofs.Noting.{zeros-at}
+use Rattle.parents.proofs.MemberNotes.{NotedBelow, noted-first, noted-next, noted-all}
+use Rattle.parents.proofs.note_parents.Statement.{statement}
+use Rattle.parents.proofs.note_parents.Tie as tie
+
+abbrev Inv-loop : tie.InvT-loop
+Inv-loop rows parents₀ nexts₀ r₀ parents nexts r = (r ≤ rowCount rows) × (length parents ≡ length parents₀) × (length nexts ≡ length nexts₀) × NotedBelow rows r parents nexts
+
+abbrev μ-loop : tie.MeasureT-loop
+μ-loop rows parents₀ nexts₀ r₀ parents nexts r = rowCount rows - r
+
+clear-notes-requires : tie.Need-clear-notes-requires Inv-loop μ-loop
+clear-notes-requires c κs = search needs
+
+loop-holds : tie.Need-loop-holds Inv-loop μ-loop
+loop-holds c =
+    let at-clear = c .before .before in
+    let a = at-clear .before .before .before .before .args in
+    (zero-le, refl, refl, noted-first (a .rows .now) _ _ (λ j. ap (λ (o : List ℕ). getD o j 0) (at-clear .clear-notes .ensures) ∙ zeros-at (length (a .parents .now)) j))
+
+note-row-requires : tie.Need-note-row-requires Inv-loop μ-loop
+note-row-requires c κs =
+    let at-loop = c .before .before .before in
+    let start = at-loop .before .before .before .before .before .before .before in
+    let rows = start .args .rows .now in
+    let cleared = at-loop .before .before .before .clear-notes in
+    let same : length (cleared .last .0) ≡ length (start .args .parents .now) = ap (λ (o : List ℕ). length o) (cleared .ensures) ∙ length-replicate (length (start .args .parents .now)) 0 in
+    (rows-limit rows (start .pre .0), ((omega (arith, at-loop .loop .inv .1, same, start .pre .1 .0), omega (arith, at-loop .loop .inv .2, start .pre .1 .1)), c .before .before .loop-test .taken))
+
+add-r : tie.Need-add-r Inv-loop μ-loop
+add-r c = search needs
+
+loop-less : tie.Need-loop-less Inv-loop μ-loop
+loop-less c = search needs
+
+loop-again : tie.Need-loop-again Inv-loop μ-loop
+loop-again c =
+    let at-note = c .before .before .before .before in
+    let at-loop = at-note .before .before .before .before in
+    let rows = at-loop .before .before .before .before .before .before .before .args .rows .now in
+    (search needs, search needs, search needs, noted-next rows (at-loop .loop .r) (at-loop .loop .parents) (at-loop .loop .nexts) _ _ (at-loop .loop .inv .3) (at-note .note-row .ensures))
+
+same-length : tie.Need-same-length Inv-loop μ-loop
+same-length c = search needs
+
+same-length-2 : tie.Need-same-length-2 Inv-loop μ-loop
+same-length-2 c = search needs
+
+returns : tie.Need-returns Inv-loop μ-loop
+returns c =
+    let at-loop = c .before in
+    let rows = at-loop .before .before .before .before .before .before .before .args .rows .now in
+    noted-all rows (at-loop .loop .r) (at-loop .loop .parents) (at-loop .loop .nexts) (omega (arith, at-loop .loop .inv .0)) (at-loop .loop .inv .3)
+
+pub note-parents-spec : {M : Type 1} → statement M
+note-parents-spec =
+    tie.close
+    (tie.spec
+    Inv-loop
+    μ-loop
+    clear-notes-requires
+    loop-holds
+    note-row-requires
+    add-r
+    loop-less
+    loop-again
+    same-length
+    same-length-2
+    returns)

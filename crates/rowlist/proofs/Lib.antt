@@ -1,0 +1,4 @@
+pub mod Shifts
+pub mod Splits
+pub mod Placing
+pub mod Orders
