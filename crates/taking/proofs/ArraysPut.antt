@@ -1,4 +1,4 @@
--- Changes in the arrays of a run's state: a reading, an output, and the change of a step from its parts.
+-- Changes in a run's arrays: a cell, a reading, an output, and the change of a step from its parts.
 use mathlib.Core.Path.{_≡_, ap, _∙_}
 use mathlib.Core.Bool.{false}
 use mathlib.Core.List.{List, []}
@@ -6,45 +6,48 @@ use Prim.Native.Nat.{ℕ, _+_}
 use native.Mathlib.Numerals.{add-one}
 use lib.IntN.{ℤ}
 use lib.ListN.{getD, set}
-use Rattle.meaning.specs.Rows as table
 use Rattle.meaning.specs.Settle.{settle}
-use Rattle.meaning.specs.State.{program, processAt, whole}
+use Rattle.meaning.specs.State.{program, whole}
 use Rattle.meaning.specs.Buffers.{Buffers}
-use Rattle.evaluation.specs.Cells.{cellOf}
+use Rattle.evaluation.specs.declared.store.Store.{Store}
+use Rattle.evaluation.specs.Cells.{cellOf, withCell}
 use Rattle.machine.specs.Held.{stripStart, putState, putSettled}
 use Rattle.notes.specs.Changes.{endNoted}
 use Rattle.changing.specs.declared.Data.{Data}
 use Rattle.changing.specs.declared.Data.the-variants.{Nothing, Cell, Reading, Output}
 use Rattle.changing.specs.declared.Change.{Change}
 use Rattle.changing.specs.Changes.{putData, putEnded, putChange, DataFits}
-use Rattle.taking.specs.declared.State.{State}
-use Rattle.taking.specs.Stands.{arraysOf}
-use Rattle.taking.specs.Data.{withCell, withPlace}
+use Rattle.taking.specs.Stands.{arrays}
 
--- what a change of data adds to does not lie in the row states
-pub fits-without : (rows : List ℤ) (d : Data) (x : State) (states : List ℕ) (numbers : List ℤ) (counts : List ℕ) → DataFits rows d (arraysOf x states numbers counts) → DataFits rows d (arraysOf x [] numbers counts)
-fits-without rows Nothing x states numbers counts h = h
-fits-without rows (Cell a z m) x states numbers counts h = h
-fits-without rows (Reading a z m p) x states numbers counts h = h
-fits-without rows (Output p z) x states numbers counts h = h
+module _ (rows values : List ℤ) (marks states places : List ℕ) (numbers : List ℤ) (counts : List ℕ) where
+  abbrev old : Buffers
+  old = arrays values marks states places numbers counts
 
--- a reading into a cell
-pub reading-put : (rows : List ℤ) (x : State) (states : List ℕ) (numbers : List ℤ) (counts : List ℕ) (a : ℕ) (z : ℤ) (m p : ℕ) (y t : State) → y ≡ withCell x a (cellOf z m) → t ≡ withPlace y p
-    → arraysOf t states numbers counts ≡ putData rows (Reading a z m p) (arraysOf x states numbers counts)
-reading-put rows x states numbers counts a z m p y t e f = rw (f, e, add-one)
+  -- what a change of data adds to does not lie in the row states
+  pub fits-without : (d : Data) → DataFits rows d old → DataFits rows d (arrays values marks [] places numbers counts)
+  fits-without Nothing h = h
+  fits-without (Cell a z m) h = h
+  fits-without (Reading a z m p) h = h
+  fits-without (Output p z) h = h
 
--- one more number for an output channel
-pub output-put : (rows : List ℤ) (x : State) (states : List ℕ) (numbers : List ℤ) (counts : List ℕ) (p : ℕ) (z : ℤ) (first : ℕ) (numbers′ : List ℤ) (counts′ : List ℕ)
-    → first ≡ stripStart rows p → numbers′ ≡ set numbers (first + getD counts p 0) z → counts′ ≡ set counts p (getD counts p 0 + 1)
-    → arraysOf x states numbers′ counts′ ≡ putData rows (Output p z) (arraysOf x states numbers counts)
-output-put rows x states numbers counts p z first numbers′ counts′ e f g = rw (f, g, e, add-one)
+  -- one more number for an output channel
+  pub output-put : (p : ℕ) (z : ℤ) (first : ℕ) (numbers′ : List ℤ) (counts′ : List ℕ) → first ≡ stripStart rows p → numbers′ ≡ set numbers (first + getD counts p 0) z → counts′ ≡ set counts p (getD counts p 0 + 1)
+      → arrays values marks states places numbers′ counts′ ≡ putData rows (Output p z) (arrays values marks states places numbers counts)
+  output-put p z first numbers′ counts′ e f g = rw (f, g, e, add-one)
 
--- the data, then the row states
-pub change-put : (rows : List ℤ) (root : ℕ) → root ≡ table.root rows → (c : Change) (x : State) (states : List ℕ) (numbers : List ℤ) (counts : List ℕ) (x′ : State) (states′ : List ℕ) (numbers′ : List ℤ) (counts′ : List ℕ)
-    → arraysOf x′ states numbers′ counts′ ≡ putData rows (c .written) (arraysOf x states numbers counts)
-    → states′ ≡ settle (processAt (program rows) root) false (endNoted (set states (c .at) (c .next)) (c .sender))
-    → arraysOf x′ states′ numbers′ counts′ ≡ putChange rows c (arraysOf x states numbers counts)
-unfolding putChange whole program
-change-put rows root r c x states numbers counts x′ states′ numbers′ counts′ e f =
-    ap (λ (l : List ℕ). arraysOf x′ l numbers′ counts′) (f ∙ ap (λ (n : ℕ). settle (processAt (program rows) n) false (endNoted (set states (c .at) (c .next)) (c .sender))) r)
-    ∙ ap (λ (b : Buffers). putSettled rows false (putEnded (c .sender) (putState (c .at) (c .next) b))) e
+  -- the data, then the row states
+  pub change-put : (c : Change) (values′ : List ℤ) (marks′ states′ places′ : List ℕ) (numbers′ : List ℤ) (counts′ : List ℕ)
+      → arrays values′ marks′ states places′ numbers′ counts′ ≡ putData rows (c .written) (arrays values marks states places numbers counts)
+      → states′ ≡ settle (whole (program rows)) false (endNoted (set states (c .at) (c .next)) (c .sender))
+      → arrays values′ marks′ states′ places′ numbers′ counts′ ≡ putChange rows c (arrays values marks states places numbers counts)
+  unfolding putChange
+  change-put c values′ marks′ states′ places′ numbers′ counts′ e f =
+      ap (λ (l : List ℕ). arrays values′ marks′ l places′ numbers′ counts′) f ∙ ap (λ (b : Buffers). putSettled rows false (putEnded (c .sender) (putState (c .at) (c .next) b))) e
+
+-- a number with its mark into a cell, and a reading
+module _ (rows : List ℤ) (x : Store) (states places : List ℕ) (numbers : List ℤ) (counts : List ℕ) (a : ℕ) (z : ℤ) (m : ℕ) (y : Store) (e : y ≡ withCell x a (cellOf z m)) where
+  pub cell-put : arrays (y .values) (y .marks) states places numbers counts ≡ putData rows (Cell a z m) (arrays (x .values) (x .marks) states places numbers counts)
+  cell-put = rw e
+
+  pub reading-put : (p : ℕ) (places′ : List ℕ) → places′ ≡ set places p (getD places p 0 + 1) → arrays (y .values) (y .marks) states places′ numbers counts ≡ putData rows (Reading a z m p) (arrays (x .values) (x .marks) states places numbers counts)
+  reading-put p places′ g = rw (e, g, add-one)

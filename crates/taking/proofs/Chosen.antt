@@ -1,32 +1,39 @@
--- Of an accepted table, where a run stands and its ready steps are noted: the marked row that a choice picks is one of the table and orders the chosen step, and after its change the arrays hold the state that the step leaves.
-use mathlib.Core.Path.{_≡_, ap, _∙_}
+-- Of an accepted table, where a run stands and its ready steps are noted: the listed row that a choice picks is one of the table and orders the chosen step, and after its change the arrays hold the state that the step leaves.
+use mathlib.Core.Path.{_≡_, refl, sym, ap, ap₂, subst, _∙_}
+use mathlib.Core.Logic.{_⊎_, inl, inr}
 use mathlib.Core.Bool.{Bool, true, false}
 use mathlib.Core.Option.{none, some}
-use mathlib.Core.List.{List, [], _∷_, _++_}
-use Prim.Native.Nat.{ℕ, zero, suc, _+_, _%_, _<_, _≤_}
+use mathlib.Core.List.{List, [], _∷_, _++_, List·Memᴰ}
+use Prim.Native.Nat.{ℕ, zero, suc, _+_, _-_, _%_, _<_, _≤_}
 use native.Mathlib.Omega.{arith}
 use native.Mathlib.Decide.{decLt}
+use native.Mathlib.Nat.{mod-lt}
 use lib.IntN.{ℤ}
-use lib.ListN.{length, getD, length-append, List·getD-append}
-use lib.Seq.{getD-append-seam}
-use Rattle.meaning.specs.Basics.{ifElse, allBelow}
+use lib.ListN.{length, getD, set, length-append, List·getD-append}
+use lib.Seq.{getD-append-seam, length-take-le}
+use Rattle.meaning.specs.Basics.{ifElse, isSome, allBelow}
 use Rattle.meaning.specs.Rows.{rowCount}
-use Rattle.meaning.specs.State.{State, program}
+use Rattle.meaning.specs.Settle.{settle}
+use Rattle.meaning.specs.State.{State, program, whole, StateChange, Effect}
 use Rattle.meaning.specs.Intent.{Sheet}
-use Rattle.meaning.specs.Ready.{Label, own, ready, after}
+use Rattle.meaning.specs.Ready.{Label, own, ready, after, effectOf, intentAt}
 use Rattle.meaning.specs.Run.{chosenStep}
 use Rattle.meaning.specs.Buffers.{Buffers}
 use Rattle.meaning.specs.Answers.{check}
+use Rattle.settling.specs.Touched.{Listed}
 use Rattle.machine.specs.RowSteps.{stepAt, stepRows}
 use Rattle.machine.specs.Held.{Holds}
+use Rattle.machine.specs.Upward.{changeUp, endUp}
 use Rattle.machine.proofs.RowTables.{ready-count, ready-of-row}
 use Rattle.machine.proofs.StepRows.{any-default}
-use Rattle.notes.specs.Marks.{marked}
-use Rattle.stepping.proofs.ReadyMarks.{marked-rows, marked-count}
+use Rattle.notes.specs.Changes.{endNoted}
+use Rattle.stepping.specs.Acts.{hasStep}
+use Rattle.stepping.proofs.StepsNoted.{has-step-is}
+use Rattle.rowlist.specs.InOrder.{InOrder}
 use Rattle.changing.specs.declared.Change.{Change}
 use Rattle.changing.specs.Changes.{changeOf, putChange, DataFits}
-use Rattle.changing.proofs.StepChanges.{change-held, change-fits}
-use Rattle.taking.specs.Stands.{StandsAt, NotedAt}
+use Rattle.changing.proofs.StepChanges.{change-held, change-fits, change-up, change-within, change-made}
+use Rattle.taking.specs.Stands.{StandsAt, NotedAt, Touches}
 
 -- a number that passes a test below n is below n
 below-bound : (p : ℕ → Bool) (n k d : ℕ) → k < length (allBelow p n) → getD (allBelow p n) k d < n
@@ -41,40 +48,84 @@ below-bound p (suc n) k d h = go (decLt k (length (allBelow p n))) (p n) h (belo
         rw (e, getD-append-seam (allBelow p n) n [] d) (omega arith)
     go (no l) false h f = absurd (omega (arith, length-append {A = ℕ} (allBelow p n) []))
 
-module _ (rows : List ℤ) (ok : check rows ≡ none) (sheet : Sheet) (readings : List ℤ) (given : List ℕ) (lines : ℕ) (few : lines ≤ 128) (b : Buffers) (s : State)
-    (owners acts waiting marks : List ℕ) (count : ℕ) (A : StandsAt rows sheet readings given lines b s) (N : NotedAt rows sheet b owners acts waiting marks count)
-    (j k : ℕ) (row : j ≡ getD (allBelow (marked marks) (rowCount rows)) k (rowCount rows)) (within : k < count) where
-  marked-are : allBelow (marked marks) (rowCount rows) ≡ stepRows (program rows) sheet s (rowCount rows)
-  marked-are = marked-rows rows ok sheet (A .labels) s (A .order) b (A .holds) acts waiting owners (N .noted) (N .elements) (N .owned) marks count (N .marked)
+-- the same numbers below n pass tests that are the same there
+below-same : (p q : ℕ → Bool) (n : ℕ) → ((j : ℕ) → j < n → p j ≡ q j) → allBelow p n ≡ allBelow q n
+unfolding allBelow
+below-same p q zero h = refl
+below-same p q (suc n) h = ap₂ (λ (l m : List ℕ). l ++ m) (below-same p q n (λ j l. h j (omega arith))) (ap (λ (t : Bool). ifElse t (n ∷ []) []) (h n (omega arith)))
 
-  count-is : count ≡ length (ready (program rows) sheet s)
-  count-is = marked-count rows ok sheet (A .labels) s (A .order) b (A .holds) acts waiting owners (N .noted) (N .elements) (N .owned) marks count (N .marked)
+module _ (rows : List ℤ) (ok : check rows ≡ none) (sheet : Sheet) (readings : List ℤ) (given : List ℕ) (lines : ℕ) (b : Buffers) (s : State)
+    (owners acts waiting list : List ℕ) (count : ℕ) (A : StandsAt rows sheet readings given lines b s) (N : NotedAt rows sheet b owners acts waiting list count) where
+  abbrev steps : ℕ → Bool
+  steps = hasStep rows sheet (b .cells) (b .marks) (b .places) (b .counts) (b .states) acts waiting owners
 
-  in-rows : k < length (stepRows (program rows) sheet s (rowCount rows))
-  in-rows = omega (arith, count-is, ready-count rows ok sheet (A .labels) s (A .order))
+  -- the rows with a step are those that order one
+  listed-are : allBelow steps (rowCount rows) ≡ stepRows (program rows) sheet s (rowCount rows)
+  unfolding stepRows
+  listed-are =
+      below-same steps (λ j. isSome (stepAt (program rows) sheet s j)) (rowCount rows)
+      (λ j k. has-step-is rows ok sheet (A .labels) s (A .order) b (A .holds) acts waiting owners (N .noted) (N .elements) j k (N .owned j k))
 
-  -- the row is one of the table
-  pub row-below : j < rowCount rows
-  row-below = rw row (below-bound (marked marks) (rowCount rows) k (rowCount rows) (rw marked-are in-rows))
+  -- as many are listed as there are ready steps
+  pub ready-counted : count ≡ length (ready (program rows) sheet s)
+  ready-counted =
+      sym (length-take-le count list (N .listed .1)) ∙ ap (λ (l : List ℕ). length l) (N .listed .0 ∙ listed-are) ∙ sym (ready-count rows ok sheet (A .labels) s (A .order))
 
-  -- it orders the k-th ready step
-  row-step : (d : Label) → stepAt (program rows) sheet s j ≡ some (getD (ready (program rows) sheet s) k d)
-  row-step d =
-      let steps = stepRows (program rows) sheet s (rowCount rows) in
-      rw (row ∙ ap (λ (m : List ℕ). getD m k (rowCount rows)) marked-are ∙ any-default steps k (rowCount rows) 0 in-rows) (ready-of-row rows ok sheet (A .labels) s (A .order) k d in-rows)
+  module _ (few : lines ≤ 128) (choice : ℕ) (some-ready : 0 < count) (j : ℕ) (picked : (f : ℕ → Bool) (n : ℕ) → InOrder f n list count → 0 < count → j ≡ getD (allBelow f n) (choice % count) n) where
+    row : j ≡ getD (allBelow steps (rowCount rows)) (choice % count) (rowCount rows)
+    row = picked steps (rowCount rows) (N .listed) some-ready
 
-  -- the numbers that its change adds to are small
-  pub row-fits : (c : Change) → c ≡ changeOf rows sheet (b .cells) (b .marks) (b .places) (b .counts) (b .states) owners waiting j → DataFits rows (c .written) b
-  row-fits c e =
-      rw e (change-fits rows ok sheet (A .labels) s (A .order) b (A .holds) readings given lines (A .kept) few acts waiting owners (N .noted) (N .elements) j _ (N .owned j row-below) (row-step (own 0)))
+    in-rows : choice % count < length (stepRows (program rows) sheet s (rowCount rows))
+    in-rows = omega (arith, mod-lt choice some-ready, ready-counted, ready-count rows ok sheet (A .labels) s (A .order))
 
-  -- the arrays after its change hold the state that the chosen step leaves
-  pub row-held : (choice : ℕ) (y : Label) (m : List Label) → ready (program rows) sheet s ≡ y ∷ m → k ≡ choice % count → (c : Change) → c ≡ changeOf rows sheet (b .cells) (b .marks) (b .places) (b .counts) (b .states) owners waiting j
-      → (t : Buffers) → t ≡ putChange rows c b → Holds rows (after (program rows) sheet (chosenStep (choice ∷ []) y m) s) t
-  unfolding chosenStep
-  row-held choice y m q n c e t p =
-      let u : getD (ready (program rows) sheet s) k y ≡ getD (y ∷ m) (choice % length (y ∷ m)) y =
-      ap (λ (z : List Label). getD z k y) q ∙ ap (λ (i : ℕ). getD (y ∷ m) i y) (n ∙ ap (λ (i : ℕ). choice % i) (count-is ∙ ap (λ (z : List Label). length z) q))
-      in
-      p ∙ ap (λ (z : Change). putChange rows z b) e
-      ∙ change-held rows ok sheet (A .labels) s (A .order) b (A .holds) readings given lines (A .kept) few acts waiting owners (N .noted) (N .elements) j _ (N .owned j row-below) (row-step y ∙ ap (λ (x : Label). some x) u)
+    -- the row is one of the table
+    pub row-below : j < rowCount rows
+    row-below = rw row (below-bound steps (rowCount rows) (choice % count) (rowCount rows) (rw listed-are in-rows))
+
+    -- it orders the ready step of its number
+    row-step : (d : Label) → stepAt (program rows) sheet s j ≡ some (getD (ready (program rows) sheet s) (choice % count) d)
+    row-step d =
+        let rowsOf = stepRows (program rows) sheet s (rowCount rows) in
+        rw (row ∙ ap (λ (m : List ℕ). getD m (choice % count) (rowCount rows)) listed-are ∙ any-default rowsOf (choice % count) (rowCount rows) 0 in-rows) (ready-of-row rows ok sheet (A .labels) s (A .order) (choice % count) d in-rows)
+
+    -- which is the chosen one
+    chosen : (y : Label) (m : List Label) → ready (program rows) sheet s ≡ y ∷ m → stepAt (program rows) sheet s j ≡ some (chosenStep (choice ∷ []) y m)
+    unfolding chosenStep
+    chosen y m q =
+        let u : getD (ready (program rows) sheet s) (choice % count) y ≡ getD (y ∷ m) (choice % length (y ∷ m)) y =
+        ap (λ (z : List Label). getD z (choice % count) y) q ∙ ap (λ (i : ℕ). getD (y ∷ m) i y) (ap (λ (i : ℕ). choice % i) (ready-counted ∙ ap (λ (z : List Label). length z) q))
+        in
+        row-step y ∙ ap (λ (x : Label). some x) u
+
+    module _ (c : Change) (e : c ≡ changeOf rows sheet (b .cells) (b .marks) (b .places) (b .counts) (b .states) owners waiting j) where
+      -- the numbers that its change adds to are small
+      pub row-fits : DataFits rows (c .written) b
+      row-fits = rw e (change-fits rows ok sheet (A .labels) s (A .order) b (A .holds) readings given lines (A .kept) few acts waiting owners (N .noted) (N .elements) j _ (N .owned j row-below) (row-step (own 0)))
+
+      -- the rows that it changes are rows of the table
+      pub row-within : (c .at < rowCount rows) × (c .sender ≤ rowCount rows)
+      row-within = rw e (change-within rows ok sheet (A .labels) s (A .order) b (A .holds) readings given lines (A .kept) few acts waiting owners (N .noted) (N .elements) j _ (N .owned j row-below) (row-step (own 0)))
+
+      -- its row states settle upward
+      pub row-up : (t : List ℕ) → t ≡ endUp (program rows) (c .sender) (changeUp (program rows) (c .at) (c .next) (b .states)) → t ≡ settle (whole (program rows)) false (endNoted (set (b .states) (c .at) (c .next)) (c .sender))
+      row-up t f = f ∙ sym (rw e (change-up rows ok sheet (A .labels) s (A .order) b (A .holds) readings given lines (A .kept) few acts waiting owners (N .noted) (N .elements) j _ (N .owned j row-below) (row-step (own 0))))
+
+      module _ (y : Label) (m : List Label) (q : ready (program rows) sheet s ≡ y ∷ m) where
+        -- the arrays after its change hold the state that the chosen step leaves
+        pub row-held : (t : Buffers) → t ≡ putChange rows c b → Holds rows (after (program rows) sheet (chosenStep (choice ∷ []) y m) s) t
+        row-held t p =
+            p ∙ ap (λ (z : Change). putChange rows z b) e
+            ∙ change-held rows ok sheet (A .labels) s (A .order) b (A .holds) readings given lines (A .kept) few acts waiting owners (N .noted) (N .elements) j _ (N .owned j row-below) (chosen y m q)
+
+        -- the rows that the chosen step changes itself are those of the change
+        row-made : (f : Effect) → effectOf (chosenStep (choice ∷ []) y m) (intentAt (program rows) sheet s) ≡ some f → (k : StateChange) → List·Memᴰ k (f .changes) → (k .at ≡ c .at) ⊎ ((c .sender ≡ 0 → ⊥) × (k .at ≡ c .sender - 1))
+        row-made = rw e (change-made rows ok sheet (A .labels) s (A .order) b (A .holds) readings given lines (A .kept) few acts waiting owners (N .noted) (N .elements) j _ (N .owned j row-below) (chosen y m q))
+
+        -- so where those are noted, with the rows whose states differ, the step's rows are
+        pub row-touches : (new touched : List ℕ) → ((r : ℕ) → (getD new r 0 ≡ getD (b .states) r 0) ⊎ Listed touched r) → Listed touched (c .at) → ((c .sender ≡ 0 → ⊥) → Listed touched (c .sender - 1))
+            → Touches rows sheet s (chosenStep (choice ∷ []) y m) (b .states) new touched
+        row-touches new touched d at ends = record { differs = d; made = λ f p k i. go k (row-made f p k i) }
+          where
+            go : (k : StateChange) → (k .at ≡ c .at) ⊎ ((c .sender ≡ 0 → ⊥) × (k .at ≡ c .sender - 1)) → Listed touched (k .at)
+            go k (inl p) = rw p at
+            go k (inr (z, p)) = rw p (ends z)

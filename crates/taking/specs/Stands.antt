@@ -1,26 +1,34 @@
--- Where a run stands: the arrays hold a state of an order of the table on a sheet, and what is noted of the steps that are ready there.
+-- Where a run stands: the arrays hold a state of an order of the table on a sheet, what is noted of the steps that are ready there, and of the rows that a step changes.
 use mathlib.Core.Path.{_≡_}
-use mathlib.Core.List.{List}
+use mathlib.Core.Logic.{_⊎_}
+use mathlib.Core.Option.{some}
+use mathlib.Core.List.{List, List·Memᴰ}
 use Prim.Native.Nat.{ℕ, _<_}
 use lib.IntN.{ℤ}
 use lib.ListN.{length, getD}
 use Rattle.meaning.specs.Rows.{rowCount}
 use Rattle.meaning.specs.State as meaning
-use Rattle.meaning.specs.State.{program}
+use Rattle.meaning.specs.State.{program, StateChange, Effect}
 use Rattle.meaning.specs.Intent.{Sheet}
-use Rattle.meaning.specs.Ready.{Label}
+use Rattle.meaning.specs.Ready.{Label, effectOf, intentAt}
 use Rattle.meaning.specs.Buffers.{Buffers}
 use Rattle.meaning.specs.Order.{OrderOf}
 use Rattle.offers.specs.Held.{KeptReadings}
+use Rattle.settling.specs.Touched.{Listed}
 use Rattle.machine.specs.RowSteps.{altOf}
 use Rattle.machine.specs.Held.{Holds}
-use Rattle.notes.specs.Marks.{rowNote, Marked}
+use Rattle.notes.specs.Marks.{rowNote}
 use Rattle.stepping.specs.Acts.{Noted, hasStep}
+use Rattle.rowlist.specs.InOrder.{InOrder}
 use Rattle.taking.specs.declared.State.{State}
+
+-- the arrays of a run: cell values, set marks, row states, places in the readings, the strips' numbers and their counts
+abbrev pub arrays : List ℤ → List ℕ → List ℕ → List ℕ → List ℤ → List ℕ → Buffers
+arrays values marks states places numbers counts = record { cells = values; marks = marks; states = states; places = places; numbers = numbers; counts = counts }
 
 -- the arrays of a run's state, with the row states and the strips beside it
 abbrev pub arraysOf : State → List ℕ → List ℤ → List ℕ → Buffers
-arraysOf x states numbers counts = record { cells = x .values; marks = x .marks; states = states; places = x .places; numbers = numbers; counts = counts }
+arraysOf x states numbers counts = arrays (x .values) (x .marks) states (x .places) numbers counts
 
 -- the ALT of each option is noted
 abbrev pub Owned : List ℤ → List ℕ → Type 0
@@ -34,9 +42,14 @@ module _ (rows : List ℤ) (sheet : Sheet) where
     pub order : OrderOf rows sheet labels s
     pub holds : Holds rows s b
 
-  -- what each row would do is noted, with the rows that have a ready step and how many they are
-  pub record NotedAt (b : Buffers) (owners acts waiting marks : List ℕ) (count : ℕ) : Type 0 where
+  -- what each row would do is noted, and the rows that have a ready step are listed in order
+  pub record NotedAt (b : Buffers) (owners acts waiting readyHeld : List ℕ) (count : ℕ) : Type 0 where
     pub owned : Owned rows owners
     pub elements : length waiting ≡ 256
     pub noted : Noted rows sheet (b .cells) (b .marks) (b .places) (b .counts) (b .states) (rowCount rows) acts waiting
-    pub marked : Marked (hasStep rows sheet (b .cells) (b .marks) (b .places) (b .counts) (b .states) acts waiting owners) (rowCount rows) marks count
+    pub listed : InOrder (hasStep rows sheet (b .cells) (b .marks) (b .places) (b .counts) (b .states) acts waiting owners) (rowCount rows) readyHeld count
+
+  -- the rows whose states differ are noted, and those that the step x changes itself
+  pub record Touches (s : meaning.State) (x : Label) (old new touched : List ℕ) : Type 0 where
+    pub differs : (r : ℕ) → (getD new r 0 ≡ getD old r 0) ⊎ Listed touched r
+    pub made : (e : Effect) → effectOf x (intentAt (program rows) sheet s) ≡ some e → (m : StateChange) → List·Memᴰ m (e .changes) → Listed touched (m .at)
