@@ -1,6 +1,2 @@
-pub mod Agreeing
-pub mod ForgottenRows
-pub mod RenewedRows
-pub mod Listing
-pub mod Entries
 pub mod KeptAgain
+pub mod Halves

@@ -9,12 +9,11 @@ ghost use Rattle.offers.specs.Held.{KeptReadings};
 ghost use Rattle.stepping.specs.Acts.{sentCode, workingDoes};
 ghost use Rattle.noting.specs.Kept.{Single, Room, Kept, Stale};
 
-mod forgetting; // forgetting.rt: what is noted of some rows is forgotten
-mod renewing; // renewing.rt: what some rows would do is noted
+mod affected; // affected.rt: what the affected rows would do is noted
 
-use forgetting::forget_rows;
+use affected::note_rows;
 use noting::note_all;
-use renewing::note_rows;
+use renewing::forgetting::forget_rows;
 
 // How many entries of a list follow its first: its first entry tells it.
 fn entry_count(touched: &[usize]) -> usize

@@ -1,7 +1,7 @@
 -- `note_again` meets its contract: where there was room for all, every row that a step affected is forgotten and noted anew.
 use mathlib.Core.Path.{sym, _∙_}
 use borrow.Author.Needs.{needs}
-use Rattle.keeping.proofs.Entries.{affected-meant}
+use Rattle.renewing.proofs.Entries.{affected-meant}
 use Rattle.keeping.proofs.KeptAgain.{kept-again}
 use Rattle.keeping.proofs.note_again.Statement.{statement}
 use Rattle.keeping.proofs.note_again.Tie as tie

@@ -10,7 +10,7 @@ use lib.Dec.{eqb}
 use borrow.Author.Tests.{eqb-true, eqb-false}
 use Rattle.settling.specs.Touched.{Listed}
 use Rattle.noting.specs.Kept.{Affected}
-use Rattle.keeping.specs.Renewed.{RowOrParent, MeantBefore}
+use Rattle.renewing.specs.Renewed.{RowOrParent, MeantBefore}
 
 -- the parent of a row, by its note
 module _ (parents : List ℕ) (r j : ℕ) {p : ℕ} (q : p ≡ getD parents r 0) where

@@ -5,9 +5,9 @@ use Prim.Native.Nat.{ℕ}
 use native.Mathlib.Omega.{arith}
 use lib.ListN.{length, getD, length-set}
 use borrow.Author.Needs.{needs}
-use Rattle.keeping.proofs.ForgottenRows.{with-note-length, forgotten-none, forgotten-row}
-use Rattle.keeping.proofs.forgetting.forget_row.Statement.{statement}
-use Rattle.keeping.proofs.forgetting.forget_row.Tie as tie
+use Rattle.renewing.proofs.ForgottenRows.{with-note-length, forgotten-none, forgotten-row}
+use Rattle.renewing.proofs.forgetting.forget_row.Statement.{statement}
+use Rattle.renewing.proofs.forgetting.forget_row.Tie as tie
 
 returns : tie.Need-returns
 returns c = (forgotten-none (λ j l e. omega (arith, c .if1 .taken)), (refl, refl))

@@ -1,8 +1,8 @@
 -- `put_sender` meets its contract: past the end nothing is stored.
 use borrow.Author.Needs.{needs}
-use Rattle.keeping.proofs.ForgottenRows.{with-note-set, with-note-out}
-use Rattle.keeping.proofs.forgetting.put_sender.Statement.{statement}
-use Rattle.keeping.proofs.forgetting.put_sender.Tie as tie
+use Rattle.renewing.proofs.ForgottenRows.{with-note-set, with-note-out}
+use Rattle.renewing.proofs.forgetting.put_sender.Statement.{statement}
+use Rattle.renewing.proofs.forgetting.put_sender.Tie as tie
 
 returns : tie.Need-returns
 returns c = search needs

@@ -2,9 +2,9 @@
 use mathlib.Core.Path.{refl}
 use native.Mathlib.Omega.{arith}
 use borrow.Author.Needs.{needs}
-use Rattle.keeping.proofs.RenewedRows.{renewed-none}
-use Rattle.keeping.proofs.renewing.note_row.Statement.{statement}
-use Rattle.keeping.proofs.renewing.note_row.Tie as tie
+use Rattle.renewing.proofs.RenewedRows.{renewed-none}
+use Rattle.keeping.proofs.affected.note_row.Statement.{statement}
+use Rattle.keeping.proofs.affected.note_row.Tie as tie
 
 returns : tie.Need-returns
 returns c = (λ sheet K. renewed-none (λ j l e. omega (arith, c .if1 .taken)), record { acts = refl; sent = refl; waiting = refl; list = refl })

@@ -2,7 +2,7 @@
 ghost use mathlib.Core.Path.{_≡_};
 ghost use Prim.Native.Nat.{_+_, _<_, _≤_};
 ghost use lib.ListN.{length};
-ghost use Rattle.keeping.specs.Renewed.{withNote, RowOrParent, MeantBefore, Forgotten};
+ghost use Rattle.renewing.specs.Renewed.{withNote, RowOrParent, MeantBefore, Forgotten};
 use stepping::readiness::note_of;
 
 // A note at the element that is meant, if there is one: `sent` is one more than its number, or 0.

@@ -13,8 +13,8 @@ use Rattle.meaning.specs.Basics.{lowest}
 use Rattle.notes.specs.Marks.{rowNote}
 use Rattle.rowlist.specs.InOrder.{InOrder}
 use Rattle.noting.specs.Kept.{mayStep, Single, WaitsNoted}
-use Rattle.keeping.specs.Renewed.{withNote, Right, Renewed, SameLengths}
-use Rattle.keeping.proofs.Agreeing.{lowest-same, lowest-only}
+use Rattle.renewing.specs.Renewed.{withNote, Right, Renewed, SameLengths}
+use Rattle.renewing.proofs.Agreeing.{lowest-same, lowest-only}
 
 pub lengths-then : {acts₀ sent₀ waiting₀ list₀ acts sent waiting list acts′ sent′ waiting′ list′ : List ℕ} → SameLengths acts₀ sent₀ waiting₀ list₀ acts sent waiting list → SameLengths acts sent waiting list acts′ sent′ waiting′ list′ → SameLengths acts₀ sent₀ waiting₀ list₀ acts′ sent′ waiting′ list′
 lengths-then F G = record { acts = G .acts ∙ F .acts; sent = G .sent ∙ F .sent; waiting = G .waiting ∙ F .waiting; list = G .list ∙ F .list }
@@ -30,6 +30,11 @@ module _ {n : ℕ} {act output : ℕ → ℕ} {owners : List ℕ} {P : ℕ → T
     rest = λ j l. ⊎-elim inl (λ y. ⊎-elim (λ x. inl (y .0 ∙ x .0, y .1 ∙ x .1)) (λ x. inr (y .0 ∙ x .0, y .1 ∙ x .1)) (F .rest j l)) (G .rest j l);
     work = λ I. G .work (F .work I);
   }
+
+  -- fewer rows
+  pub renewed-fewer : {R : ℕ → Type 0} {acts₀ sent₀ waiting₀ list₀ acts sent waiting list : List ℕ} {count₀ count : ℕ} → ((j : ℕ) → R j → P j)
+      → Renewed n act output owners P acts₀ sent₀ waiting₀ list₀ count₀ acts sent waiting list count → Renewed n act output owners R acts₀ sent₀ waiting₀ list₀ count₀ acts sent waiting list count
+  renewed-fewer f F = record { waits = F .waits; right = λ j l m. F .right j l (f j m); rest = F .rest; work = F .work }
 
   -- no row
   pub renewed-none : {acts sent waiting list : List ℕ} {count : ℕ} → ((j : ℕ) → j < n → P j → ⊥) → Renewed n act output owners P acts sent waiting list count acts sent waiting list count

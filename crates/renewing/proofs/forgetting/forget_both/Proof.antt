@@ -2,10 +2,10 @@
 use mathlib.Core.Path.{_∙_}
 use mathlib.Core.Logic.{inl, inr, ⊎-elim}
 use borrow.Author.Needs.{needs}
-use Rattle.keeping.proofs.Entries.{parent-here, parent-note, no-parent}
-use Rattle.keeping.proofs.ForgottenRows.{forgotten-none, forgotten-then}
-use Rattle.keeping.proofs.forgetting.forget_both.Statement.{statement}
-use Rattle.keeping.proofs.forgetting.forget_both.Tie as tie
+use Rattle.renewing.proofs.Entries.{parent-here, parent-note, no-parent}
+use Rattle.renewing.proofs.ForgottenRows.{forgotten-none, forgotten-then}
+use Rattle.renewing.proofs.forgetting.forget_both.Statement.{statement}
+use Rattle.renewing.proofs.forgetting.forget_both.Tie as tie
 
 forget-row-requires : tie.Need-forget-row-requires
 forget-row-requires c κs = search needs

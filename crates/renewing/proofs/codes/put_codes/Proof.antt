@@ -8,11 +8,11 @@ use lib.Seq.{getD-set-same}
 use lib.Dec.{eqb}
 use borrow.Author.Needs.{needs}
 use Rattle.noting.specs.Kept.{mayStep}
-use Rattle.keeping.proofs.ForgottenRows.{with-note-length}
-use Rattle.keeping.proofs.RenewedRows.{renewed-row}
-use Rattle.keeping.proofs.Listing.{may-alone, may-others, option-stays}
-use Rattle.keeping.proofs.renewing.put_codes.Statement.{statement}
-use Rattle.keeping.proofs.renewing.put_codes.Tie as tie
+use Rattle.renewing.proofs.ForgottenRows.{with-note-length}
+use Rattle.renewing.proofs.RenewedRows.{renewed-row}
+use Rattle.renewing.proofs.Listing.{may-alone, may-others, option-stays}
+use Rattle.renewing.proofs.codes.put_codes.Statement.{statement}
+use Rattle.renewing.proofs.codes.put_codes.Tie as tie
 
 mul-old : tie.Need-mul-old
 mul-old c = search needs

@@ -9,7 +9,7 @@ use lib.Dec.{eqb}
 use borrow.Author.Tests.{eqb-true, eqb-false, eq-eqb, ne-eqb}
 use Rattle.rowlist.specs.InOrder.{InOrder, SameBut}
 use Rattle.noting.specs.Kept.{mayStep}
-use Rattle.keeping.proofs.Agreeing.{in-order-same}
+use Rattle.renewing.proofs.Agreeing.{in-order-same}
 
 or-right : (s t : Bool) → t ≡ true → (s || t) ≡ true
 or-right true t e = refl

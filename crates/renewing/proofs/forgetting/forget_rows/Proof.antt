@@ -4,11 +4,11 @@ use Prim.Native.Nat.{ℕ, _+_, _-_, _<_, _≤_}
 use native.Mathlib.Omega.{arith}
 use lib.ListN.{length}
 use borrow.Author.Needs.{needs}
-use Rattle.keeping.specs.Renewed.{MeantBefore, Forgotten}
-use Rattle.keeping.proofs.ForgottenRows.{forgotten-none, forgotten-then}
-use Rattle.keeping.proofs.Entries.{meant-none, meant-part, meant-before, meant-here}
-use Rattle.keeping.proofs.forgetting.forget_rows.Statement.{statement}
-use Rattle.keeping.proofs.forgetting.forget_rows.Tie as tie
+use Rattle.renewing.specs.Renewed.{MeantBefore, Forgotten}
+use Rattle.renewing.proofs.ForgottenRows.{forgotten-none, forgotten-then}
+use Rattle.renewing.proofs.Entries.{meant-none, meant-part, meant-before, meant-here}
+use Rattle.renewing.proofs.forgetting.forget_rows.Statement.{statement}
+use Rattle.renewing.proofs.forgetting.forget_rows.Tie as tie
 
 abbrev Inv-loop : tie.InvT-loop
 Inv-loop touched last parents n sent₀ waiting₀ i₀ sent waiting i =

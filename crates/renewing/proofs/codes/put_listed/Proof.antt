@@ -3,9 +3,9 @@ use mathlib.Core.Path.{refl, sym, ap, _∙_}
 use mathlib.Core.Bool.{not}
 use borrow.Author.Tests.{eq-eqb, ne-eqb}
 use borrow.Author.Needs.{needs}
-use Rattle.keeping.proofs.Listing.{in-order-but}
-use Rattle.keeping.proofs.renewing.put_listed.Statement.{statement}
-use Rattle.keeping.proofs.renewing.put_listed.Tie as tie
+use Rattle.renewing.proofs.Listing.{in-order-but}
+use Rattle.renewing.proofs.codes.put_listed.Statement.{statement}
+use Rattle.renewing.proofs.codes.put_listed.Tie as tie
 
 returns : tie.Need-returns
 returns c =
