@@ -13,7 +13,7 @@ use Rattle.meaning.specs.Intent.{Sheet}
 use Rattle.notes.specs.Marks.{rowNote}
 use Rattle.stepping.specs.Acts.{sentCode, workingDoes}
 use Rattle.noting.specs.Kept.{Affected, Single, WaitsNoted, Room, Kept, Stale}
-use Rattle.renewing.specs.Renewed.{Right, Forgotten, Renewed, RowsRenewed}
+use Rattle.renewing.specs.Renewed.{Right, Forgotten, Renewed, RowsRenewed, SameLengths}
 use Rattle.renewing.proofs.Agreeing.{lowest-same}
 
 module _ {n : ℕ} {act output : ℕ → ℕ} {owners : List ℕ} {A P : ℕ → Type 0} {acts₀ sent₀ waiting₀ sent₁ waiting₁ list₀ acts sent waiting list : List ℕ} {count₀ count : ℕ}
@@ -32,12 +32,16 @@ module _ {n : ℕ} {act output : ℕ → ℕ} {owners : List ℕ} {A P : ℕ →
       let m : suc e ≡ e + 1 = omega arith in
       G .waits T free-between (F .waits S W) e l ∙ ap rowNote (lowest-same (λ j. eqb (getD sent j 0) (suc e)) (λ j. eqb (output j) (e + 1)) n (λ j k. ap (λ (x : ℕ). eqb x (suc e)) (all-right j k .1) ∙ ap (eqb (output j)) m))
 
+-- the lists keep their lengths
+room-again : {n : ℕ} {acts₀ sent₀ waiting₀ list₀ sent₁ waiting₁ acts sent waiting list : List ℕ} → Room n acts₀ sent₀ waiting₀ → (length sent₁ ≡ length sent₀) × (length waiting₁ ≡ length waiting₀) → SameLengths acts₀ sent₁ waiting₁ list₀ acts sent waiting list → Room n acts sent waiting
+room-again room F G = record { acts = rw (G .acts) (room .acts); sent = rw (G .sent ∙ F .0) (room .sent); waiting = G .waiting ∙ F .1 ∙ room .waiting }
+
 module _ {rows : List ℤ} {sheet : Sheet} {values : List ℤ} {marks places counts states owners touched parents : List ℕ} {P : ℕ → Type 0} {acts₀ sent₀ waiting₀ sent₁ waiting₁ list₀ acts sent waiting list : List ℕ} {count₀ count : ℕ} where
   pub kept-again : Single (rowCount rows) (λ j. sentCode (workingDoes rows sheet values marks places counts states j)) → Stale rows sheet values marks places counts states owners touched parents acts₀ sent₀ waiting₀ list₀ count₀
       → ((j : ℕ) → Affected touched parents j → P j) → Forgotten (rowCount rows) P sent₀ waiting₀ sent₁ waiting₁ → RowsRenewed rows sheet values marks places counts states owners P acts₀ sent₁ waiting₁ list₀ count₀ acts sent waiting list count
-      → Room (rowCount rows) acts sent waiting → Kept rows sheet values marks places counts states owners acts sent waiting list count
-  kept-again T H meant F G room = record {
-    room = room;
+      → (length sent₁ ≡ length sent₀) × (length waiting₁ ≡ length waiting₀) → SameLengths acts₀ sent₁ waiting₁ list₀ acts sent waiting list → Kept rows sheet values marks places counts states owners acts sent waiting list count
+  kept-again T H meant F G sizes sizes′ = record {
+    room = room-again (H .room) sizes sizes′;
     noted = record { acts = λ j l. all-right (H .right) meant F G j l .0; waiting = all-waits (H .right) meant F G (H .single) T (H .waits) };
     sent = λ j l. all-right (H .right) meant F G j l .1;
     work = G .work (H .work);

@@ -1,2 +1,3 @@
 pub mod KeptAgain
 pub mod Halves
+pub mod PassedOver

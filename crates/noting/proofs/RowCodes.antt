@@ -1,10 +1,11 @@
--- What a row would do, as it is noted, where its kind tells it: an assignment or a WHILE at work has a step by itself; SEQ, PAR and a row past the table have none.
-use mathlib.Core.Path.{_≡_, refl, sym}
+-- What a row would do, as it is noted, where its kind tells it: an assignment that is running and a WHILE at work have a step by themselves; SEQ, PAR and a row past the table have none.
+use mathlib.Core.Path.{_≡_, refl, sym, ap, _∙_}
 use mathlib.Core.Bool.{Bool, true, false}
 use mathlib.Core.List.{List}
 use Prim.Native.Nat.{ℕ, _<_, _≤_}
 use native.Mathlib.Omega.{arith}
 use lib.IntN.{ℤ}
+use lib.ListN.{getD}
 use Rattle.meaning.specs.declared.Value.{Value}
 use Rattle.meaning.specs.declared.Value.the-variants.{Number, Missing}
 use Rattle.meaning.specs.declared.Index.{Index}
@@ -12,8 +13,11 @@ use Rattle.meaning.specs.declared.Index.the-variants.{At, Fails}
 use Rattle.meaning.specs.Rows.{ifElse, rowCount, naturalAt, kindAt}
 use Rattle.meaning.specs.Declarations.{variableAt}
 use Rattle.meaning.specs.Values.{isTrue, value, index}
-use Rattle.meaning.specs.State.{program}
+use Rattle.meaning.specs.Tree.{Part, empty, orStop, membersIn}
+use Rattle.meaning.specs.State.{program, processAt}
 use Rattle.meaning.specs.Intent.{Sheet}
+use Rattle.agreement.proofs.TableTree.{process-is}
+use Rattle.layout.proofs.Parts.{part-of-kind}
 use Rattle.evaluation.specs.Cells.{decoded}
 use Rattle.offers.specs.Rows.{operandExpr}
 use Rattle.intents.specs.declared.Does.{Does}
@@ -22,6 +26,7 @@ use Rattle.intents.specs.Does.{assigned, tested, doesOf}
 use Rattle.intents.specs.Rows.{assignmentAt, whileAt}
 use Rattle.intents.proofs.Actions.{actionAt, past-does, assignment-does, while-does, other-does}
 use Rattle.machine.specs.RowSteps.{liveByMembers}
+use Rattle.notes.proofs.WorkingRows.{running-with}
 use Rattle.stepping.specs.Acts.{actCode, sentCode, workingDoes}
 
 -- a step by itself, and no output
@@ -45,6 +50,14 @@ module _ (rows : List ℤ) (r : ℕ) (states : List ℕ) where
   -- the numbers act and s are those of a row that has a step whenever it is at work
   abbrev pub StepCodes : ℕ → ℕ → Type 0
   StepCodes act s = (act ≡ ifElse (liveByMembers (program rows) r states) 1 0) × (s ≡ 0)
+
+  -- an assignment has no members
+  no-members : r < rowCount rows → kindAt rows r ≡ 22 → membersIn (processAt (program rows) r) ≡ empty
+  no-members l e = ap membersIn (process-is rows r ∙ ap (λ (p : Part). orStop (p .process)) (part-of-kind rows r 22 l e))
+
+  -- so it is at work where it is running
+  running-codes : r < rowCount rows → kindAt rows r ≡ 22 → {n : ℕ} → n ≡ getD states r 0 → n ≡ 1 → StepCodes 1 0
+  running-codes l e q i = rw (sym (running-with rows r states q {t = true} empty i (no-members l e) refl)) (refl, refl)
 
   module _ (sheet : Sheet) (values : List ℤ) (marks places counts : List ℕ) where
     -- the numbers act and s tell what row r would do
@@ -84,8 +97,8 @@ module _ (rows : List ℤ) (r : ℕ) (states : List ℕ) where
     past-codes l = of-waiting (past-does rows r sheet (decoded values marks) places counts l)
 
     module _ (l : r < rowCount rows) where
-      pub assignment-codes : kindAt rows r ≡ 22 → {act s : ℕ} → StepCodes act s → Coded act s
-      assignment-codes e h = of-stepping _ (assignment-does rows r sheet (decoded values marks) places counts l e) assignment-steps h
+      pub assignment-codes : kindAt rows r ≡ 22 → {n : ℕ} → n ≡ getD states r 0 → n ≡ 1 → Coded 1 0
+      assignment-codes e q i = of-stepping _ (assignment-does rows r sheet (decoded values marks) places counts l e) assignment-steps (running-codes l e q i)
 
       pub while-codes : kindAt rows r ≡ 33 → {act s : ℕ} → StepCodes act s → Coded act s
       while-codes e h = of-stepping _ (while-does rows r sheet (decoded values marks) places counts l e) while-steps h

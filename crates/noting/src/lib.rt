@@ -74,7 +74,7 @@ fn step_codes<'a>(rows: &'a [i32], states: &'a [u8], r: usize) -> Codes
     Codes { act: 0, sent: 0 }
 }
 
-// What row r would do. An assignment or a WHILE at work has a step whatever its values are; SEQ and PAR do nothing by themselves.
+// What row r would do. An assignment that is running and a WHILE at work have a step whatever the values are; SEQ and PAR do nothing by themselves.
 pub fn codes_at<'a>(
     rows: &'a [i32],
     names: &'a [u16],
@@ -100,7 +100,7 @@ pub fn codes_at<'a>(
     }
     let kind = natural(rows, r, 0);
     match kind {
-        22 => step_codes(rows, states, r),
+        22 => Codes { act: 1, sent: 0 },
         30 => Codes { act: 0, sent: 0 },
         31 => Codes { act: 0, sent: 0 },
         33 => step_codes(rows, states, r),

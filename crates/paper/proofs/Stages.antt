@@ -1,90 +1,120 @@
--- What the sheet runner's task comes to, stage by stage: the refusal of the first stage that finds one, or the run; and what is printed for it.
-use mathlib.Core.Path.{_≡_, ap, ap₂, subst, _∙_}
+-- What is done of the sheet runner's task tells the refusal or the run that it comes to, and what is printed for it.
+use mathlib.Core.Path.{_≡_, refl, sym, ap, subst, _∙_}
 use mathlib.Core.List.{List, []}
-use mathlib.Core.Option.{none, some}
+use mathlib.Core.Option.{Option, none, some}
 use Prim.Native.Nat.{ℕ, _-_, _*_, _<_, _≤_}
 use native.Mathlib.Omega.{arith}
 use lib.IntN.{ℤ}
 use lib.ListN.{length, getD, take, drop, length-drop}
 use lib.Seq.{take-all}
 use Rattle.meaning.specs.declared.Outcome.{Outcome}
+use Rattle.meaning.specs.declared.Answer.{Answer}
+use Rattle.meaning.specs.declared.Answer.the-variants.{Refused, Ran}
 use Rattle.meaning.specs.Limits.{maxRows, maxBudget}
-use Rattle.meaning.specs.TableBytes.{Refusal, bytesFault, rowsOf}
+use Rattle.meaning.specs.TableBytes.{Refusal, rowsOf}
 use Rattle.meaning.specs.Sheet.{sheetFault, readings}
-use Rattle.meaning.specs.Answers.{Result, refused, ran, firstFault, budgetFault, check, result, resultOfBytes}
+use Rattle.meaning.specs.Answers.{Result, refused, ran, Reply, replyOf, either, unless, firstFault, budgetFault, check, result, resultOfBytes}
 use Rattle.meaning.specs.Run as meaning
 use Rattle.meaning.specs.Run.{run}
-use Rattle.meaning.specs.Printing.{page, runLines}
+use Rattle.meaning.specs.Printing.{page, runLines, lineBytes, refusedLine}
 use Rattle.meaning.specs.Runner.{printedResult, runner}
 use Rattle.meaning.specs.Buffers.{Buffers}
-use Rattle.meaning.specs.PrintedForms.{Each}
+use Rattle.meaning.specs.PrintedForms.{Each, In32}
 use Rattle.meaning.proofs.AnswerLaws.{accepted}
 use Rattle.agreement.proofs.VerdictStages.{whole-passes}
 use Rattle.machine.specs.Held.{blank}
 use Rattle.machine.proofs.HeldLaws.{states-are}
 use Rattle.machine.proofs.LentLists.{lent-at}
-use Rattle.checking.proofs.SheetKept.{sheet-kept, few-lines}
-use Rattle.offers.specs.Held.{KeptReadings}
-use Rattle.readings.specs.declared.SheetRead.{SheetRead}
-use Rattle.readings.specs.SheetRead.{sheetRead}
+use Rattle.lending.specs.declared.Done.{Done}
+use Rattle.lending.specs.Replies.{replyIn}
+use Rattle.tasks.proofs.Stages.{task-run}
 use Rattle.printing.specs.declared.Parts.{Parts}
 use Rattle.printing.specs.Decoding.{tableRows, resultIn}
 use Rattle.printing.specs.Splitting.{Splits}
 use Rattle.printing.proofs.Encoded.{Held, page-said}
-use Rattle.paper.specs.Pages.{taskOf}
-use Rattle.running.specs.declared.result.Run.{Run}
-use Rattle.running.specs.Ran.{RunHeld, arraysIn}
+use Rattle.writing.specs.Writing.{printedIn}
+use Rattle.paper.specs.Pages.{taskOf, maxPage}
+use Rattle.paper.proofs.FinalState.{run-held}
 use Rattle.paper.proofs.Lists.{each-of}
-
-module _ (rows : List ℤ) (sheet : List ℕ) where
-  -- a refusal of the rows
-  pub rows-refused : (f : Refusal) → check rows ≡ some f → result (taskOf rows sheet) ≡ refused f
-  unfolding result firstFault
-  rows-refused f e = rw e
-
-  -- a refusal of the sheet
-  pub sheet-refused : check rows ≡ none → (f : Refusal) → sheetFault rows sheet ≡ some f → result (taskOf rows sheet) ≡ refused f
-  unfolding result firstFault
-  sheet-refused ok f e = rw (ok, e)
-
-  -- a run
-  pub runs : check rows ≡ none → sheetFault rows sheet ≡ none → result (taskOf rows sheet) ≡ ran (run rows (readings rows sheet) [] maxBudget)
-  unfolding result firstFault budgetFault
-  runs ok e = rw (ok, e)
-
--- what is read of a sheet that is not refused
-pub read-kept : (rows : List ℤ) (sheet : List ℕ) → check rows ≡ none → sheetFault rows sheet ≡ none → (r : SheetRead) → r ≡ sheetRead rows sheet → KeptReadings rows (readings rows sheet) (r .values) (r .marks) (r .lines) × (r .lines ≤ 128)
-read-kept rows sheet ok e r h = rw h (sheet-kept rows sheet ok e, few-lines rows sheet ok e)
+use Rattle.paper.proofs.Ranges.{run-short}
 
 -- an accepted table has at most 1,024 rows
 rows-short : (rows : List ℤ) → check rows ≡ none → length rows ≤ 4 * maxRows
 rows-short rows ok = let w = whole-passes rows .0 (accepted rows .0 ok .0) in let d = w .0 in let k = w .1 in omega arith
 
--- the page of what a run leaves
-pub run-printed : (rows : List ℤ) → check rows ≡ none → (q : meaning.Result) (r : Run) (states : List ℕ) → states ≡ r .states → Held rows (q .state) → RunHeld rows q r
-    → page (runLines (tableRows rows) (resultIn (tableRows rows) (r .outcome) (r .steps) (r .values) (r .marks) states (r .numbers) (r .counts))) ≡ printedResult rows (ran q)
-run-printed rows ok q r states e k h =
-    ap (λ (l : List ℕ). page (runLines (tableRows rows) (resultIn (tableRows rows) (r .outcome) (r .steps) (r .values) (r .marks) l (r .numbers) (r .counts)))) e
-    ∙ ap₂ (λ (o : Outcome) (n : ℕ). shown o n (arraysIn r)) (h .outcome) (h .steps) ∙ ap (shown (q .outcome) (q .steps)) (h .arrays) ∙ page-said rows (q .state) blank k (rows-short rows ok) (q .outcome) (q .steps)
-  where
-    shown : Outcome → ℕ → Buffers → List ℕ
-    shown o n b = page (runLines (tableRows rows) (resultIn (tableRows rows) o n (b .cells) (b .marks) (b .states) (b .numbers) (b .counts)))
+-- an answer of a run comes from no refusal
+ran-unrefused : (rows : List ℤ) (f g : Option Refusal) (q : meaning.Result) (o : Outcome) (k : ℕ) → Ran o k ≡ replyOf rows blank (unless (either f (either g none)) (ran q)) .answer → (f ≡ none) × (g ≡ none)
+ran-unrefused rows none none q o k e = (refl, refl)
+ran-unrefused rows none (some g) q o k e = let z : _≡_ {A = ℕ} 0 1 = cc in absurd (omega arith)
+ran-unrefused rows (some f) g q o k e = let z : _≡_ {A = ℕ} 0 1 = cc in absurd (omega arith)
 
--- the row states of what a run leaves are bytes
-pub states-bytes : (rows : List ℤ) (q : meaning.Result) (r : Run) → Held rows (q .state) → RunHeld rows q r → ((i : ℕ) → getD (r .states) i 0 < 256) → Each (λ n. n < 256) (q .state .states)
-states-bytes rows q r k h b =
-    let few : length (q .state .states) ≤ maxRows = (let a = k .states-all in let c = k .rows-few in omega arith) in
-    each-of 0 (q .state .states) (λ i. subst (λ (n : ℕ). n < 256) (ap (λ (l : List ℕ). getD l i 0) (states-are rows (q .state) (arraysIn r) (h .arrays)) ∙ lent-at maxRows i 0 (q .state .states) few) (b i))
+-- an answer of a refusal is that of a result that is refused
+refused-answer : (rows : List ℤ) (r : Result) (n p : ℕ) → Refused n p ≡ replyOf rows blank r .answer → r ≡ refused (n, p)
+refused-answer rows (refused (m, q)) n p e = cc
+refused-answer rows (ran q) n p e = let z : _≡_ {A = ℕ} 0 1 = cc in absurd (omega arith)
 
-module _ (table sheet : List ℕ) where
-  -- a refusal of the table's bytes
-  pub bytes-refused : (f : Refusal) → bytesFault table ≡ some f → resultOfBytes table sheet [] maxBudget ≡ refused f
-  unfolding resultOfBytes
-  bytes-refused f e = rw e
+module _ (rows : List ℤ) (sheet : List ℕ) (d : Done) (e : replyIn d ≡ replyOf rows blank (result (taskOf rows sheet))) where
+  -- what is printed for the task
+  abbrev printed : List ℕ
+  printed = printedResult rows (result (taskOf rows sheet))
 
-  pub bytes-read : bytesFault table ≡ none → resultOfBytes table sheet [] maxBudget ≡ result (taskOf (rowsOf table) sheet)
-  unfolding resultOfBytes
-  bytes-read e = rw e
+  module _ (o : Outcome) (k : ℕ) (a : d .answer ≡ Ran o k) where
+    -- the run of the task
+    abbrev ending : meaning.Result
+    ending = run rows (readings rows sheet) [] maxBudget
+
+    -- nothing is refused
+    unrefused : (check rows ≡ none) × (sheetFault rows sheet ≡ none)
+    unfolding result firstFault budgetFault
+    unrefused = ran-unrefused rows (check rows) (sheetFault rows sheet) ending o k (sym a ∙ ap (λ (r : Reply). r .answer) e)
+
+    -- so the task comes to that run
+    runs : result (taskOf rows sheet) ≡ ran ending
+    runs = task-run rows sheet [] maxBudget (unrefused .0) (unrefused .1) (omega arith)
+
+    -- a page can be made of its state
+    held : Held rows (ending .state)
+    held = run-held rows (unrefused .0) (readings rows sheet) [] maxBudget
+
+    -- the page of an answer and its arrays
+    abbrev shown : Answer → Buffers → List ℕ
+    shown (Refused n p) b = []
+    shown (Ran o n) b = page (runLines (tableRows rows) (resultIn (tableRows rows) o n (b .cells) (b .marks) (b .states) (b .numbers) (b .counts)))
+
+    -- the page of what a run leaves
+    run-printed : shown (Ran o k) (replyIn d .buffers) ≡ printed
+    run-printed =
+        ap (λ (x : Answer). shown x (replyIn d .buffers)) (sym a)
+        ∙ ap (λ (r : Reply). shown (r .answer) (r .buffers)) (e ∙ ap (replyOf rows blank) runs)
+        ∙ page-said rows (ending .state) blank held (rows-short rows (unrefused .0)) (ending .outcome) (ending .steps)
+        ∙ ap (printedResult rows) (sym runs)
+
+    -- its row states are bytes
+    states-bytes : ((i : ℕ) → getD (d .states) i 0 < 256) → Each (λ n. n < 256) (ending .state .states)
+    states-bytes b =
+        let few : length (ending .state .states) ≤ maxRows = (let a = held .states-all in let c = held .rows-few in omega arith) in
+        let is = states-are rows (ending .state) (replyIn d .buffers) (ap (λ (r : Reply). r .buffers) (e ∙ ap (replyOf rows blank) runs)) in
+        each-of 0 (ending .state .states) (λ i. subst (λ (n : ℕ). n < 256) (ap (λ (l : List ℕ). getD l i 0) is ∙ lent-at maxRows i 0 (ending .state .states) few) (b i))
+
+    -- so its page is short
+    run-fits : Each In32 rows → ((i : ℕ) → getD (d .states) i 0 < 256) → length printed ≤ maxPage
+    run-fits numbers b = rw runs (run-short rows numbers (unrefused .0) sheet (unrefused .1) (states-bytes b))
+
+  module _ (old : List ℕ) where
+    -- the line of a refusal, in a lent buffer
+    pub refusal-done : (n p : ℕ) → d .answer ≡ Refused n p → (w : ℕ × List ℕ) → w ≡ printedIn (lineBytes (refusedLine (n, p))) old → length (lineBytes (refusedLine (n, p))) ≤ maxPage
+        → (w ≡ printedIn printed old) × (Each In32 rows → length printed ≤ maxPage)
+    refusal-done n p a w h short = rw (refused-answer rows (result (taskOf rows sheet)) n p (sym a ∙ ap (λ (r : Reply). r .answer) e)) (h, λ i. short)
+
+    -- the page of a run, in a lent buffer
+    pub run-done : (o : Outcome) (k : ℕ) → d .answer ≡ Ran o k → (states : List ℕ) → states ≡ d .states → ((i : ℕ) → getD (d .states) i 0 < 256) → (w : ℕ × List ℕ)
+        → w ≡ printedIn (page (runLines (tableRows rows) (resultIn (tableRows rows) o k (d .cells) (d .marks) states (d .numbers) (d .counts)))) old → (w ≡ printedIn printed old) × (Each In32 rows → length printed ≤ maxPage)
+    run-done o k a states is bytes w h = (
+      h
+          ∙ ap (λ (l : List ℕ). printedIn (page (runLines (tableRows rows) (resultIn (tableRows rows) o k (d .cells) (d .marks) l (d .numbers) (d .counts)))) old) is
+          ∙ ap (λ (l : List ℕ). printedIn l old) (run-printed o k a),
+      λ i. run-fits o k a i bytes,
+    )
 
 -- what is printed for the two parts of standard input
 pub parts-printed : (input : List ℕ) (p : Parts) → Splits input p

@@ -1,23 +1,18 @@
 // The sheet runner ("A run on paper"): from the bytes of standard input to the bytes that are printed.
 ghost use mathlib.Core.Path.{_≡_};
 ghost use mathlib.Core.List.{[]};
-ghost use mathlib.Core.Option.{none};
 ghost use Prim.Native.Nat.{ℕ, _<_, _≤_};
 ghost use lib.ListN.{length, getD, take};
 ghost use Rattle.meaning.specs.Limits.{maxBudget};
-ghost use Rattle.meaning.specs.Intent.{Sheet};
 ghost use Rattle.meaning.specs.TableBytes.{rowsOf};
-ghost use Rattle.meaning.specs.Answers.{ran, check, result, resultOfBytes};
-ghost use Rattle.meaning.specs.Run as meaning;
+ghost use Rattle.meaning.specs.Answers.{result, resultOfBytes};
 ghost use Rattle.meaning.specs.Printing.{lineBytes, refusedLine};
 ghost use Rattle.meaning.specs.Runner.{printedResult, runner};
 ghost use Rattle.meaning.specs.PrintedForms.{Each, In32};
-ghost use Rattle.offers.specs.Held.{KeptReadings};
 ghost use Rattle.writing.specs.Writing.{printedIn};
 ghost use Rattle.paper.specs.Pages.{taskOf, maxPage};
-use checking::check_rows;
+use meaning::Answer;
 use meaning::Verdict;
-use running::run;
 
 // What is printed: its bytes at the start of a buffer that holds every page, and how many they are.
 pub struct Page {
@@ -41,68 +36,34 @@ fn row_states(states: &[u8]) -> &[u8]
     writing::slices::of_bytes(states, 0, states.len())
 }
 
-// The page of the run of an accepted table on readings that are kept: no choices, budget 65,536.
-fn run_page<'a>(
-    rows: &'a [i32],
-    readings: &'a [i32],
-    given: &'a [u8],
-    lines: usize,
-    out: &mut [u8],
-) -> usize
-    requires accepted { ⌜ check (now rows) ≡ none ⌝ }
-    requires kept { ⌜ ((sheet : Sheet) × KeptReadings (now rows) sheet (now readings) (now given) lines) ⌝ }
-    requires few { ⌜ lines ≤ 128 ⌝ }
-    ensures { λ n. ⌜ ((sheet : Sheet) → KeptReadings (now (rows .entry)) sheet (now (readings .entry)) (now (given .entry)) lines → (n, now (out .exit)) ≡ printedIn (printedResult (now (rows .entry)) (ran (meaning.run (now (rows .entry)) sheet [] maxBudget))) (now (out .entry))) ⌝ }
-    ensures { λ n. ⌜ ((sheet : Sheet) → KeptReadings (now (rows .entry)) sheet (now (readings .entry)) (now (given .entry)) lines → Each (λ q. q < 256) (meaning.run (now (rows .entry)) sheet [] maxBudget .state .states)) ⌝ }
-{
-    let choices = [0u16; 0];
-    let last = run(rows, readings, given, lines, &choices, 65536);
-    let outcome = last.outcome;
-    let values = last.values;
-    let marks = last.marks;
-    let states = last.states;
-    let numbers = last.numbers;
-    let counts = last.counts;
-    printing::run_page(
-        rows,
-        outcome,
-        last.steps,
-        &values,
-        &marks,
-        row_states(&states),
-        &numbers,
-        &counts,
-        out,
-    )
-}
-
-// The page of an accepted table and a sheet: the sheet is read, then the table is run.
-fn sheet_page(rows: &[i32], sheet: &[u8], out: &mut [u8]) -> usize
-    requires { ⌜ check (now rows) ≡ none ⌝ }
-    ensures { λ n. ⌜ (n, now (out .exit)) ≡ printedIn (printedResult (now (rows .entry)) (result (taskOf (now (rows .entry)) (now (sheet .entry))))) (now (out .entry)) ⌝ }
-    ensures { λ n. ⌜ (Each In32 (now (rows .entry)) → length (printedResult (now (rows .entry)) (result (taskOf (now (rows .entry)) (now (sheet .entry))))) ≤ maxPage) ⌝ }
-{
-    let read = readings::read_sheet(rows, sheet);
-    let verdict = read.verdict;
-    match verdict {
-        Verdict::Rejected(number, line) => refusal_page(number, line, out),
-        Verdict::Accepted => {
-            let values = read.values;
-            let marks = read.marks;
-            run_page(rows, &values, &marks, read.lines, out)
-        }
-    }
-}
-
-// The page of rows and a sheet: the rows are checked first.
+// The page of rows and a sheet: the task is done with no choices and budget 65,536.
 fn rows_page(rows: &[i32], sheet: &[u8], out: &mut [u8]) -> usize
     ensures { λ n. ⌜ (n, now (out .exit)) ≡ printedIn (printedResult (now (rows .entry)) (result (taskOf (now (rows .entry)) (now (sheet .entry))))) (now (out .entry)) ⌝ }
     ensures { λ n. ⌜ (Each In32 (now (rows .entry)) → length (printedResult (now (rows .entry)) (result (taskOf (now (rows .entry)) (now (sheet .entry))))) ≤ maxPage) ⌝ }
 {
-    let verdict = check_rows(rows);
-    match verdict {
-        Verdict::Rejected(number, row) => refusal_page(number, row, out),
-        Verdict::Accepted => sheet_page(rows, sheet, out),
+    let choices = [0u16; 0];
+    let done = tasks::do_rows(rows, sheet, &choices, 65536);
+    let answer = done.answer;
+    match answer {
+        Answer::Refused(number, place) => refusal_page(number, place, out),
+        Answer::Ran(outcome, steps) => {
+            let cells = done.cells;
+            let marks = done.marks;
+            let states = done.states;
+            let numbers = done.numbers;
+            let counts = done.counts;
+            printing::run_page(
+                rows,
+                outcome,
+                steps,
+                &cells,
+                &marks,
+                row_states(&states),
+                &numbers,
+                &counts,
+                out,
+            )
+        }
     }
 }
 

@@ -1,10 +1,8 @@
 -- A run on from a state: at rest, with its budget used, and one step further.
-use mathlib.Core.Path.{_≡_, refl}
-use mathlib.Core.List.{List, [], _∷_, List·Memᴰ, List·Memᴰ·head, List·Memᴰ·tail}
-use Prim.Native.Nat.{ℕ, zero, suc, _<_, _%_}
-use native.Mathlib.Nat.{mod-lt}
-use native.Mathlib.Omega.{arith}
-use lib.ListN.{length, getD, drop}
+use mathlib.Core.Path.{_≡_}
+use mathlib.Core.List.{List, [], _∷_}
+use Prim.Native.Nat.{ℕ, zero, suc}
+use lib.ListN.{getD, drop}
 use Rattle.meaning.specs.declared.Outcome.the-variants.{Spent}
 use Rattle.meaning.specs.State.{State, Program}
 use Rattle.meaning.specs.Intent.{Sheet}
@@ -32,13 +30,3 @@ module _ (P : Program) (sheet : Sheet) (n : ℕ) (choices : List ℕ) (s : State
 pub chosen-first : (choices : List ℕ) (c : ℕ) → c ≡ getD choices 0 0 → (x : Label) (l : List Label) → chosenStep (c ∷ []) x l ≡ chosenStep choices x l
 unfolding chosenStep
 chosen-first choices c e x l = rw e
-
-element-in : (l : List Label) (i : ℕ) (d : Label) → i < length l → List·Memᴰ (getD l i d) l
-element-in [] i d h = absurd (omega arith)
-element-in (x ∷ l) zero d h = List·Memᴰ·head refl
-element-in (x ∷ l) (suc i) d h = List·Memᴰ·tail (element-in l i d (omega arith))
-
--- the step that choices pick is one of the ready ones
-pub chosen-ready : (choices : List ℕ) (x : Label) (l : List Label) → List·Memᴰ (chosenStep choices x l) (x ∷ l)
-unfolding chosenStep
-chosen-ready choices x l = element-in (x ∷ l) (getD choices 0 0 % length (x ∷ l)) x (mod-lt (getD choices 0 0) (omega arith))

@@ -27,9 +27,10 @@ use Rattle.offers.specs.Held.{KeptReadings}
 use Rattle.machine.specs.Held.{Holds}
 use Rattle.taking.specs.Stands.{StandsAt}
 use Rattle.turns.specs.Turned.{turnFrom, Turned}
+use Rattle.turns.proofs.Picked.{chosen-ready}
 use Rattle.running.specs.Ran.{restOutcome, Reached}
 use Rattle.running.proofs.Outcomes.{rest-is}
-use Rattle.running.proofs.Going.{goes-to-rest, goes-no-further, goes-on, chosen-first, chosen-ready}
+use Rattle.running.proofs.Going.{goes-to-rest, goes-no-further, goes-on, chosen-first}
 
 -- the run has come to a state that the arrays hold, after n steps
 pub record Underway (rows : List ℤ) (sheet : Sheet) (readings : List ℤ) (given : List ℕ) (lines : ℕ) (choices : List ℕ) (budget n : ℕ) (b : Buffers) : Type 0 where

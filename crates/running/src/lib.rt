@@ -33,12 +33,21 @@ pub fn run<'a>(
     let root = rows::declarations(rows);
     let mut owners = [0u16; 1024];
     notes::owners::note_owners(rows, &mut owners);
+    let mut parents = [0u16; 1024];
+    let mut nexts = [0u16; 1024];
+    parents::note_parents(rows, &mut parents, &mut nexts);
     let values = [0i32; 256];
     let marks = [0u8; 256];
     let places = [0u32; 8];
     let mut states = [0u8; 1024];
     let mut numbers = [0i32; 1024];
     let mut counts = [0u32; 8];
+    let mut acts = [0u16; 1024];
+    let mut sent = [0u16; 1024];
+    let mut waiting = [0u16; 256];
+    let mut list = [0u16; 1024];
+    let mut ready = [0u16; 1024];
+    let mut touched = [0usize; 1024];
     settling::start(rows, root, &mut states);
     let done = steps::take_steps(
         rows,
@@ -47,6 +56,8 @@ pub fn run<'a>(
         given,
         lines,
         &owners,
+        &parents,
+        &nexts,
         root,
         choices,
         budget,
@@ -58,6 +69,12 @@ pub fn run<'a>(
         &mut states,
         &mut numbers,
         &mut counts,
+        &mut acts,
+        &mut sent,
+        &mut waiting,
+        &mut list,
+        &mut ready,
+        &mut touched,
     );
     let outcome = done.outcome;
     let last = done.state;

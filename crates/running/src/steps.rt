@@ -2,8 +2,9 @@
 ghost use mathlib.Core.Path.{_≡_};
 ghost use mathlib.Core.Option.{none};
 ghost use Prim.Native.Nat.{_≤_};
-ghost use lib.ListN.{getD};
+ghost use lib.ListN.{length, getD};
 ghost use Rattle.meaning.specs.Rows as table;
+ghost use Rattle.meaning.specs.Rows.{rowCount};
 ghost use Rattle.meaning.specs.State.{program, start};
 ghost use Rattle.meaning.specs.Intent.{Sheet};
 ghost use Rattle.meaning.specs.Run.{run};
@@ -11,11 +12,14 @@ ghost use Rattle.meaning.specs.Answers.{check};
 ghost use Rattle.layout.specs.Names.{Named};
 ghost use Rattle.offers.specs.Held.{KeptReadings};
 ghost use Rattle.machine.specs.Held.{Holds};
+ghost use Rattle.parents.specs.Parents.{ParentsNoted};
+ghost use Rattle.noting.specs.Kept.{Room};
 ghost use Rattle.taking.specs.Stands.{arraysOf, Owned};
 ghost use Rattle.running.specs.Stages.{stageOf};
 ghost use Rattle.running.specs.Ran.{Reached};
 use crate::outcome::rest_outcome;
 use meaning::Outcome;
+use noting::note_all;
 use taking::State;
 use turns::take_turn;
 
@@ -54,7 +58,7 @@ fn stage_of(count: usize, n: u32, budget: u32) -> Stage
     Stage::Further
 }
 
-// From the start, the steps that the choices pick, up to rest or the budget.
+// From the start, the steps that the choices pick, up to rest or the budget. What the rows would do is noted for all at the start, and kept from step to step.
 pub fn take_steps<'a>(
     rows: &'a [i32],
     names: &'a [u16],
@@ -62,6 +66,8 @@ pub fn take_steps<'a>(
     given: &'a [u8],
     lines: usize,
     owners: &'a [u16],
+    parents: &'a [u16],
+    nexts: &'a [u16],
     root: usize,
     choices: &[u16],
     budget: u32,
@@ -69,16 +75,41 @@ pub fn take_steps<'a>(
     states: &mut [u8],
     numbers: &mut [i32],
     counts: &mut [u32],
+    acts: &mut [u16],
+    sent: &mut [u16],
+    waiting: &mut [u16],
+    list: &mut [u16],
+    ready: &mut [u16],
+    touched: &mut [usize],
 ) -> Done
     requires accepted { ⌜ check (now rows) ≡ none ⌝ }
     requires rooted { ⌜ root ≡ table.root (now rows) ⌝ }
     requires named { ⌜ Named (now rows) (now names) ⌝ }
     requires owned { ⌜ Owned (now rows) (now owners) ⌝ }
+    requires parented { ⌜ ParentsNoted (now rows) (now parents) (now nexts) ⌝ }
     requires kept { ⌜ ((sheet : Sheet) × KeptReadings (now rows) sheet (now readings) (now given) lines) ⌝ }
     requires few { ⌜ lines ≤ 128 ⌝ }
     requires started { ⌜ Holds (now rows) (start (program (now rows))) (arraysOf first (now states) (now numbers) (now counts)) ⌝ }
+    requires room { ⌜ Room (rowCount (now rows)) (now acts) (now sent) (now waiting) × (rowCount (now rows) ≤ length (now list)) × (rowCount (now rows) ≤ length (now ready)) ⌝ }
     ensures { λ d. ⌜ ((sheet : Sheet) → KeptReadings (now (rows .entry)) sheet (now (readings .entry)) (now (given .entry)) lines → Reached (now (rows .entry)) (run (now (rows .entry)) sheet (now (choices .entry)) budget) (d .outcome) (d .steps) (arraysOf (d .state) (now (states .exit)) (now (numbers .exit)) (now (counts .exit)))) ⌝ }
 {
+    let mut working = note_all(
+        rows,
+        names,
+        &first.values,
+        &first.marks,
+        &first.places,
+        &counts[..],
+        readings,
+        given,
+        lines,
+        &states[..],
+        owners,
+        acts,
+        sent,
+        waiting,
+        list,
+    );
     let mut state = first;
     let mut n: u32 = 0;
     loop {
@@ -89,15 +120,24 @@ pub fn take_steps<'a>(
             given,
             lines,
             owners,
-            root,
+            parents,
+            nexts,
             choice_at(choices, n),
             n < budget,
             state,
             states,
             numbers,
             counts,
+            acts,
+            sent,
+            waiting,
+            list,
+            working,
+            ready,
+            touched,
         );
         state = turn.state;
+        working = turn.working;
         let stage = stage_of(turn.count, n, budget);
         match stage {
             Stage::AtRest => {

@@ -1,4 +1,4 @@
--- One turn: the notes count the ready steps; where none is ready or none may be taken the arrays hold the state that they held.
+-- One turn: what is kept of the rows and the list of those that have a step are what a step needs; the list counts the ready steps; where none is ready or none may be taken the arrays hold the state that they held.
 use mathlib.Core.Path.{_≡_, refl, ap, _∙_}
 use mathlib.Core.Bool.{Bool, true, false}
 use mathlib.Core.Option.{none}
@@ -7,6 +7,7 @@ use Prim.Native.Nat.{ℕ, zero, suc, _<_}
 use native.Mathlib.Omega.{arith}
 use lib.IntN.{ℤ}
 use lib.ListN.{length}
+use Rattle.meaning.specs.Rows.{rowCount}
 use Rattle.meaning.specs.State.{State, program}
 use Rattle.meaning.specs.Intent.{Sheet}
 use Rattle.meaning.specs.Ready.{Label, ready, after}
@@ -14,8 +15,11 @@ use Rattle.meaning.specs.Run.{chosenStep}
 use Rattle.meaning.specs.Buffers.{Buffers}
 use Rattle.meaning.specs.Answers.{check}
 use Rattle.machine.specs.Held.{Holds}
-use Rattle.stepping.proofs.ReadyMarks.{marked-count}
-use Rattle.taking.specs.Stands.{StandsAt, NotedAt}
+use Rattle.stepping.specs.Acts.{hasStep}
+use Rattle.rowlist.specs.InOrder.{InOrder}
+use Rattle.noting.specs.Kept.{Kept}
+use Rattle.taking.specs.Stands.{Owned, StandsAt, NotedAt}
+use Rattle.taking.proofs.Chosen.{ready-counted}
 use Rattle.turns.specs.Turned.{turnFrom, Turned}
 
 -- a number that is not 0
@@ -24,10 +28,15 @@ not-none zero h = absurd (h refl)
 not-none (suc n) h = omega arith
 
 module _ (rows : List ℤ) (ok : check rows ≡ none) (sheet : Sheet) (readings : List ℤ) (given : List ℕ) (lines : ℕ) (b : Buffers) (s : State) (S : StandsAt rows sheet readings given lines b s)
-    (owners acts waiting marks : List ℕ) (count : ℕ) (N : NotedAt rows sheet b owners acts waiting marks count) where
+    (owners acts sent waiting list : List ℕ) (working : ℕ) (O : Owned rows owners) (K : Kept rows sheet (b .cells) (b .marks) (b .places) (b .counts) (b .states) owners acts sent waiting list working)
+    (readyRows : List ℕ) (count : ℕ) (L : InOrder (hasStep rows sheet (b .cells) (b .marks) (b .places) (b .counts) (b .states) acts waiting owners) (rowCount rows) readyRows count) where
+  -- what a step needs
+  pub noted : NotedAt rows sheet b owners acts waiting readyRows count
+  noted = record { owned = O; elements = K .room .waiting; noted = K .noted; listed = L }
+
   -- the ready steps are counted
-  count-is : count ≡ length (ready (program rows) sheet s)
-  count-is = marked-count rows ok sheet (S .labels) s (S .order) b (S .holds) acts waiting owners (N .noted) (N .elements) (N .owned) marks count (N .marked)
+  pub count-is : count ≡ length (ready (program rows) sheet s)
+  count-is = ready-counted rows ok sheet readings given lines b s owners acts waiting readyRows count S noted
 
   -- no step is ready
   pub turned-at-rest : (more : Bool) (choice : ℕ) → count ≡ 0 → Turned rows sheet more choice s count b

@@ -1,1 +1,4 @@
+pub mod Picked
+pub mod Keeps
 pub mod Counted
+pub mod Renewed

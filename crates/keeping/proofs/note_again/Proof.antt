@@ -1,5 +1,5 @@
 -- `note_again` meets its contract: where there was room for all, every row that a step affected is forgotten and noted anew.
-use mathlib.Core.Path.{sym, _∙_}
+use mathlib.Core.Path.{sym}
 use borrow.Author.Needs.{needs}
 use Rattle.renewing.proofs.Entries.{affected-meant}
 use Rattle.keeping.proofs.KeptAgain.{kept-again}
@@ -51,10 +51,10 @@ same-length-8 c = search needs
 returns-2 : tie.Need-returns-2
 returns-2 c =
     let s = c .before .before .before .before .before .before .before .before .before .before .before .before .before .before .before .before .before .before .before .before .before .before .before .before .before .before .before .before .before .before .before .before .before .before .before in
-    let room = s .pre .1 .1 in
     let F = c .before .before .before .before .before .before .before .before .before .before .before .before .before .before .before .before .before .forget-rows .ensures in
     let G = c .before .before .before .before .before .before .before .before .note-rows .ensures in
-    λ sheet K T H. kept-again T H (affected-meant (s .args .touched .now) (s .args .parents .now) (c .before .before .before .before .before .before .before .before .before .before .before .before .before .before .before .before .before .before .before .before .before .entry-count .result) (sym (c .before .before .before .before .before .before .before .before .before .before .before .before .before .before .before .before .before .before .before .before .before .entry-count .ensures)) (c .before .before .before .before .before .before .before .before .before .before .before .before .before .before .before .before .before .before .before .before .if1 .left)) (F .0) (G .0 sheet K) (record { acts = rw (G .1 .acts) (room .acts); sent = rw (G .1 .sent ∙ F .1 .0) (room .sent); waiting = G .1 .waiting ∙ F .1 .1 ∙ room .waiting })
+    let after = c .before .before .before .before .before .before .before .before .note-rows .last .1 .1 .1 .1 .1 .1 .1 .1 .1 .1 .1 .1 .1 .1 in
+    λ sheet K T H. kept-again {acts = after .0} {sent = after .1 .0} {waiting = after .1 .1 .0} {list = after .1 .1 .1 .0} T H (affected-meant (s .args .touched .now) (s .args .parents .now) (c .before .before .before .before .before .before .before .before .before .before .before .before .before .before .before .before .before .before .before .before .before .entry-count .result) (sym (c .before .before .before .before .before .before .before .before .before .before .before .before .before .before .before .before .before .before .before .before .before .entry-count .ensures)) (c .before .before .before .before .before .before .before .before .before .before .before .before .before .before .before .before .before .before .before .before .if1 .left)) (F .0) (G .0 sheet K) (F .1) (G .1)
 
 pub note-again-spec : {M : Type 1} → statement M
 note-again-spec =

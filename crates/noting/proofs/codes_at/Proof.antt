@@ -28,17 +28,14 @@ natural-requires c κs = search needs
 step-codes-requires : tie.Need-step-codes-requires
 step-codes-requires c κs = search needs
 
-step-codes-requires-2 : tie.Need-step-codes-requires-2
-step-codes-requires-2 c κs = search needs
-
 working-codes-requires : tie.Need-working-codes-requires
 working-codes-requires c κs = search needs
 
 returns-3 : tie.Need-returns-3
 returns-3 c sheet K =
-    let n = c .before .before in
+    let n = c .before in
     let s = n .before .before .before .before .before .before .before .before .before .before .args in
-    assignment-codes (s .rows .now) (s .r) (s .states .now) sheet (s .values .now) (s .marks .now) (s .places .now) (s .counts .now) (n .before .if2 .left) (sym (n .natural .ensures) ∙ c .before .match .keys1) (c .step-codes .ensures)
+    assignment-codes (s .rows .now) (s .r) (s .states .now) sheet (s .values .now) (s .marks .now) (s .places .now) (s .counts .now) (n .before .if2 .left) (sym (n .natural .ensures) ∙ c .match .keys1) (n .before .before .before .state-at .ensures) (n .before .before .if1 .left)
 
 returns-4 : tie.Need-returns-4
 returns-4 c sheet K =
@@ -58,7 +55,7 @@ returns-6 : tie.Need-returns-6
 returns-6 c sheet K =
     let n = c .before .before in
     let s = n .before .before .before .before .before .before .before .before .before .before .args in
-    while-codes (s .rows .now) (s .r) (s .states .now) sheet (s .values .now) (s .marks .now) (s .places .now) (s .counts .now) (n .before .if2 .left) (sym (n .natural .ensures) ∙ c .before .match .keys4) (c .step-codes2 .ensures)
+    while-codes (s .rows .now) (s .r) (s .states .now) sheet (s .values .now) (s .marks .now) (s .places .now) (s .counts .now) (n .before .if2 .left) (sym (n .natural .ensures) ∙ c .before .match .keys4) (c .step-codes .ensures)
 
 returns-7 : tie.Need-returns-7
 returns-7 c = c .working-codes .ensures
@@ -72,7 +69,6 @@ codes-at-spec =
     returns-2
     natural-requires
     step-codes-requires
-    step-codes-requires-2
     working-codes-requires
     returns-3
     returns-4

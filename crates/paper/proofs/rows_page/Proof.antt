@@ -1,59 +1,82 @@
--- A refusal of the rows, or what the accepted table and the sheet come to. Assumes nothing.
-use mathlib.Core.Path.{sym, ap, _∙_}
+-- What is done of the task, a refusal or a run, is printed. Assumes nothing.
+use Rattle.paper.proofs.Stages.{refusal-done, run-done}
 use borrow.Author.Needs.{needs}
-use Rattle.meaning.specs.Answers.{Result, check}
-use Rattle.meaning.specs.Runner.{printedResult}
-use Rattle.writing.specs.Writing.{printedIn}
-use Rattle.meaning.proofs.AnswerLaws.{accepted-none, rejected-some}
-use Rattle.paper.proofs.Stages.{rows-refused}
 use Rattle.paper.proofs.rows_page.Statement.{statement}
 use Rattle.paper.proofs.rows_page.Tie as tie
 
-check-rows-requires : tie.Need-check-rows-requires
-check-rows-requires c κs = search needs
+slice-aggregate-do-rows : tie.Need-slice-aggregate-do-rows
+slice-aggregate-do-rows c = search needs
 
-enum-known-verdict : tie.Need-enum-known-verdict
-enum-known-verdict c = search needs
+do-rows-requires : tie.Need-do-rows-requires
+do-rows-requires c κs = search needs
+
+enum-known-answer : tie.Need-enum-known-answer
+enum-known-answer c = search needs
 
 refusal-page-requires : tie.Need-refusal-page-requires
 refusal-page-requires c κs = search needs
 
-enum-told : tie.Need-enum-told
-enum-told c = search needs
+enum-known-answer-2 : tie.Need-enum-known-answer-2
+enum-known-answer-2 c = search needs
 
-sheet-page-requires : tie.Need-sheet-page-requires
-sheet-page-requires c κs =
-    let rows = c .before .before .before .before .before .before .args .rows .now in
-    accepted-none (check rows) (sym (c .before .enum-told .given .1) ∙ c .before .before .before .check-rows .ensures)
+slice-aggregate-run-page : tie.Need-slice-aggregate-run-page
+slice-aggregate-run-page c = search needs
+
+slice-aggregate-run-page-2 : tie.Need-slice-aggregate-run-page-2
+slice-aggregate-run-page-2 c = search needs
+
+slice-aggregate-row-states : tie.Need-slice-aggregate-row-states
+slice-aggregate-row-states c = search needs
+
+row-states-requires : tie.Need-row-states-requires
+row-states-requires c κs = search needs
+
+slice-aggregate-run-page-3 : tie.Need-slice-aggregate-run-page-3
+slice-aggregate-run-page-3 c = search needs
+
+slice-aggregate-run-page-4 : tie.Need-slice-aggregate-run-page-4
+slice-aggregate-run-page-4 c = search needs
+
+run-page-requires : tie.Need-run-page-requires
+run-page-requires c κs = search needs
 
 same-length : tie.Need-same-length
 same-length c = search needs
 
 returns : tie.Need-returns
 returns c =
-    let s = c .before .before .before .before .before .before .before .before .before .before in
-    let rows = s .args .rows .now in
-    let g = c .before .before .before .before .before .verdict .given in
-    let f = rejected-some (check rows) (g .0 .0) (g .0 .1 .0) (sym (g .1) ∙ c .before .before .before .before .before .before .before .check-rows .ensures) in
-    let e = rows-refused rows (s .args .sheet .now) (g .0 .0, g .0 .1 .0) f in
-    let p = c .before .before .refusal-page .ensures in
-    (p .0 ∙ ap (λ (q : Result). printedIn (printedResult rows q) (s .args .out .now)) (sym e), λ i. rw e (p .1))
+    let a = c .before .before .before .before .before .before .before .before .before .before .before .args in
+    let done = c .before .before .before .before .before .before .before .do-rows in
+    let g = c .before .before .before .before .before .answer .given in
+    refusal-done (a .rows .now) (a .sheet .now) (done .result) (done .ensures) (a .out .now) (g .0 .0) (g .0 .1 .0) (g .1) _ (c .before .before .refusal-page .ensures .0) (c .before .before .refusal-page .ensures .1)
 
 same-length-2 : tie.Need-same-length-2
 same-length-2 c = search needs
 
 returns-2 : tie.Need-returns-2
-returns-2 c = search needs
+returns-2 c =
+    let a = c .before .before .before .before .before .before .before .before .before .before .before .before .before .before .before .before .before .before .before .before .before .before .args in
+    let done = c .before .before .before .before .before .before .before .before .before .before .before .before .before .before .before .before .before .before .do-rows in
+    let g = c .before .before .before .before .before .before .before .before .before .before .before .before .before .before .before .before .answer2 .given in
+    let states = c .before .before .before .before .before .before .row-states in
+    run-done (a .rows .now) (a .sheet .now) (done .result) (done .ensures) (a .out .now) (g .0 .0) (g .0 .1 .0) (g .1) _ (states .ensures .0) (states .ensures .1) _ (c .before .before .run-page .ensures)
 
 pub rows-page-spec : {M : Type 1} → statement M
 rows-page-spec =
     tie.close
     (tie.spec
-    check-rows-requires
-    enum-known-verdict
+    slice-aggregate-do-rows
+    do-rows-requires
+    enum-known-answer
     refusal-page-requires
-    enum-told
-    sheet-page-requires
+    enum-known-answer-2
+    slice-aggregate-run-page
+    slice-aggregate-run-page-2
+    slice-aggregate-row-states
+    row-states-requires
+    slice-aggregate-run-page-3
+    slice-aggregate-run-page-4
+    run-page-requires
     same-length
     returns
     same-length-2

@@ -1,13 +1,14 @@
 -- A refusal of the table's bytes, or what its rows and the sheet come to. Assumes nothing.
 use mathlib.Core.Path.{_≡_, sym, ap, subst, _∙_}
 use mathlib.Core.Option.{none}
-use mathlib.Core.List.{List}
+use mathlib.Core.List.{List, []}
 use Prim.Native.Nat.{_*_, _≤_}
 use native.Mathlib.Omega.{arith}
 use lib.IntN.{ℤ}
 use lib.ListN.{length, take}
 use lib.Seq.{length-take-le}
 use borrow.Author.Needs.{needs}
+use Rattle.meaning.specs.Limits.{maxBudget}
 use Rattle.meaning.specs.TableBytes.{bytesFault, rowsOf}
 use Rattle.meaning.specs.Answers.{Result, result}
 use Rattle.meaning.specs.PrintedForms.{Each, In32}
@@ -17,8 +18,8 @@ use Rattle.writing.specs.Writing.{printedIn}
 use Rattle.paper.specs.Pages.{taskOf, maxPage}
 use Rattle.meaning.proofs.AnswerLaws.{accepted-none, rejected-some}
 use Rattle.table.proofs.AcceptedRows.{rows-held}
+use Rattle.tasks.proofs.Stages.{bytes-refused, rows-done}
 use Rattle.paper.proofs.Ranges.{rows-in}
-use Rattle.paper.proofs.Stages.{bytes-refused, bytes-read}
 use Rattle.paper.proofs.table_page.Statement.{statement}
 use Rattle.paper.proofs.table_page.Tie as tie
 
@@ -70,7 +71,7 @@ returns c =
     let bytes = s .args .table .now in
     let g = c .before .before .before .before .before .verdict .given in
     let f = rejected-some (bytesFault bytes) (g .0 .0) (g .0 .1 .0) (sym (g .1) ∙ ap (λ r. r .verdict) (c .before .before .before .before .before .before .before .read-table .ensures) ∙ verdict-read bytes) in
-    let e = bytes-refused bytes (s .args .sheet .now) (g .0 .0, g .0 .1 .0) f in
+    let e = bytes-refused bytes (s .args .sheet .now) [] maxBudget (g .0 .0) (g .0 .1 .0) f in
     let p = c .before .before .refusal-page .ensures in
     (p .0 ∙ ap (λ (q : Result). printedIn (printedResult (rowsOf bytes) q) (s .args .out .now)) (sym e), rw e (p .1))
 
@@ -84,7 +85,7 @@ returns-2 c =
     let e = no-fault (c .before .before .before .before .before .before .before) in
     let r = c .before .before .before .before .before .before .before .before .before .read-table in
     let rows : take (4 * r .result .count) (r .result .rows) ≡ rowsOf bytes = rw (r .ensures) (rows-read bytes e) in
-    let same = bytes-read bytes (t .sheet .now) e in
+    let same = rows-done bytes (t .sheet .now) [] maxBudget e in
     let p = c .before .before .rows-page .ensures in (
       p .0
           ∙ ap (λ (l : List ℤ). printedIn (printedResult l (result (taskOf l (t .sheet .now)))) (t .out .now)) rows

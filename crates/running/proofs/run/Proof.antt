@@ -1,4 +1,5 @@
--- `run` meets its contract: the layout and the ALT of each option are prepared, the arrays hold the start, and `take_steps` takes the run to its end.
+-- `run` meets its contract: the layout, the ALT of each option and the parent of each row are prepared, the arrays hold the start, and `take_steps` takes the run to its end.
+use mathlib.Core.Path.{refl}
 use native.Mathlib.Nat.{le-trans}
 use borrow.Author.Needs.{needs}
 use Rattle.meaning.proofs.AnswerLaws.{accepted}
@@ -21,6 +22,17 @@ slice-aggregate-note-owners c = search needs
 note-owners-requires : tie.Need-note-owners-requires
 note-owners-requires c κs = rows-limit _ (c .before .before .before .before .before .pre .0)
 
+slice-aggregate-note-parents : tie.Need-slice-aggregate-note-parents
+slice-aggregate-note-parents c = search needs
+
+slice-aggregate-note-parents-2 : tie.Need-slice-aggregate-note-parents-2
+slice-aggregate-note-parents-2 c = search needs
+
+note-parents-requires : tie.Need-note-parents-requires
+note-parents-requires c κs =
+    let ok = c .before .before .before .before .before .before .before .before .before .pre .0 in
+    (ok, (rows-limit _ ok, rows-limit _ ok))
+
 slice-aggregate-start : tie.Need-slice-aggregate-start
 slice-aggregate-start c = search needs
 
@@ -39,15 +51,42 @@ slice-aggregate-take-steps-3 c = search needs
 slice-aggregate-take-steps-4 : tie.Need-slice-aggregate-take-steps-4
 slice-aggregate-take-steps-4 c = search needs
 
+slice-aggregate-take-steps-5 : tie.Need-slice-aggregate-take-steps-5
+slice-aggregate-take-steps-5 c = search needs
+
+slice-aggregate-take-steps-6 : tie.Need-slice-aggregate-take-steps-6
+slice-aggregate-take-steps-6 c = search needs
+
+slice-aggregate-take-steps-7 : tie.Need-slice-aggregate-take-steps-7
+slice-aggregate-take-steps-7 c = search needs
+
+slice-aggregate-take-steps-8 : tie.Need-slice-aggregate-take-steps-8
+slice-aggregate-take-steps-8 c = search needs
+
+slice-aggregate-take-steps-9 : tie.Need-slice-aggregate-take-steps-9
+slice-aggregate-take-steps-9 c = search needs
+
+slice-aggregate-take-steps-10 : tie.Need-slice-aggregate-take-steps-10
+slice-aggregate-take-steps-10 c = search needs
+
+slice-aggregate-take-steps-11 : tie.Need-slice-aggregate-take-steps-11
+slice-aggregate-take-steps-11 c = search needs
+
+slice-aggregate-take-steps-12 : tie.Need-slice-aggregate-take-steps-12
+slice-aggregate-take-steps-12 c = search needs
+
 take-steps-requires : tie.Need-take-steps-requires
 take-steps-requires c κs =
-    let o = c .before .before .before .before .before .before .before .before .before .before .before in
-    let s0 = o .before .before .before .before .before .before in
-    let rooted = root-is _ _ (c .before .before .before .before .before .before .before .before .before .before .before .before .before .declarations .ensures) in
-    (s0 .pre .0, (rooted, (c .before .before .before .before .before .before .before .before .before .before .before .before .before .before .layout-of .ensures .1, ((λ j h. o .note-owners .ensures j (le-trans h (rows-limit _ (s0 .pre .0)))), (s0 .pre .1 .0, (s0 .pre .1 .1, started _ (s0 .pre .0) _ rooted _ (c .before .before .before .before .before .before .before .before .start .ensures)))))))
+    let i = c .before .before .before .before .before .before .before .before .before .before .before .before .before .before .before .before in
+    let m = i .before .before .before .before in
+    let o = m .before .before .before .before in
+    let p = o .before .before .before .before .before .before .pre in
+    let few = rows-limit _ (p .0) in
+    let rooted = root-is _ _ (o .before .before .declarations .ensures) in
+    (p .0, (rooted, (o .before .before .before .layout-of .ensures .1, ((λ j h. o .note-owners .ensures j (le-trans h few)), (m .note-parents .ensures, (p .1 .0, (p .1 .1, (started _ (p .0) _ rooted _ (i .start .ensures), (record { acts = few; sent = few; waiting = refl }, few, few)))))))))
 
 returns : tie.Need-returns
-returns c = λ sheet k. let R = c .before .before .before .before .before .before .before .take-steps .ensures sheet k in record { outcome = R .outcome; steps = R .steps; arrays = R .arrays }
+returns c = λ sheet k. let R = c .before .before .before .before .before .before .before .before .before .before .before .before .before .take-steps .ensures sheet k in record { outcome = R .outcome; steps = R .steps; arrays = R .arrays }
 
 pub run-spec : {M : Type 1} → statement M
 run-spec =
@@ -57,11 +96,22 @@ run-spec =
     declarations-requires
     slice-aggregate-note-owners
     note-owners-requires
+    slice-aggregate-note-parents
+    slice-aggregate-note-parents-2
+    note-parents-requires
     slice-aggregate-start
     start-requires
     slice-aggregate-take-steps
     slice-aggregate-take-steps-2
     slice-aggregate-take-steps-3
     slice-aggregate-take-steps-4
+    slice-aggregate-take-steps-5
+    slice-aggregate-take-steps-6
+    slice-aggregate-take-steps-7
+    slice-aggregate-take-steps-8
+    slice-aggregate-take-steps-9
+    slice-aggregate-take-steps-10
+    slice-aggregate-take-steps-11
+    slice-aggregate-take-steps-12
     take-steps-requires
     returns)

@@ -1,13 +1,7 @@
--- `note_row` meets its contract: a row past the last is none.
-use mathlib.Core.Path.{refl}
-use native.Mathlib.Omega.{arith}
+-- `note_row` meets its contract: what the row would do, noted.
 use borrow.Author.Needs.{needs}
-use Rattle.renewing.proofs.RenewedRows.{renewed-none}
 use Rattle.keeping.proofs.affected.note_row.Statement.{statement}
 use Rattle.keeping.proofs.affected.note_row.Tie as tie
-
-returns : tie.Need-returns
-returns c = (λ sheet K. renewed-none (λ j l e. omega (arith, c .if1 .taken)), record { acts = refl; sent = refl; waiting = refl; list = refl })
 
 codes-at-requires : tie.Need-codes-at-requires
 codes-at-requires c κs = search needs
@@ -27,22 +21,21 @@ same-length-3 c = search needs
 same-length-4 : tie.Need-same-length-4
 same-length-4 c = search needs
 
-returns-2 : tie.Need-returns-2
-returns-2 c =
-    let s = c .before .before .before .before .before .before .before .before .before .before .before .before .before .before .before .before .before .before .before .before .before .before .before .before .before .before in
+returns : tie.Need-returns
+returns c =
+    let s = c .before .before .before .before .before .before .before .before .before .before .before .before .before .before .before .before .before .before .before .before .before .before .before .before .before in
     let F = c .before .before .before .before .before .before .before .before .put-codes .ensures in
     let E = c .before .before .before .before .before .before .before .before .before .before .before .before .before .codes-at .ensures in
-    (λ sheet K. F .0 _ _ _ (c .before .before .before .before .before .before .before .before .before .before .before .before .before .before .if1 .left) (s .pre .1 .1) (s .pre .1 .2) (E sheet K .0) (E sheet K .1), F .1)
+    (λ sheet K. F .0 _ _ _ (s .pre .1 .1) (s .pre .1 .0 .1) (s .pre .1 .0 .2) (E sheet K .0) (E sheet K .1), F .1)
 
 pub note-row-spec : {M : Type 1} → statement M
 note-row-spec =
     tie.close
     (tie.spec
-    returns
     codes-at-requires
     put-codes-requires
     same-length
     same-length-2
     same-length-3
     same-length-4
-    returns-2)
+    returns)
