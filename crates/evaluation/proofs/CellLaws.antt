@@ -2,7 +2,7 @@
 use mathlib.Core.Path.{_≡_, refl, ap, ap₂, _∙_}
 use mathlib.Core.Option.{none, some}
 use mathlib.Core.List.{List, [], _∷_}
-use Prim.Native.Nat.{ℕ, zero, suc, _<_, _≤_}
+use Prim.Native.Nat.{ℕ, zero, suc, _+_, _<_, _≤_}
 use native.Mathlib.Omega.{arith}
 use lib.IntN.{ℤ, pos}
 use lib.ListN.{length, getD, set}
@@ -16,8 +16,8 @@ use Rattle.meaning.specs.State.{Message}
 use Rattle.meaning.specs.Buffers.{mark, numberIn}
 use Rattle.meaning.specs.Tree.{Expr, literal, element, monadic, dyadic, noExpr}
 use Rattle.meaning.specs.Values.{cellValue, readCell, inArray, whenNumber, monadicOf, dyadicOf, value}
-use Rattle.evaluation.specs.declared.store.Store.{Store}
-use Rattle.evaluation.specs.Cells.{cellOf, decoded, cellsOf, withCell}
+use Rattle.evaluation.specs.declared.store.State.{State}
+use Rattle.evaluation.specs.Cells.{cellOf, decoded, cellsOf, withCell, withPlace}
 
 -- a change of number i and mark i changes cell i alone
 pub decoded-set : (xs : List ℤ) (ms : List ℕ) (i : ℕ) (x : ℤ) (m : ℕ) → decoded (set xs i x) (set ms i m) ≡ set (decoded xs ms) i (cellOf x m)
@@ -35,13 +35,17 @@ decoded-as-held (some x) = refl
 pub decoded-held : (xs : List ℤ) (ms : List ℕ) (i : ℕ) (c : Message) → decoded (set xs i (numberIn c)) (set ms i (mark c)) ≡ set (decoded xs ms) i c
 decoded-held xs ms i c = decoded-set xs ms i (numberIn c) (mark c) ∙ ap (set (decoded xs ms) i) (decoded-as-held c)
 
--- the cells of a store that was changed
-pub cells-with : (s : Store) (i : ℕ) (c : Message) → cellsOf (withCell s i c) ≡ set (cellsOf s) i c
+-- the cells of a state that was changed
+pub cells-with : (s : State) (i : ℕ) (c : Message) → cellsOf (withCell s i c) ≡ set (cellsOf s) i c
 cells-with s i c = decoded-held (s .values) (s .marks) i c
 
 -- past the last cell nothing changes
-pub unchanged-past : (s : Store) (i : ℕ) (c : Message) → length (s .values) ≤ i → length (s .marks) ≤ i → s ≡ withCell s i c
+pub unchanged-past : (s : State) (i : ℕ) (c : Message) → length (s .values) ≤ i → length (s .marks) ≤ i → s ≡ withCell s i c
 unchanged-past s i c h k = rw (set-out (s .values) i (numberIn c) h, set-out (s .marks) i (mark c) k)
+
+-- past the last channel no place changes
+pub place-past : (s : State) (p : ℕ) → length (s .places) ≤ p → s ≡ withPlace s p
+place-past s p h = rw (set-out (s .places) p (getD (s .places) p 0 + 1) h)
 
 -- past the numbers, and past the marks, no cell is set
 pub past-numbers : (xs : List ℤ) (ms : List ℕ) (i : ℕ) → length xs ≤ i → getD (decoded xs ms) i none ≡ none

@@ -1,28 +1,35 @@
-// The cell store: the number of each cell, and its set mark.
+// The run's state, which is the cell store too: the number of each cell, its set mark, and the places in the readings.
 ghost use mathlib.Core.Path.{_≡_};
 ghost use mathlib.Core.Option.{none, some};
+ghost use Prim.Native.Nat.{_<_};
 ghost use lib.ListN as lists;
-ghost use Rattle.evaluation.specs.Cells.{cellsOf, withCell, unsetStore};
+ghost use Rattle.evaluation.specs.Cells.{cellsOf, withCell, withPlace, unsetState};
 
-// An unset cell has mark 0 and holds 0; a set one has mark 1.
-pub struct Store {
+// An unset cell has mark 0 and holds 0; a set one has mark 1. The place of a channel from the host is how many readings it has given.
+pub struct State {
     pub values: [i32; 256],
     pub marks: [u8; 256],
+    pub places: [u32; 8],
 }
 
-// All cells are unset.
-pub fn fresh() -> Store
-    ensures stored { λ s. ⌜ s ≡ unsetStore ⌝ }
+// All cells are unset, and nothing has been read.
+pub fn fresh() -> State
+    ensures stored { λ s. ⌜ s ≡ unsetState ⌝ }
     ensures cells { λ s. ⌜ cellsOf s ≡ lists.replicate 256 none ⌝ }
 {
     let values = [0i32; 256];
     let marks = [0u8; 256];
-    Store { values, marks }
+    let places = [0u32; 8];
+    State {
+        values,
+        marks,
+        places,
+    }
 }
 
-impl Store {
-    // The store with cell i set to x; past the last cell there is nothing to set.
-    pub fn set(mut self, i: usize, x: i32) -> Store
+impl State {
+    // The state with cell i set to x; past the last cell there is nothing to set.
+    pub fn set(mut self, i: usize, x: i32) -> State
         ensures stored { λ s. ⌜ s ≡ withCell self i (some x) ⌝ }
         ensures cells { λ s. ⌜ cellsOf s ≡ lists.set (cellsOf self) i (some x) ⌝ }
     {
@@ -34,8 +41,8 @@ impl Store {
         self
     }
 
-    // The store with cell i unset.
-    pub fn unset(mut self, i: usize) -> Store
+    // The state with cell i unset.
+    pub fn unset(mut self, i: usize) -> State
         ensures stored { λ s. ⌜ s ≡ withCell self i none ⌝ }
         ensures cells { λ s. ⌜ cellsOf s ≡ lists.set (cellsOf self) i none ⌝ }
     {
@@ -44,6 +51,18 @@ impl Store {
         }
         self.values[i] = 0;
         self.marks[i] = 0;
+        self
+    }
+
+    // The state after one more reading of the p-th channel from the host.
+    pub fn after_reading(mut self, p: usize) -> State
+        requires { ⌜ lists.getD (self .places) p 0 < 65536 ⌝ }
+        ensures { λ s. ⌜ s ≡ withPlace self p ⌝ }
+    {
+        if p >= 8 {
+            return self;
+        }
+        self.places[p] += 1;
         self
     }
 }

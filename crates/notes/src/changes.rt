@@ -7,7 +7,7 @@ ghost use Rattle.meaning.specs.Settle as meaning;
 ghost use Rattle.meaning.specs.State.{program, processAt};
 ghost use Rattle.evaluation.specs.Cells.{cellOf, withCell};
 ghost use Rattle.notes.specs.Changes.{endNoted};
-use evaluation::store::Store;
+use evaluation::store::State;
 use settling::states::put;
 
 // The row of a note, one more than its number, ends; 0 is no row.
@@ -28,14 +28,14 @@ pub fn change_states(rows: &[i32], root: usize, at: usize, n: u8, sender: u16, s
     settling::settle(rows, root, states);
 }
 
-// The store with a cell changed to a number with its mark: an absent reading, of mark 0, makes it unset.
-pub fn write_cell(store: Store, cell: usize, x: i32, mark: u8) -> Store
-    ensures { λ s. ⌜ s ≡ withCell store cell (cellOf x mark) ⌝ }
+// The state with a cell changed to a number with its mark: an absent reading, of mark 0, makes it unset.
+pub fn write_cell(state: State, cell: usize, x: i32, mark: u8) -> State
+    ensures { λ s. ⌜ s ≡ withCell state cell (cellOf x mark) ⌝ }
 {
     if mark == 0 {
-        return store.unset(cell);
+        return state.unset(cell);
     }
-    store.set(cell, x)
+    state.set(cell, x)
 }
 
 // One more reading of a channel from the host has been taken.

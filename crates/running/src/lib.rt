@@ -12,8 +12,8 @@ pub mod result; // result.rt: what a run leaves
 mod outcome; // outcome.rt: the outcome at rest
 mod steps; // steps.rt: the steps up to rest or the budget
 
+use evaluation::store::State;
 use result::Run;
-use taking::State;
 
 // The run of an accepted table on its readings, with these choices, up to rest or the budget.
 pub fn run<'a>(
@@ -42,12 +42,6 @@ pub fn run<'a>(
     let mut states = [0u8; 1024];
     let mut numbers = [0i32; 1024];
     let mut counts = [0u32; 8];
-    let mut acts = [0u16; 1024];
-    let mut sent = [0u16; 1024];
-    let mut waiting = [0u16; 256];
-    let mut list = [0u16; 1024];
-    let mut ready = [0u16; 1024];
-    let mut touched = [0usize; 1024];
     settling::start(rows, root, &mut states);
     let done = steps::take_steps(
         rows,
@@ -69,12 +63,6 @@ pub fn run<'a>(
         &mut states,
         &mut numbers,
         &mut counts,
-        &mut acts,
-        &mut sent,
-        &mut waiting,
-        &mut list,
-        &mut ready,
-        &mut touched,
     );
     let outcome = done.outcome;
     let last = done.state;

@@ -2,9 +2,8 @@
 ghost use mathlib.Core.Path.{_≡_};
 ghost use mathlib.Core.Option.{none};
 ghost use Prim.Native.Nat.{_≤_};
-ghost use lib.ListN.{length, getD};
+ghost use lib.ListN.{getD};
 ghost use Rattle.meaning.specs.Rows as table;
-ghost use Rattle.meaning.specs.Rows.{rowCount};
 ghost use Rattle.meaning.specs.State.{program, start};
 ghost use Rattle.meaning.specs.Intent.{Sheet};
 ghost use Rattle.meaning.specs.Run.{run};
@@ -13,15 +12,17 @@ ghost use Rattle.layout.specs.Names.{Named};
 ghost use Rattle.offers.specs.Held.{KeptReadings};
 ghost use Rattle.machine.specs.Held.{Holds};
 ghost use Rattle.parents.specs.Parents.{ParentsNoted};
-ghost use Rattle.noting.specs.Kept.{Room};
 ghost use Rattle.taking.specs.Stands.{arraysOf, Owned};
 ghost use Rattle.running.specs.Stages.{stageOf};
 ghost use Rattle.running.specs.Ran.{Reached};
 use crate::outcome::rest_outcome;
+use evaluation::store::State;
 use meaning::Outcome;
 use noting::note_all;
-use taking::State;
-use turns::take_turn;
+use readying::list_ready;
+use taking::picked_change;
+use taking::with_data;
+use turns::follow_up;
 
 // How a run ends: its outcome, the length of its order, and its last state.
 pub struct Done {
@@ -75,12 +76,6 @@ pub fn take_steps<'a>(
     states: &mut [u8],
     numbers: &mut [i32],
     counts: &mut [u32],
-    acts: &mut [u16],
-    sent: &mut [u16],
-    waiting: &mut [u16],
-    list: &mut [u16],
-    ready: &mut [u16],
-    touched: &mut [usize],
 ) -> Done
     requires accepted { ⌜ check (now rows) ≡ none ⌝ }
     requires rooted { ⌜ root ≡ table.root (now rows) ⌝ }
@@ -90,9 +85,14 @@ pub fn take_steps<'a>(
     requires kept { ⌜ ((sheet : Sheet) × KeptReadings (now rows) sheet (now readings) (now given) lines) ⌝ }
     requires few { ⌜ lines ≤ 128 ⌝ }
     requires started { ⌜ Holds (now rows) (start (program (now rows))) (arraysOf first (now states) (now numbers) (now counts)) ⌝ }
-    requires room { ⌜ Room (rowCount (now rows)) (now acts) (now sent) (now waiting) × (rowCount (now rows) ≤ length (now list)) × (rowCount (now rows) ≤ length (now ready)) ⌝ }
     ensures { λ d. ⌜ ((sheet : Sheet) → KeptReadings (now (rows .entry)) sheet (now (readings .entry)) (now (given .entry)) lines → Reached (now (rows .entry)) (run (now (rows .entry)) sheet (now (choices .entry)) budget) (d .outcome) (d .steps) (arraysOf (d .state) (now (states .exit)) (now (numbers .exit)) (now (counts .exit)))) ⌝ }
 {
+    let mut acts = [0u16; 1024];
+    let mut sent = [0u16; 1024];
+    let mut waiting = [0u16; 256];
+    let mut list = [0u16; 1024];
+    let mut ready = [0u16; 1024];
+    let mut touched = [0usize; 1024];
     let mut working = note_all(
         rows,
         names,
@@ -105,40 +105,31 @@ pub fn take_steps<'a>(
         lines,
         &states[..],
         owners,
-        acts,
-        sent,
-        waiting,
-        list,
+        &mut acts,
+        &mut sent,
+        &mut waiting,
+        &mut list,
     );
     let mut state = first;
     let mut n: u32 = 0;
     loop {
-        let turn = take_turn(
+        let count = list_ready(
             rows,
             names,
+            &state.values,
+            &state.marks,
+            &state.places,
             readings,
             given,
             lines,
+            &acts,
+            &waiting,
             owners,
-            parents,
-            nexts,
-            choice_at(choices, n),
-            n < budget,
-            state,
-            states,
-            numbers,
-            counts,
-            acts,
-            sent,
-            waiting,
-            list,
+            &list,
             working,
-            ready,
-            touched,
+            &mut ready,
         );
-        state = turn.state;
-        working = turn.working;
-        let stage = stage_of(turn.count, n, budget);
+        let stage = stage_of(count, n, budget);
         match stage {
             Stage::AtRest => {
                 return Done {
@@ -156,6 +147,49 @@ pub fn take_steps<'a>(
             }
             Stage::Further => {}
         }
+        let c = picked_change(
+            rows,
+            names,
+            &state.values,
+            &state.marks,
+            &state.places,
+            &counts[..],
+            readings,
+            given,
+            lines,
+            &states[..],
+            owners,
+            &waiting,
+            &ready,
+            count,
+            choice_at(choices, n),
+        );
+        let d = c.written;
+        state = with_data(rows, d, state, numbers, counts);
+        working = follow_up(
+            rows,
+            names,
+            &state.values,
+            &state.marks,
+            &state.places,
+            &counts[..],
+            readings,
+            given,
+            lines,
+            owners,
+            parents,
+            nexts,
+            c.at,
+            c.next,
+            c.sender,
+            states,
+            &mut touched,
+            &mut acts,
+            &mut sent,
+            &mut waiting,
+            &mut list,
+            working,
+        );
         n += 1;
     }
 }

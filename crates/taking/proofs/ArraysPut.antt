@@ -9,15 +9,15 @@ use lib.ListN.{getD, set}
 use Rattle.meaning.specs.Settle.{settle}
 use Rattle.meaning.specs.State.{program, whole}
 use Rattle.meaning.specs.Buffers.{Buffers}
-use Rattle.evaluation.specs.declared.store.Store.{Store}
-use Rattle.evaluation.specs.Cells.{cellOf, withCell}
+use Rattle.evaluation.specs.declared.store.State.{State}
+use Rattle.evaluation.specs.Cells.{cellOf, withCell, withPlace}
 use Rattle.machine.specs.Held.{stripStart, putState, putSettled}
 use Rattle.notes.specs.Changes.{endNoted}
 use Rattle.changing.specs.declared.Data.{Data}
 use Rattle.changing.specs.declared.Data.the-variants.{Nothing, Cell, Reading, Output}
 use Rattle.changing.specs.declared.Change.{Change}
 use Rattle.changing.specs.Changes.{putData, putEnded, putChange, DataFits}
-use Rattle.taking.specs.Stands.{arrays}
+use Rattle.taking.specs.Stands.{arrays, arraysOf}
 
 module _ (rows values : List ℤ) (marks states places : List ℕ) (numbers : List ℤ) (counts : List ℕ) where
   abbrev old : Buffers
@@ -44,10 +44,10 @@ module _ (rows values : List ℤ) (marks states places : List ℕ) (numbers : Li
   change-put c values′ marks′ states′ places′ numbers′ counts′ e f =
       ap (λ (l : List ℕ). arrays values′ marks′ l places′ numbers′ counts′) f ∙ ap (λ (b : Buffers). putSettled rows false (putEnded (c .sender) (putState (c .at) (c .next) b))) e
 
--- a number with its mark into a cell, and a reading
-module _ (rows : List ℤ) (x : Store) (states places : List ℕ) (numbers : List ℤ) (counts : List ℕ) (a : ℕ) (z : ℤ) (m : ℕ) (y : Store) (e : y ≡ withCell x a (cellOf z m)) where
-  pub cell-put : arrays (y .values) (y .marks) states places numbers counts ≡ putData rows (Cell a z m) (arrays (x .values) (x .marks) states places numbers counts)
-  cell-put = rw e
+-- a number with its mark into a cell; a reading, which the channel has given then
+module _ (rows : List ℤ) (x : State) (states : List ℕ) (numbers : List ℤ) (counts : List ℕ) (a : ℕ) (z : ℤ) (m : ℕ) where
+  pub cell-put : (y : State) → y ≡ withCell x a (cellOf z m) → arraysOf y states numbers counts ≡ putData rows (Cell a z m) (arraysOf x states numbers counts)
+  cell-put y e = rw e
 
-  pub reading-put : (p : ℕ) (places′ : List ℕ) → places′ ≡ set places p (getD places p 0 + 1) → arrays (y .values) (y .marks) states places′ numbers counts ≡ putData rows (Reading a z m p) (arrays (x .values) (x .marks) states places numbers counts)
-  reading-put p places′ g = rw (e, g, add-one)
+  pub reading-put : (p : ℕ) (w y : State) → w ≡ withPlace x p → y ≡ withCell w a (cellOf z m) → arraysOf y states numbers counts ≡ putData rows (Reading a z m p) (arraysOf x states numbers counts)
+  reading-put p w y f e = rw (e, f, add-one)

@@ -1,11 +1,13 @@
 -- Where a run stands: the arrays hold a state of an order of the table on a sheet, what is noted of the steps that are ready there, and of the rows that a step changes.
 use mathlib.Core.Path.{_≡_}
 use mathlib.Core.Logic.{_⊎_}
+use mathlib.Core.Bool.{Bool}
 use mathlib.Core.Option.{some}
 use mathlib.Core.List.{List, List·Memᴰ}
-use Prim.Native.Nat.{ℕ, _<_}
+use Prim.Native.Nat.{ℕ, _%_, _<_}
 use lib.IntN.{ℤ}
 use lib.ListN.{length, getD}
+use Rattle.meaning.specs.Basics.{allBelow}
 use Rattle.meaning.specs.Rows.{rowCount}
 use Rattle.meaning.specs.State as meaning
 use Rattle.meaning.specs.State.{program, StateChange, Effect}
@@ -20,7 +22,9 @@ use Rattle.machine.specs.Held.{Holds}
 use Rattle.notes.specs.Marks.{rowNote}
 use Rattle.stepping.specs.Acts.{Noted, hasStep}
 use Rattle.rowlist.specs.InOrder.{InOrder}
-use Rattle.taking.specs.declared.State.{State}
+use Rattle.evaluation.specs.declared.store.State.{State}
+use Rattle.changing.specs.declared.Change.{Change}
+use Rattle.changing.specs.Changes.{changeOf}
 
 -- the arrays of a run: cell values, set marks, row states, places in the readings, the strips' numbers and their counts
 abbrev pub arrays : List ℤ → List ℕ → List ℕ → List ℕ → List ℤ → List ℕ → Buffers
@@ -53,3 +57,9 @@ module _ (rows : List ℤ) (sheet : Sheet) where
   pub record Touches (s : meaning.State) (x : Label) (old new touched : List ℕ) : Type 0 where
     pub differs : (r : ℕ) → (getD new r 0 ≡ getD old r 0) ⊎ Listed touched r
     pub made : (e : Effect) → effectOf x (intentAt (program rows) sheet s) ≡ some e → (m : StateChange) → List·Memᴰ m (e .changes) → Listed touched (m .at)
+
+-- the change of the row that a choice picks of the ready ones
+pub record PickedChange (rows : List ℤ) (sheet : Sheet) (values : List ℤ) (marks places counts states owners waiting readyHeld : List ℕ) (count choice : ℕ) (c : Change) : Type 0 where
+  pub row : ℕ
+  pub picked : (test : ℕ → Bool) (n : ℕ) → InOrder test n readyHeld count → 0 < count → row ≡ getD (allBelow test n) (choice % count) n
+  pub change : c ≡ changeOf rows sheet values marks places counts states owners waiting row

@@ -1,123 +1,64 @@
-// One turn of a run: the ready steps are listed, and the one that the choice picks is taken, where there is one and it may be taken. What the rows would do is noted anew after it.
+// What follows from the change of a step: the row states settle upward, and what the affected rows would do is noted anew.
 ghost use mathlib.Core.Path.{_≡_};
-ghost use mathlib.Core.Option.{none};
-ghost use Prim.Native.Nat.{_≤_};
-ghost use lib.ListN.{length};
+ghost use mathlib.Core.Logic.{_⊎_};
+ghost use Prim.Native.Nat.{ℕ, _-_, _<_, _≤_};
+ghost use lib.ListN.{length, getD};
 ghost use Rattle.meaning.specs.Rows.{rowCount};
-ghost use Rattle.meaning.specs.State as meaning;
+ghost use Rattle.meaning.specs.State.{program};
 ghost use Rattle.meaning.specs.Intent.{Sheet};
-ghost use Rattle.meaning.specs.Answers.{check};
 ghost use Rattle.layout.specs.Names.{Named};
+ghost use Rattle.offers.specs.Held.{KeptReadings};
+ghost use Rattle.machine.specs.Upward.{changeUp, endUp};
+ghost use Rattle.settling.specs.Touched.{Listed};
 ghost use Rattle.parents.specs.Parents.{ParentsNoted};
-ghost use Rattle.noting.specs.Kept.{Kept};
-ghost use Rattle.taking.specs.Stands.{arraysOf, Owned, StandsAt};
-ghost use Rattle.turns.specs.Turned.{Turned};
-use evaluation::store::Store;
+ghost use Rattle.stepping.specs.Acts.{sentCode, workingDoes};
+ghost use Rattle.noting.specs.Kept.{Single, Room, Kept, Stale};
+use ascent::change_states;
 use keeping::note_again;
-use readying::list_ready;
-use taking::State;
-use taking::take_step;
 
-// How many steps were ready, how many rows may step after the turn, and the state after it.
-pub struct Turn {
-    pub count: usize,
-    pub working: usize,
-    pub state: State,
-}
-
-// One turn: the step that the choice picks is taken if one is ready and `more` says that it may be. `working` rows may step before it.
-pub fn take_turn<'a>(
+// Row `at` gets state `next`, the sender of a note ends, and what follows from that settles; then the affected rows are noted anew. How
+// many rows may step.
+pub fn follow_up<'a>(
     rows: &'a [i32],
     names: &'a [u16],
+    values: &'a [i32],
+    marks: &'a [u8],
+    places: &'a [u32],
+    counts: &'a [u32],
     readings: &'a [i32],
     given: &'a [u8],
     lines: usize,
     owners: &'a [u16],
     parents: &'a [u16],
     nexts: &'a [u16],
-    choice: u16,
-    more: bool,
-    state: State,
+    at: usize,
+    next: u8,
+    sender: u16,
     states: &mut [u8],
-    numbers: &mut [i32],
-    counts: &mut [u32],
+    touched: &mut [usize],
     acts: &mut [u16],
     sent: &mut [u16],
     waiting: &mut [u16],
     list: &mut [u16],
     working: usize,
-    ready: &mut [u16],
-    touched: &mut [usize],
-) -> Turn
-    requires accepted { ⌜ check (now rows) ≡ none ⌝ }
+) -> usize
     requires named { ⌜ Named (now rows) (now names) ⌝ }
-    requires owned { ⌜ Owned (now rows) (now owners) ⌝ }
-    requires parented { ⌜ ParentsNoted (now rows) (now parents) (now nexts) ⌝ }
-    requires few { ⌜ lines ≤ 128 ⌝ }
-    requires room { ⌜ rowCount (now rows) ≤ length (now ready) ⌝ }
-    requires stands { ⌜ ((sheet : Sheet) × (s : meaning.State) × StandsAt (now rows) sheet (now readings) (now given) lines (arraysOf state (now states) (now numbers) (now counts)) s × Kept (now rows) sheet (state .values) (state .marks) (state .places) (now counts) (now states) (now owners) (now acts) (now sent) (now waiting) (now list) working) ⌝ }
-    ensures { λ t. ⌜ ((sheet : Sheet) (s : meaning.State) → StandsAt (now (rows .entry)) sheet (now (readings .entry)) (now (given .entry)) lines (arraysOf state (now (states .entry)) (now (numbers .entry)) (now (counts .entry))) s → Kept (now (rows .entry)) sheet (state .values) (state .marks) (state .places) (now (counts .entry)) (now (states .entry)) (now (owners .entry)) (now (acts .entry)) (now (sent .entry)) (now (waiting .entry)) (now (list .entry)) working → Turned (now (rows .entry)) sheet more choice s (t .count) (arraysOf (t .state) (now (states .exit)) (now (numbers .exit)) (now (counts .exit))) × Kept (now (rows .entry)) sheet (t .state .values) (t .state .marks) (t .state .places) (now (counts .exit)) (now (states .exit)) (now (owners .entry)) (now (acts .exit)) (now (sent .exit)) (now (waiting .exit)) (now (list .exit)) (t .working)) ⌝ }
+    requires noted { ⌜ ParentsNoted (now rows) (now parents) (now nexts) ⌝ }
+    requires within { ⌜ (at < rowCount (now rows)) × (sender ≤ rowCount (now rows)) ⌝ }
+    requires room { ⌜ (rowCount (now rows) ≤ 1024) × Room (rowCount (now rows)) (now acts) (now sent) (now waiting) × (rowCount (now rows) ≤ length (now list)) ⌝ }
+    ensures settled { λ _. ⌜ now (states .exit) ≡ endUp (program (now (rows .entry))) sender (changeUp (program (now (rows .entry))) at next (now (states .entry))) ⌝ }
+    ensures touched { λ _. ⌜ ((r : ℕ) → (getD (now (states .exit)) r 0 ≡ getD (now (states .entry)) r 0) ⊎ Listed (now (touched .exit)) r) ⌝ }
+    ensures changed { λ _. ⌜ Listed (now (touched .exit)) at × ((sender ≡ 0 → ⊥) → Listed (now (touched .exit)) (sender - 1)) ⌝ }
+    ensures kept { λ m. ⌜ ((sheet : Sheet) → KeptReadings (now (rows .entry)) sheet (now (readings .entry)) (now (given .entry)) lines → Single (rowCount (now (rows .entry))) (λ j. sentCode (workingDoes (now (rows .entry)) sheet (now (values .entry)) (now (marks .entry)) (now (places .entry)) (now (counts .entry)) (now (states .exit)) j)) → Stale (now (rows .entry)) sheet (now (values .entry)) (now (marks .entry)) (now (places .entry)) (now (counts .entry)) (now (states .exit)) (now (owners .entry)) (now (touched .exit)) (now (parents .entry)) (now (acts .entry)) (now (sent .entry)) (now (waiting .entry)) (now (list .entry)) working → Kept (now (rows .entry)) sheet (now (values .entry)) (now (marks .entry)) (now (places .entry)) (now (counts .entry)) (now (states .exit)) (now (owners .entry)) (now (acts .exit)) (now (sent .exit)) (now (waiting .exit)) (now (list .exit)) m) ⌝ }
 {
-    let count = list_ready(
+    change_states(rows, parents, nexts, at, next, sender, states, touched);
+    note_again(
         rows,
         names,
-        &state.values,
-        &state.marks,
-        &state.places,
-        readings,
-        given,
-        lines,
-        &acts[..],
-        &waiting[..],
-        owners,
-        &list[..],
-        working,
-        ready,
-    );
-    if count == 0 {
-        return Turn {
-            count,
-            working,
-            state,
-        };
-    }
-    if !more {
-        return Turn {
-            count,
-            working,
-            state,
-        };
-    }
-    let values = state.values;
-    let marks = state.marks;
-    let mut places = state.places;
-    let store = take_step(
-        rows,
-        names,
-        readings,
-        given,
-        lines,
-        owners,
-        parents,
-        nexts,
-        &waiting[..],
-        &ready[..],
-        count,
-        choice,
-        Store { values, marks },
-        &mut places,
-        states,
-        numbers,
+        values,
+        marks,
+        places,
         counts,
-        touched,
-    );
-    let renewed = note_again(
-        rows,
-        names,
-        &store.values,
-        &store.marks,
-        &places,
-        &counts[..],
         readings,
         given,
         lines,
@@ -130,16 +71,5 @@ pub fn take_turn<'a>(
         waiting,
         list,
         working,
-    );
-    let values = store.values;
-    let marks = store.marks;
-    Turn {
-        count,
-        working: renewed,
-        state: State {
-            values,
-            marks,
-            places,
-        },
-    }
+    )
 }

@@ -57,36 +57,17 @@ slice-aggregate-take-steps-5 c = search needs
 slice-aggregate-take-steps-6 : tie.Need-slice-aggregate-take-steps-6
 slice-aggregate-take-steps-6 c = search needs
 
-slice-aggregate-take-steps-7 : tie.Need-slice-aggregate-take-steps-7
-slice-aggregate-take-steps-7 c = search needs
-
-slice-aggregate-take-steps-8 : tie.Need-slice-aggregate-take-steps-8
-slice-aggregate-take-steps-8 c = search needs
-
-slice-aggregate-take-steps-9 : tie.Need-slice-aggregate-take-steps-9
-slice-aggregate-take-steps-9 c = search needs
-
-slice-aggregate-take-steps-10 : tie.Need-slice-aggregate-take-steps-10
-slice-aggregate-take-steps-10 c = search needs
-
-slice-aggregate-take-steps-11 : tie.Need-slice-aggregate-take-steps-11
-slice-aggregate-take-steps-11 c = search needs
-
-slice-aggregate-take-steps-12 : tie.Need-slice-aggregate-take-steps-12
-slice-aggregate-take-steps-12 c = search needs
-
 take-steps-requires : tie.Need-take-steps-requires
 take-steps-requires c κs =
-    let i = c .before .before .before .before .before .before .before .before .before .before .before .before .before .before .before .before in
+    let i = c .before .before .before .before .before .before .before .before .before .before in
     let m = i .before .before .before .before in
     let o = m .before .before .before .before in
     let p = o .before .before .before .before .before .before .pre in
-    let few = rows-limit _ (p .0) in
     let rooted = root-is _ _ (o .before .before .declarations .ensures) in
-    (p .0, (rooted, (o .before .before .before .layout-of .ensures .1, ((λ j h. o .note-owners .ensures j (le-trans h few)), (m .note-parents .ensures, (p .1 .0, (p .1 .1, (started _ (p .0) _ rooted _ (i .start .ensures), (record { acts = few; sent = few; waiting = refl }, few, few)))))))))
+    (p .0, (rooted, (o .before .before .before .layout-of .ensures .1, ((λ j h. o .note-owners .ensures j (le-trans h (rows-limit _ (p .0)))), (m .note-parents .ensures, (p .1 .0, (p .1 .1, started _ (p .0) _ rooted _ (i .start .ensures))))))))
 
 returns : tie.Need-returns
-returns c = λ sheet k. let R = c .before .before .before .before .before .before .before .before .before .before .before .before .before .take-steps .ensures sheet k in record { outcome = R .outcome; steps = R .steps; arrays = R .arrays }
+returns c = λ sheet k. let R = c .before .before .before .before .before .before .before .take-steps .ensures sheet k in record { outcome = R .outcome; steps = R .steps; arrays = R .arrays }
 
 pub run-spec : {M : Type 1} → statement M
 run-spec =
@@ -107,11 +88,5 @@ run-spec =
     slice-aggregate-take-steps-4
     slice-aggregate-take-steps-5
     slice-aggregate-take-steps-6
-    slice-aggregate-take-steps-7
-    slice-aggregate-take-steps-8
-    slice-aggregate-take-steps-9
-    slice-aggregate-take-steps-10
-    slice-aggregate-take-steps-11
-    slice-aggregate-take-steps-12
     take-steps-requires
     returns)

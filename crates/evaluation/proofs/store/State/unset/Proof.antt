@@ -6,8 +6,8 @@ use native.Mathlib.Omega.{arith}
 use lib.ListN.{length}
 use Rattle.evaluation.specs.Cells.{cellsOf}
 use Rattle.evaluation.proofs.CellLaws.{cells-with, unchanged-past}
-use Rattle.evaluation.proofs.store.Store.unset.Statement.{statement}
-use Rattle.evaluation.proofs.store.Store.unset.Tie as tie
+use Rattle.evaluation.proofs.store.State.unset.Statement.{statement}
+use Rattle.evaluation.proofs.store.State.unset.Tie as tie
 
 returns : tie.Need-returns
 returns c =

@@ -8,8 +8,8 @@ use mir.Syntax.{w32}
 use mir.ValLaws.{toZ-ofZ}
 use Rattle.evaluation.specs.Cells.{cellsOf}
 use Rattle.evaluation.proofs.CellLaws.{cells-with, unchanged-past}
-use Rattle.evaluation.proofs.store.Store.set.Statement.{statement}
-use Rattle.evaluation.proofs.store.Store.set.Tie as tie
+use Rattle.evaluation.proofs.store.State.set.Statement.{statement}
+use Rattle.evaluation.proofs.store.State.set.Tie as tie
 
 returns : tie.Need-returns
 returns c =
