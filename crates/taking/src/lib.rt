@@ -17,10 +17,9 @@ use changing::change_of;
 use changing::strip_start;
 use evaluation::store::State;
 use notes::changes::add_output;
-use notes::changes::write_cell;
 use readying::pick;
 
-// Makes a change of data. The state after it.
+// Makes a change of data: an absent reading, of mark 0, makes its cell unset. The state after it.
 pub fn with_data(
     rows: &[i32],
     d: Data,
@@ -34,8 +33,18 @@ pub fn with_data(
 {
     match d {
         Data::Nothing => state,
-        Data::Cell(cell, x, mark) => write_cell(state, cell, x, mark),
-        Data::Reading(cell, x, mark, p) => write_cell(state.after_reading(p), cell, x, mark),
+        Data::Cell(cell, x, mark) => {
+            if mark == 0 {
+                return state.unset(cell);
+            }
+            state.set(cell, x)
+        }
+        Data::Reading(cell, x, mark, p) => {
+            if mark == 0 {
+                return state.after_reading(p).unset(cell);
+            }
+            state.after_reading(p).set(cell, x)
+        }
         Data::Output(p, x) => {
             add_output(numbers, counts, strip_start(rows, p), p, x);
             state
