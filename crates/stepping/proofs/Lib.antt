@@ -2,5 +2,4 @@ pub mod ActNotes
 pub mod OutputElements
 pub mod OptionOffers
 pub mod StepsNoted
-pub mod ReadyMarks
 pub mod StepTests

@@ -1,17 +1,11 @@
-// What each row would do, noted: a number for each row, and for each element the row that waits to output there.
+// What a row would do, and its numbers: by itself, and the element that it would output to.
 ghost use mathlib.Core.Path.{_≡_};
-ghost use Prim.Native.Nat.{ℕ, _+_, _<_, _≤_};
-ghost use lib.ListN.{length, getD, set};
-ghost use Rattle.meaning.specs.Rows.{rowCount};
 ghost use Rattle.meaning.specs.Intent.{Sheet};
 ghost use Rattle.layout.specs.Names.{Named};
 ghost use Rattle.offers.specs.Held.{KeptReadings};
-ghost use Rattle.stepping.specs.Acts.{inputCode, actCode, sentCode, noteSender, workingDoes, Noted};
+ghost use Rattle.stepping.specs.Acts.{inputCode, actCode, sentCode, workingDoes};
 use intents::Does;
-use notes::owners::clear_notes;
-use notes::owners::note_at;
 use notes::working::live;
-use settling::states::state_at;
 
 // What row r would do; nothing where it is not at work.
 pub fn working_does<'a>(
@@ -95,108 +89,5 @@ pub fn sent_code(d: Does) -> u16
             0
         }
         Does::Selects => 0,
-    }
-}
-
-// A note at row i.
-fn put_note(notes: &mut [u16], i: usize, n: u16)
-    ensures { λ _. ⌜ now (notes .exit) ≡ set (now (notes .entry)) i n ⌝ }
-{
-    if i < notes.len() {
-        notes[i] = n;
-    }
-}
-
-// Notes at the element that is meant, if there is one, that a row waits.
-fn note_sender(waiting: &mut [u16], sent: u16, note: u16)
-    ensures { λ _. ⌜ now (waiting .exit) ≡ noteSender (now (waiting .entry)) sent note ⌝ }
-{
-    if sent != 0 {
-        note_at(waiting, sent as usize - 1, note);
-    }
-}
-
-// Notes what row r would do, and at the element that it would output to that it waits. A row that is not running does nothing.
-fn note_act<'a>(
-    rows: &'a [i32],
-    names: &'a [u16],
-    values: &'a [i32],
-    marks: &'a [u8],
-    places: &'a [u32],
-    counts: &'a [u32],
-    readings: &'a [i32],
-    given: &'a [u8],
-    lines: usize,
-    states: &'a [u8],
-    r: usize,
-    acts: &mut [u16],
-    waiting: &mut [u16],
-)
-    requires named { ⌜ Named (now rows) (now names) ⌝ }
-    requires row { ⌜ r < 1024 ⌝ }
-    ensures acts { λ _. ⌜ ((sheet : Sheet) → KeptReadings (now (rows .entry)) sheet (now (readings .entry)) (now (given .entry)) lines → now (acts .exit) ≡ set (now (acts .entry)) r (actCode (workingDoes (now (rows .entry)) sheet (now (values .entry)) (now (marks .entry)) (now (places .entry)) (now (counts .entry)) (now (states .entry)) r))) ⌝ }
-    ensures waiting { λ _. ⌜ ((sheet : Sheet) → KeptReadings (now (rows .entry)) sheet (now (readings .entry)) (now (given .entry)) lines → now (waiting .exit) ≡ noteSender (now (waiting .entry)) (sentCode (workingDoes (now (rows .entry)) sheet (now (values .entry)) (now (marks .entry)) (now (places .entry)) (now (counts .entry)) (now (states .entry)) r)) (r + 1)) ⌝ }
-    ensures lengths { λ _. ⌜ (length (now (acts .exit)) ≡ length (now (acts .entry))) × (length (now (waiting .exit)) ≡ length (now (waiting .entry))) ⌝ }
-{
-    let n = state_at(states, r);
-    if n != 1 {
-        put_note(acts, r, 0);
-        return;
-    }
-    let d = working_does(
-        rows,
-        names,
-        values,
-        marks,
-        places,
-        counts,
-        readings,
-        given,
-        lines,
-        states,
-        r,
-    );
-    put_note(acts, r, act_code(d));
-    note_sender(waiting, sent_code(d), (r + 1) as u16);
-}
-
-// Notes what each row would do, and for each element the row that waits to output there.
-pub fn note_acts<'a>(
-    rows: &'a [i32],
-    names: &'a [u16],
-    values: &'a [i32],
-    marks: &'a [u8],
-    places: &'a [u32],
-    counts: &'a [u32],
-    readings: &'a [i32],
-    given: &'a [u8],
-    lines: usize,
-    states: &'a [u8],
-    acts: &mut [u16],
-    waiting: &mut [u16],
-)
-    requires named { ⌜ Named (now rows) (now names) ⌝ }
-    requires room { ⌜ (rowCount (now rows) ≤ 1024) × (rowCount (now rows) ≤ length (now acts)) ⌝ }
-    ensures { λ _. ⌜ ((sheet : Sheet) → KeptReadings (now (rows .entry)) sheet (now (readings .entry)) (now (given .entry)) lines → Noted (now (rows .entry)) sheet (now (values .entry)) (now (marks .entry)) (now (places .entry)) (now (counts .entry)) (now (states .entry)) (rowCount (now (rows .entry))) (now (acts .exit)) (now (waiting .exit))) ⌝ }
-{
-    clear_notes(waiting);
-    let mut r = 0;
-    while r < rows.len() / 4 {
-        note_act(
-            rows,
-            names,
-            values,
-            marks,
-            places,
-            counts,
-            readings,
-            given,
-            lines,
-            states,
-            r,
-            acts,
-            waiting,
-        );
-        r += 1;
     }
 }

@@ -1,3 +1,3 @@
-// The machine's one step: which rows have a ready step, and taking the step of one row.
-pub mod acting; // acting.rt: what each row would do
-pub mod readiness; // readiness.rt: which rows have a ready step
+// What a row would do, and whether it has a ready step.
+pub mod acting; // acting.rt: what a row would do
+pub mod readiness; // readiness.rt: whether a row has a ready step

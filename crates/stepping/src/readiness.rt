@@ -1,18 +1,15 @@
-// Which rows have a ready step, from the notes.
+// Whether a row has a ready step, from the notes.
 ghost use mathlib.Core.Path.{_≡_};
 ghost use mathlib.Core.List.{List};
-ghost use Prim.Native.Nat.{ℕ, _<_, _≤_};
-ghost use lib.ListN.{length, getD};
-ghost use Rattle.meaning.specs.Basics.{ifElse};
+ghost use Prim.Native.Nat.{ℕ, _<_};
+ghost use lib.ListN.{getD};
 ghost use Rattle.meaning.specs.Rows.{rowCount};
 ghost use Rattle.meaning.specs.Intent.{Sheet};
 ghost use Rattle.layout.specs.Names.{Named};
 ghost use Rattle.offers.specs.Held.{KeptReadings};
 ghost use Rattle.stepping.specs.Acts.{offerCode, readyBy, hasStep};
-ghost use Rattle.notes.specs.Marks.{Marked};
 use crate::acting::input_code;
 use offers::Offer;
-use settling::states::put;
 
 // The note at i, 0 past the end.
 pub fn note_of(notes: &[u16], i: usize) -> u16
@@ -86,58 +83,4 @@ pub fn has_step<'a>(
         j,
     );
     ready_by(waiting, offer_code(o))
-}
-
-// 1 where a test holds, else 0.
-fn mark_of(t: bool) -> u8
-    ensures { λ n. ⌜ (n ≡ ifElse t 1 0) × (n ≤ 1) ⌝ }
-{
-    if t {
-        return 1;
-    }
-    0
-}
-
-// Marks the rows that have a ready step. How many there are.
-pub fn note_ready<'a>(
-    rows: &'a [i32],
-    names: &'a [u16],
-    values: &'a [i32],
-    marks: &'a [u8],
-    places: &'a [u32],
-    readings: &'a [i32],
-    given: &'a [u8],
-    lines: usize,
-    acts: &'a [u16],
-    waiting: &'a [u16],
-    owners: &'a [u16],
-    ready: &mut [u8],
-) -> usize
-    requires named { ⌜ Named (now rows) (now names) ⌝ }
-    requires room { ⌜ rowCount (now rows) ≤ length (now ready) ⌝ }
-    ensures { λ n. ⌜ ((sheet : Sheet) (counts states : List ℕ) → KeptReadings (now (rows .entry)) sheet (now (readings .entry)) (now (given .entry)) lines → Marked (hasStep (now (rows .entry)) sheet (now (values .entry)) (now (marks .entry)) (now (places .entry)) counts states (now (acts .entry)) (now (waiting .entry)) (now (owners .entry))) (rowCount (now (rows .entry))) (now (ready .exit)) n) ⌝ }
-{
-    let mut count: usize = 0;
-    let mut j = 0;
-    while j < rows.len() / 4 {
-        let t = has_step(
-            rows,
-            names,
-            values,
-            marks,
-            places,
-            readings,
-            given,
-            lines,
-            acts,
-            waiting,
-            owners,
-            j,
-        );
-        let n = mark_of(t);
-        put(ready, j, n);
-        count += n as usize;
-        j += 1;
-    }
-    count
 }
