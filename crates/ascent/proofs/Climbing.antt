@@ -1,23 +1,27 @@
 -- The way upward from a row, as the code goes it by its notes of parents.
 use mathlib.Core.Path.{_≡_, refl, sym, ap, _∙_}
-use mathlib.Core.Bool.{false}
+use mathlib.Core.Bool.{true, false}
 use mathlib.Core.Option.{Option, none, some}
-use mathlib.Core.List.{List}
+use mathlib.Core.List.{List, [], _∷_}
 use Prim.Native.Nat.{ℕ, zero, suc, _-_, _<_}
 use native.Mathlib.Omega.{arith}
 use lib.IntN.{ℤ}
 use lib.ListN.{getD, set}
 use borrow.Author.Tests.{ne-eqb}
+use Rattle.meaning.specs.Basics.{isSome}
 use Rattle.meaning.specs.Rows.{rowCount}
-use Rattle.meaning.specs.Tree.{partAt}
-use Rattle.meaning.specs.Settle.{isEnded}
+use Rattle.meaning.specs.Tree.{Process, partAt, rowOf}
+use Rattle.meaning.specs.Settle.{stateOf, isEnded}
 use Rattle.meaning.specs.State.{program}
-use Rattle.machine.specs.Upward.{parentOf, goesOnAt, upward, changeUp, endUp}
+use Rattle.machine.specs.Upward.{memberRows, parentOf, goesOnAt, upward, changeUp, endUp}
 use Rattle.machine.proofs.Upwards.{parent-below, upward-enough, up-rests, up-goes}
 use Rattle.notes.specs.Marks.{rowNote}
-use Rattle.settling.specs.Members.{settleAny}
+use Rattle.settling.specs.Members.{alone, settleAny}
+use Rattle.settling.specs.States.{runs, entered}
+use Rattle.settling.proofs.Entering.{settle-rests}
 use Rattle.settling.proofs.Roots.{root-settled}
 use Rattle.parents.specs.Parents.{ParentsNoted}
+use Rattle.parents.proofs.MemberNotes.{row-alone}
 
 -- a state other than 2 is not that of an ended process
 not-ended : (n : ℕ) → (n ≡ 2 → ⊥) → isEnded n ≡ false
@@ -55,6 +59,23 @@ module _ (rows : List ℤ) (r : ℕ) (s : List ℕ) {n : ℕ} (e : n ≡ getD s 
   pub up-parent : n ≡ 2 → {q : ℕ} {t w : List ℕ} → parentOf (program rows) r ≡ some q → t ≡ goesOnAt (program rows) q r s → w ≡ upward (program rows) (suc q) q t → w ≡ upward (program rows) (suc r) r s
   up-parent i {q} {t} {w} p g k =
       k ∙ upward-enough rows (suc q) r q t (omega arith) (parent-below rows r q p) ∙ ap (upward (program rows) r q) g ∙ sym (up-goes (program rows) r r q s (ap isEnded (sym e ∙ i)) p)
+
+-- an idle process that may not be started, an ended one and a stopped one do not run, and are left as they are
+rests : (n : ℕ) → (n ≡ 1 → ⊥) → (r : ℕ) (s : List ℕ) → (runs n false ≡ false) × (entered n false r s ≡ s)
+rests zero f r s = (refl, refl)
+rests (suc zero) f r s = absurd (f refl)
+rests (suc (suc n)) f r s = (refl, refl)
+
+-- the process of a row that is not running does not settle by itself
+pub not-running : (rows : List ℤ) (r : ℕ) (s : List ℕ) {n : ℕ} → n ≡ getD s r 0 → (n ≡ 1 → ⊥) → s ≡ settleAny (partAt rows r .process) false s
+not-running rows r s e f = go (partAt rows r .process) (λ i. row-alone rows r i .0)
+  where
+    go : (o : Option Process) → (isSome o ≡ true → memberRows (alone o) ≡ r ∷ []) → s ≡ settleAny o false s
+    go none h = refl
+    go (some p) h =
+        let i : rowOf p ≡ r = ap (λ (l : List ℕ). getD l 0 0) (h refl) in
+        let (a, b) = rests (stateOf s p) (λ k. f (e ∙ ap (λ (q : ℕ). getD s q 0) (sym i) ∙ k)) (rowOf p) s in
+        sym (settle-rests p false s a ∙ b)
 
 -- row r gets state n, its own process settles, and so on up
 pub change-goes-up : (rows : List ℤ) (r n : ℕ) (s : List ℕ) {t u w : List ℕ} → t ≡ set s r n → u ≡ settleAny (partAt rows r .process) false t → w ≡ upward (program rows) (suc r) r u → w ≡ changeUp (program rows) r n s

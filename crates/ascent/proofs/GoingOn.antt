@@ -1,6 +1,6 @@
 -- A process goes on after its member, as the code does it, by what stands at its row.
 use mathlib.Core.Path.{_≡_, refl, sym, ap, subst, _∙_}
-use mathlib.Core.Bool.{Bool, true, false}
+use mathlib.Core.Bool.{Bool, true, false, _&&_, true≢false}
 use mathlib.Core.Option.{Option, none, some}
 use mathlib.Core.List.{List, [], List·Memᴰ, List·Memᴰ·not-nil}
 use Prim.Native.Nat.{ℕ}
@@ -8,20 +8,47 @@ use native.Mathlib.Omega.{arith}
 use lib.IntN.{ℤ}
 use lib.ListN.{set}
 use Rattle.meaning.specs.Basics.{ifElse}
-use Rattle.meaning.specs.Tree.{Process, partAt, orStop, actionOf, membersIn, rowsBeneath}
-use Rattle.meaning.specs.Settle.{inTurn, together, mode, complete, endsWhenClosed, closing, makeIdle, statesOf, settleMembers}
+use Rattle.meaning.specs.Tree.{Process, empty, andMember, partAt, orStop, actionOf, membersIn, rowsBeneath}
+use Rattle.meaning.specs.Settle.{together, mode, complete, endsWhenClosed, closing, makeIdle, stateOf, statesOf, isEnded, allOf}
 use Rattle.meaning.specs.State.{program, processAt}
 use Rattle.agreement.proofs.TableTree.{process-is}
-use Rattle.machine.specs.Upward.{memberRows, membersAfter, parentOf, goesOn, goesOnAt}
+use Rattle.machine.specs.Upward.{memberRows, membersAfter, startNext, parentOf, goesOn, goesOnAt}
 use Rattle.machine.proofs.Upwards.{parent-has}
 use Rattle.settling.specs.declared.shape.Mode.the-variants.{InTurn, Together, ByStep}
-use Rattle.settling.specs.Members.{alone}
-use Rattle.settling.proofs.Standing.{EndingAt, RepeatingAt}
+use Rattle.settling.specs.Members.{isOver, alone, settleAny}
+use Rattle.settling.proofs.Standing.{EndingAt, RepeatingAt, LinkAt}
+
+and-one : (b : Bool) → b && true ≡ b
+and-one true = refl
+and-one false = refl
 
 -- a process that ends when it closes
 closing-ends : (c : Bool) (q : ℕ) (rs t : List ℕ) → ifElse c (set t q 2) t ≡ closing c true q rs t
 closing-ends true q rs t = refl
 closing-ends false q rs t = refl
+
+-- the next member of a SEQ, from link m on
+module _ (rows : List ℤ) (q m : ℕ) (s : List ℕ) where
+  -- there is none
+  pub none-starts : {w : List ℕ} → partAt rows m .members ≡ empty → w ≡ set s q 2 → w ≡ startNext q (partAt rows m .members) s
+  none-starts e k = rw e k
+
+  module _ {p n : ℕ} (h : LinkAt rows m p n) {t : List ℕ} {b : Bool} (e : t ≡ settleAny (partAt rows p .process) true s) (i : b ≡ allOf (isOver false) (statesOf (alone (partAt rows p .process)) t)) where
+    -- it starts, and has not ended
+    pub one-starts : b ≡ false → t ≡ startNext q (partAt rows m .members) s
+    one-starts f = rw (h .members-are) (go (partAt rows p .process) e (sym i ∙ f))
+      where
+        go : (o : Option Process) → t ≡ settleAny o true s → allOf isEnded (statesOf (alone o) t) ≡ false → t ≡ startNext q (andMember o (partAt rows n .members)) s
+        go none e j = absurd (true≢false j)
+        go (some p) e j = rw (← e, sym (and-one (isEnded (stateOf t p))) ∙ j)
+
+    -- it has ended, and those after it go on
+    pub next-starts : b ≡ true → {w : List ℕ} → w ≡ startNext q (partAt rows n .members) t → w ≡ startNext q (partAt rows m .members) s
+    next-starts f {w} k = rw (h .members-are) (go (partAt rows p .process) e (sym i ∙ f))
+      where
+        go : (o : Option Process) → t ≡ settleAny o true s → allOf isEnded (statesOf (alone o) t) ≡ true → w ≡ startNext q (andMember o (partAt rows n .members)) s
+        go none e j = k ∙ ap (startNext q (partAt rows n .members)) e
+        go (some p) e j = rw (← e, sym (and-one (isEnded (stateOf t p))) ∙ j) k
 
 module _ (rows : List ℤ) (q r : ℕ) (s : List ℕ) where
   -- the process of row q, where there is one
@@ -32,13 +59,12 @@ module _ (rows : List ℤ) (q r : ℕ) (s : List ℕ) where
   of-process : {p : Process} {w : List ℕ} → partAt rows q .process ≡ some p → w ≡ goesOn (mode (actionOf p)) (endsWhenClosed (actionOf p)) q r (membersIn p) s → w ≡ goesOnAt (program rows) q r s
   of-process {p} {w} e h = subst (λ (p : Process). w ≡ goesOn (mode (actionOf p)) (endsWhenClosed (actionOf p)) q r (membersIn p) s) (stands-there e) h
 
-  -- a SEQ: the members after this one, in turn
-  pub in-turn-goes-on : (n : ℕ) {f : ℕ} {t w : List ℕ} → EndingAt rows q InTurn f → partAt rows n .members ≡ membersAfter r (membersIn (processAt (program rows) q))
-      → t ≡ settleMembers (partAt rows n .members) inTurn s → w ≡ ifElse (complete inTurn (statesOf (partAt rows n .members) t)) (set t q 2) t → w ≡ goesOnAt (program rows) q r s
-  in-turn-goes-on n {f} {t} {w} h a e k =
-      let ms = partAt rows n .members in
-      let m : ms ≡ membersAfter r (partAt rows f .members) = a ∙ ap (λ (p : Process). membersAfter r (membersIn p)) (sym (stands-there (h .process-is))) in
-      of-process (h .process-is) (rw (h .mode-is, ← m, ← e) (k ∙ closing-ends (complete inTurn (statesOf ms t)) q [] t))
+  -- a SEQ: the next member starts
+  pub in-turn-goes-on : (n : ℕ) {f : ℕ} {w : List ℕ} → EndingAt rows q InTurn f → partAt rows n .members ≡ membersAfter r (membersIn (processAt (program rows) q))
+      → w ≡ startNext q (partAt rows n .members) s → w ≡ goesOnAt (program rows) q r s
+  in-turn-goes-on n h a k =
+      let m = a ∙ ap (λ (p : Process). membersAfter r (membersIn p)) (sym (stands-there (h .process-is))) in
+      of-process (h .process-is) (rw (h .mode-is, ← m) k)
 
   -- a PAR: all its members
   pub together-goes-on : {f : ℕ} {w : List ℕ} → EndingAt rows q Together f → w ≡ ifElse (complete together (statesOf (partAt rows f .members) s)) (set s q 2) s → w ≡ goesOnAt (program rows) q r s

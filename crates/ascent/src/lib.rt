@@ -1,19 +1,21 @@
 // Settling upward: what follows from a changed row settles, from its own process up, as far as processes end.
 ghost use mathlib.Core.Path.{_≡_};
 ghost use mathlib.Core.Logic.{_⊎_};
+ghost use mathlib.Core.Bool.{false};
 ghost use mathlib.Core.Option.{some};
 ghost use Prim.Native.Nat.{ℕ, suc, _-_, _<_, _≤_};
 ghost use lib.ListN.{getD};
 ghost use Rattle.meaning.specs.Rows.{rowCount};
 ghost use Rattle.meaning.specs.Tree.{partAt, membersIn};
 ghost use Rattle.meaning.specs.State.{program, processAt};
-ghost use Rattle.machine.specs.Upward.{parentOf, membersAfter, goesOnAt, upward, changeUp, endUp};
+ghost use Rattle.machine.specs.Upward.{parentOf, membersAfter, startNext, goesOnAt, upward, changeUp, endUp};
+ghost use Rattle.settling.specs.Members.{settleAny};
 ghost use Rattle.settling.specs.Touched.{Listed, Records};
 ghost use Rattle.parents.specs.Parents.{ParentsNoted};
 use settling::closing::finish;
+use settling::closing::is_over;
 use settling::reset::make_idle;
 use settling::settle_from;
-use settling::settle_members;
 use settling::shape::Mode;
 use settling::shape::Shape;
 use settling::shape::shape_at;
@@ -30,6 +32,26 @@ fn note_of(notes: &[u16], i: usize) -> u16
     if i < notes.len() { notes[i] } else { 0 }
 }
 
+// The SEQ of row q starts the next member, from link m on; where that one ends at once it starts the one after it, and after the last
+// one it ends.
+fn start_next(rows: &[i32], q: usize, m: usize, states: &mut [u8], touched: &mut [usize])
+    ensures settled { λ _. ⌜ now (states .exit) ≡ startNext q (partAt (now (rows .entry)) m .members) (now (states .entry)) ⌝ }
+    ensures records { λ _. ⌜ Records (now (states .entry)) (now (states .exit)) (now (touched .entry)) (now (touched .exit)) ⌝ }
+{
+    let s = shape_at(rows, m);
+    match s {
+        Shape::Ending(_, _) => change(states, touched, q, 2),
+        Shape::Repeating(_) => change(states, touched, q, 2),
+        Shape::Link(p, next) => {
+            settle_from(rows, p, true, states, touched);
+            if is_over(rows, p, false, &states[..]) {
+                start_next(rows, q, next, states, touched);
+            }
+        }
+        Shape::Neither => change(states, touched, q, 2),
+    }
+}
+
 // The process of row q goes on after its member of row r. The members after that one follow from row `next` on.
 fn go_on(rows: &[i32], q: usize, r: usize, next: usize, states: &mut [u8], touched: &mut [usize])
     requires member { ⌜ parentOf (program (now rows)) r ≡ some q ⌝ }
@@ -40,10 +62,7 @@ fn go_on(rows: &[i32], q: usize, r: usize, next: usize, states: &mut [u8], touch
     let s = shape_at(rows, q);
     match s {
         Shape::Ending(mode, first) => match mode {
-            Mode::InTurn => {
-                settle_members(rows, next, Mode::InTurn, states, touched);
-                finish(rows, q, next, Mode::InTurn, states, touched);
-            }
+            Mode::InTurn => start_next(rows, q, next, states, touched),
             Mode::Together => finish(rows, q, first, Mode::Together, states, touched),
             Mode::ByStep => change(states, touched, q, 2),
         },
@@ -80,6 +99,17 @@ fn settle_up<'a>(
     settle_up(rows, parents, nexts, q, states, touched);
 }
 
+// The process of row r settles, if it is running.
+fn settle_running(rows: &[i32], r: usize, states: &mut [u8], touched: &mut [usize])
+    ensures settled { λ _. ⌜ now (states .exit) ≡ settleAny (partAt (now (rows .entry)) r .process) false (now (states .entry)) ⌝ }
+    ensures records { λ _. ⌜ Records (now (states .entry)) (now (states .exit)) (now (touched .entry)) (now (touched .exit)) ⌝ }
+{
+    let n = state_at(&states[..], r);
+    if n == 1 {
+        settle_from(rows, r, false, states, touched);
+    }
+}
+
 // Row r gets state n, and what follows from that settles.
 fn change_up<'a>(
     rows: &'a [i32],
@@ -98,7 +128,7 @@ fn change_up<'a>(
 {
     put(states, r, n);
     note(touched, r);
-    settle_from(rows, r, false, states, touched);
+    settle_running(rows, r, states, touched);
     settle_up(rows, parents, nexts, r, states, touched);
 }
 

@@ -33,11 +33,10 @@ impl State {
         ensures stored { λ s. ⌜ s ≡ withCell self i (some x) ⌝ }
         ensures cells { λ s. ⌜ cellsOf s ≡ lists.set (cellsOf self) i (some x) ⌝ }
     {
-        if 256 <= i {
-            return self;
+        if i < 256 {
+            self.values[i] = x;
+            self.marks[i] = 1;
         }
-        self.values[i] = x;
-        self.marks[i] = 1;
         self
     }
 
@@ -46,11 +45,10 @@ impl State {
         ensures stored { λ s. ⌜ s ≡ withCell self i none ⌝ }
         ensures cells { λ s. ⌜ cellsOf s ≡ lists.set (cellsOf self) i none ⌝ }
     {
-        if i >= 256 {
-            return self;
+        if 256 > i {
+            self.values[i] = 0;
+            self.marks[i] = 0;
         }
-        self.values[i] = 0;
-        self.marks[i] = 0;
         self
     }
 
@@ -59,10 +57,9 @@ impl State {
         requires { ⌜ lists.getD (self .places) p 0 < 65536 ⌝ }
         ensures { λ s. ⌜ s ≡ withPlace self p ⌝ }
     {
-        if p >= 8 {
-            return self;
+        if p < 8 {
+            self.places[p] += 1;
         }
-        self.places[p] += 1;
         self
     }
 }

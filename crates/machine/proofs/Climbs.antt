@@ -69,9 +69,9 @@ module _ (rows : List ℤ) (ok : check rows ≡ none) where
         ∙ ap (λ (q : Process). upward P (suc (rowOf p)) (rowOf p) (settle q false (set s x v))) (placed-own P p f)
 
     -- from a member to its process
-    one-up : (k : Action) (r : ℕ) (ms : Members) (c : Process) → processAt P r ≡ node k r ms → Out r (rowsBeneath ms) → Walks x v s (mode k) ms c → getD (set s x v) r 0 ≡ 1
+    one-up : (k : Action) (r : ℕ) (ms : Members) (c : Process) → processAt P r ≡ node k r ms → Sound (node k r ms) n → Walks x v s (mode k) ms c → getD (set s x v) r 0 ≡ 1
         → upward P (suc (rowOf c)) (rowOf c) (settle c false (set s x v)) ≡ upward P (suc r) r (settle (node k r ms) false (set s x v))
-    one-up k r ms c f out W e = go (E x v s c) refl
+    one-up k r ms c f d W e = go (E x v s c) refl
       where
         t : List ℕ
         t = settle c false (set s x v)
@@ -82,15 +82,15 @@ module _ (rows : List ℤ) (ok : check rows ≡ none) where
         on : (z : Process) → processAt P r ≡ z → goesOnAt P r (rowOf c) t ≡ goesOn (mode (actionOf z)) (endsWhenClosed (actionOf z)) r (rowOf c) (membersIn z) t
         on z q = rw q
 
-        go : (d : Bool) → E x v s c ≡ d → upward P (suc (rowOf c)) (rowOf c) t ≡ upward P (suc r) r (settle (node k r ms) false (set s x v))
+        go : (b : Bool) → E x v s c ≡ b → upward P (suc (rowOf c)) (rowOf c) t ≡ upward P (suc r) r (settle (node k r ms) false (set s x v))
         go true q =
             let z : goesOnAt P r (rowOf c) t ≡ settle (node k r ms) false (set s x v)
-            = on (node k r ms) f ∙ sym (goes-on x v s k r ms c W e ∙ ap (λ (d : Bool). ifElse d (goesOn (mode k) (endsWhenClosed k) r (rowOf c) ms t) t) q) in
+            = on (node k r ms) f ∙ sym (goes-on x v s n k r ms c (d .2) W e ∙ ap (λ (b : Bool). ifElse b (goesOn (mode k) (endsWhenClosed k) r (rowOf c) ms t) t) q) in
             up-goes P (rowOf c) (rowOf c) r t q parent ∙ ap (upward P (rowOf c) r) z
             ∙ upward-enough rows (rowOf c) (suc r) r (settle (node k r ms) false (set s x v)) (parent-below rows (rowOf c) r parent) (omega arith)
         go false q =
-            let z : settle (node k r ms) false (set s x v) ≡ t = goes-on x v s k r ms c W e ∙ ap (λ (d : Bool). ifElse d (goesOn (mode k) (endsWhenClosed k) r (rowOf c) ms t) t) q in
-            up-rests P (suc (rowOf c)) (rowOf c) t q ∙ sym (ap (upward P (suc r) r) z ∙ up-rests P (suc r) r t (ap isEnded (runs-on x v s k r ms c out W e q)))
+            let z : settle (node k r ms) false (set s x v) ≡ t = goes-on x v s n k r ms c (d .2) W e ∙ ap (λ (b : Bool). ifElse b (goesOn (mode k) (endsWhenClosed k) r (rowOf c) ms t) t) q in
+            up-rests P (suc (rowOf c)) (rowOf c) t q ∙ sym (ap (upward P (suc r) r) z ∙ up-rests P (suc r) r t (ap isEnded (runs-on x v s k r ms c (d .1) W e q)))
 
     abbrev Way : Mode → Members → Type 0
     Way m ms = (c : Process) × Walks x v s m ms c × Climbed c
@@ -124,10 +124,10 @@ module _ (rows : List ℤ) (ok : check rows ≡ none) where
       climb (node k r ms) d f g z (here eb e m i (own j ex ev)) = from-row (node k r ms) f ex
       climb (node k r ms) d f g z (here eb e m i (child h ev)) =
           let (c, W, C) = way-child ms (d .2) (λ k r qs h. f k r qs (inside h)) h i in
-          C ∙ one-up k r ms c (f k r ms self) (d .1) (subst (λ (mo : Mode). Walks x v s mo ms c) (sym m) W) (getD-set-other s x r v 0 (λ q. d .1 (Memᴰ·cast q (child-in h))) ∙ e)
+          C ∙ one-up k r ms c (f k r ms self) d (subst (λ (mo : Mode). Walks x v s mo ms c) (sym m) W) (getD-set-other s x r v 0 (λ q. d .1 (Memᴰ·cast q (child-in h))) ∙ e)
       climb (node k r ms) d f g z (under e h) =
           let (c, W, C) = climbM ms (d .2) (λ k r qs h. f k r qs (inside h)) (mode k) (running g e) (settled-node n s l k r ms d e z) h in
-          C ∙ one-up k r ms c (f k r ms self) (d .1) W (getD-set-other s x r v 0 (λ q. d .1 (Memᴰ·cast q (atM-in h))) ∙ e)
+          C ∙ one-up k r ms c (f k r ms self) d W (getD-set-other s x r v 0 (λ q. d .1 (Memᴰ·cast q (atM-in h))) ∙ e)
 
       climbM : (ms : Members) → SoundM ms n → PlacedM P ms → (m : Mode) → GoodM s m ms → settleMembers ms m s ≡ s → AtM b x v s ms → Way m ms
       climbM (also p ms) d f m (each g gs) z (first h) = (

@@ -12,9 +12,9 @@ use borrow.Author.Tests.{eqb-true, eq-eqb}
 use Rattle.meaning.specs.Basics.{ifElse}
 use Rattle.meaning.specs.Tree.{Action, stop, skip, sequence, parallel, assign, receive, send, conditional, loop, alternation, Process, node, Members, empty, also, rowOf, rowsIn, rowsBeneath}
 use Rattle.meaning.specs.Settle.{stateOf, statesOf, Mode, inTurn, together, byStep, mode, starts, nextMode, complete, endsWhenClosed, closing, settleRunning, settleMembers, settle, allOf, anyOf, isIdleOrEnded, isEnded, makeIdle}
-use Rattle.agreement.proofs.Frame.{body-node, body-shape, walk-also, row-in, walk-local, see-local, Off, length-local, off-look, off-put, swap}
+use Rattle.agreement.proofs.Frame.{body-node, body-shape, walk-none, walk-also, row-in, walk-local, see-local, Off, length-local, off-look, off-put, swap}
 use Rattle.agreement.proofs.Again.{Out, Sound, SoundM, sound-row, Idle, see-idle, see-run, see-over, idle-walk, zeros-idle, loop-never, sameB, see-again, again}
-use Rattle.machine.specs.Upward.{memberRows, membersAfter, goesOn}
+use Rattle.machine.specs.Upward.{memberRows, membersAfter, startNext, goesOn}
 
 -- ---- members
 
@@ -32,6 +32,42 @@ after-later p ms r ne = go (eqb r (rowOf p)) refl
     go : (t : Bool) → eqb r (rowOf p) ≡ t → ifElse t ms (membersAfter r ms) ≡ membersAfter r ms
     go true e = absurd (ne (eqb-true r (rowOf p) e))
     go false e = refl
+
+sound-after : (c n : ℕ) (ms : Members) → SoundM ms n → SoundM (membersAfter c ms) n
+sound-after c n empty d = tt
+sound-after c n (also p ms) d = go (eqb c (rowOf p)) (sound-after c n ms (d .1))
+  where
+    go : (t : Bool) → SoundM (membersAfter c ms) n → SoundM (ifElse t ms (membersAfter c ms)) n
+    go true f = d .1
+    go false f = f
+
+-- idle members walked in turn: each is started once the one before it has ended, and after the last one their process closes
+starts-next : (n r : ℕ) (ms : Members) → SoundM ms n → (s : List ℕ) → Idle (rowsBeneath ms) s
+    → closing (complete inTurn (statesOf ms (settleMembers ms inTurn s))) true r [] (settleMembers ms inTurn s) ≡ startNext r ms s
+starts-next n r empty d s i = ap (λ (t : List ℕ). set t r 2) (walk-none inTurn s)
+starts-next n r (also p ms) d s i = ap Closed (walk-also p ms inTurn s) ∙ go (starts-next n r ms (d .1) (settle p true s)) (stateOf t p) refl
+  where
+    t : List ℕ
+    t = settle p true s
+
+    Closed : List ℕ → List ℕ
+    Closed w = closing (complete inTurn (statesOf (also p ms) w)) true r [] w
+
+    idle : Idle (rowsBeneath ms) t
+    idle y m = off-look (see-local p true) s y (λ q. d .2 y q m) ∙ i y (Memᴰ·append-right (rowsIn p) m)
+
+    rests : (j : ℕ) → stateOf t p ≡ j → isEnded j ≡ false → Closed (settleMembers ms byStep t) ≡ t
+    rests j e f = ap Closed (idle-walk ms t idle) ∙ ap (λ (b : Bool). closing (b && allOf isEnded (statesOf ms t)) true r [] t) (ap isEnded e ∙ f)
+
+    go : (Idle (rowsBeneath ms) t → closing (complete inTurn (statesOf ms (settleMembers ms inTurn t))) true r [] (settleMembers ms inTurn t) ≡ startNext r ms t)
+        → (j : ℕ) → stateOf t p ≡ j → Closed (settleMembers ms (nextMode inTurn j) t) ≡ ifElse (isEnded j) (startNext r ms t) t
+    go f zero e = rests zero e refl
+    go f (suc zero) e = rests 1 e refl
+    go f (suc (suc zero)) e =
+        let w = settleMembers ms inTurn t in
+        let own : stateOf w p ≡ 2 = off-look (walk-local ms inTurn) t (rowOf p) (d .2 (rowOf p) (row-in p)) ∙ e in
+        ap (λ (j : ℕ). closing (complete inTurn (j ∷ statesOf ms w)) true r [] w) own ∙ f idle
+    go f (suc (suc (suc j))) e = rests (suc (suc (suc j))) e refl
 
 -- one member of state j, and idle ones, close an IF, ALT or WHILE exactly if that one has ended
 idle-over : (ms : Members) (s : List ℕ) → Idle (rowsBeneath ms) s → allOf isIdleOrEnded (statesOf ms s) ≡ true
@@ -101,6 +137,12 @@ closeUp together true c ms w = complete together (statesOf ms w)
 closeUp together false c ms w = false
 closeUp byStep b c ms w = b
 
+-- in a SEQ, those after it are idle
+abbrev Later : Mode → ℕ → Members → List ℕ → Type 0
+Later inTurn c ms t = Idle (rowsBeneath (membersAfter c ms)) t
+Later together c ms t = Unit {0}
+Later byStep c ms t = Unit {0}
+
 walk-more : (b : Bool) (c : ℕ) (p : Process) (ms : Members) (t : List ℕ) → membersAfter c (also p ms) ≡ membersAfter c ms → walkUp inTurn b c ms t ≡ walkUp inTurn b c (also p ms) t
 walk-more true c p ms t e = ap (λ (qs : Members). settleMembers qs inTurn t) (sym e)
 walk-more false c p ms t e = refl
@@ -136,14 +178,16 @@ closing-ends : (b e : Bool) (r : ℕ) (rs t : List ℕ) → e ≡ true → closi
 closing-ends true e r rs t h = ap (λ (x : Bool). closing true x r rs t) h
 closing-ends false e r rs t h = refl
 
-close-goes-on : (m : Mode) (b e : Bool) (r c : ℕ) (ms : Members) (t : List ℕ) → Ends m e
+close-goes-on : (m : Mode) (b e : Bool) (n r c : ℕ) (ms : Members) → SoundM ms n → (t : List ℕ) → Ends m e → Later m c ms t
     → closing (closeUp m b c ms (walkUp m b c ms t)) e r (rowsBeneath ms) (walkUp m b c ms t) ≡ ifElse b (goesOn m e r c ms t) t
-close-goes-on inTurn true e r c ms t h = let w = settleMembers (membersAfter c ms) inTurn t in closing-ends (complete inTurn (statesOf (membersAfter c ms) w)) e r (rowsBeneath ms) w h
-close-goes-on inTurn false e r c ms t h = refl
-close-goes-on together true e r c ms t h = closing-ends (complete together (statesOf ms t)) e r (rowsBeneath ms) t h
-close-goes-on together false e r c ms t h = refl
-close-goes-on byStep true e r c ms t h = refl
-close-goes-on byStep false e r c ms t h = refl
+close-goes-on inTurn true e n r c ms d t h i =
+    let w = settleMembers (membersAfter c ms) inTurn t in
+    closing-ends (complete inTurn (statesOf (membersAfter c ms) w)) e r (rowsBeneath ms) w h ∙ starts-next n r (membersAfter c ms) (sound-after c n ms d) t i
+close-goes-on inTurn false e n r c ms d t h i = refl
+close-goes-on together true e n r c ms d t h i = closing-ends (complete together (statesOf ms t)) e r (rowsBeneath ms) t h
+close-goes-on together false e n r c ms d t h i = refl
+close-goes-on byStep true e n r c ms d t h i = refl
+close-goes-on byStep false e n r c ms d t h i = refl
 
 -- a change of row x to v in s; c is the member in which x stands
 module _ (x v : ℕ) (s : List ℕ) where
@@ -162,6 +206,7 @@ module _ (x v : ℕ) (s : List ℕ) where
     pub named : List·Memᴰ (rowOf c) (memberRows ms)
     pub walked : settleMembers ms m u ≡ walkUp m (E c) (rowOf c) ms (T c)
     pub closed : complete m (statesOf ms (settleMembers ms m u)) ≡ closeUp m (E c) (rowOf c) ms (settleMembers ms m u)
+    pub later : Later m (rowOf c) ms (T c)
 
   -- what stands beside the changed member keeps its states
   kept : (R : List ℕ) → Out x R → (y : ℕ) → List·Memᴰ y R → getD u y 0 ≡ getD s y 0
@@ -184,12 +229,19 @@ module _ (x v : ℕ) (s : List ℕ) where
             named = List·Memᴰ·head refl;
             walked = eq;
             closed = ap (λ (w : List ℕ). complete byStep (statesOf (also p ms) w)) eq ∙ one-closes ms t (still-idle i) (stateOf t p);
+            later = tt;
           }
 
       -- the member is not started anew
       module _ (h : settle p true u ≡ settle p false u) where
         pub walks-now : Idle (rowsBeneath ms) s → Walks inTurn (also p ms) p
-        walks-now i = record { named = List·Memᴰ·head refl; walked = eq ∙ leaves (stateOf t p); closed = ap (λ (j : ℕ). complete inTurn (j ∷ statesOf ms w)) own-state ∙ closes (stateOf t p) }
+        walks-now i =
+            record {
+              named = List·Memᴰ·head refl;
+              walked = eq ∙ leaves (stateOf t p);
+              closed = ap (λ (j : ℕ). complete inTurn (j ∷ statesOf ms w)) own-state ∙ closes (stateOf t p);
+              later = subst (λ (qs : Members). Idle (rowsBeneath qs) t) (sym (after-first p ms)) (still-idle i);
+            }
           where
             t : List ℕ
             t = T p
@@ -216,7 +268,7 @@ module _ (x v : ℕ) (s : List ℕ) where
             closes (suc (suc (suc j))) = refl
 
         pub walks-each : settleMembers ms together s ≡ s → Walks together (also p ms) p
-        walks-each f = record { named = List·Memᴰ·head refl; walked = eq; closed = subst Closed (sym eq) (closes (stateOf t p) refl) }
+        walks-each f = record { named = List·Memᴰ·head refl; walked = eq; closed = subst Closed (sym eq) (closes (stateOf t p) refl); later = tt }
           where
             t : List ℕ
             t = T p
@@ -251,6 +303,7 @@ module _ (x v : ℕ) (s : List ℕ) where
             named = List·Memᴰ·tail (W .named);
             walked = eq ∙ W .walked;
             closed = ap (λ (z : List ℕ). complete byStep (statesOf (also p ms) z)) eq ∙ ap (λ (j : ℕ). complete byStep (j ∷ statesOf ms w)) (first-kept byStep ∙ e) ∙ W .closed;
+            later = tt;
           }
 
       pub walks-past : stateOf s p ≡ 2 → Walks inTurn ms c → Walks inTurn (also p ms) c
@@ -265,10 +318,11 @@ module _ (x v : ℕ) (s : List ℕ) where
             walked = eq ∙ W .walked ∙ walk-more (E c) (rowOf c) p ms (T c) aft;
             closed = subst (λ (z : List ℕ). complete inTurn (statesOf (also p ms) z) ≡ closeUp inTurn (E c) (rowOf c) (also p ms) z) (sym eq)
                 (ap (λ (j : ℕ). complete inTurn (j ∷ statesOf ms w)) (first-kept inTurn ∙ e) ∙ W .closed ∙ close-more (E c) (rowOf c) p ms w aft);
+            later = subst (λ (qs : Members). Idle (rowsBeneath qs) (T c)) (sym aft) (W .later);
           }
 
       pub walks-beside : settle p true s ≡ s → Walks together ms c → Walks together (also p ms) c
-      walks-beside f W = record { named = List·Memᴰ·tail (W .named); walked = eq ∙ W .walked; closed = subst Closed (sym eq) (closes (E c) (W .closed)) }
+      walks-beside f W = record { named = List·Memᴰ·tail (W .named); walked = eq ∙ W .walked; closed = subst Closed (sym eq) (closes (E c) (W .closed)); later = tt }
         where
           w : List ℕ
           w = settleMembers ms together u
@@ -284,13 +338,13 @@ module _ (x v : ℕ) (s : List ℕ) where
           closes false h = ap (λ (t : Bool). isEnded (stateOf w p) && t) h ∙ and-false (isEnded (stateOf w p))
 
   -- so the process goes on from that member
-  pub goes-on : (k : Action) (r : ℕ) (ms : Members) (c : Process) → Walks (mode k) ms c → getD u r 0 ≡ 1
+  pub goes-on : (n : ℕ) (k : Action) (r : ℕ) (ms : Members) (c : Process) → SoundM ms n → Walks (mode k) ms c → getD u r 0 ≡ 1
       → settle (node k r ms) false u ≡ ifElse (E c) (goesOn (mode k) (endsWhenClosed k) r (rowOf c) ms (T c)) (T c)
-  goes-on k r ms c W e =
+  goes-on n k r ms c d W e =
       let w = settleMembers ms (mode k) u in
       see-run (node k r ms) false u e ∙ body-node k r ms u ∙ ap (λ (b : Bool). closing b (endsWhenClosed k) r (rowsBeneath ms) w) (W .closed)
       ∙ ap (λ (z : List ℕ). closing (closeUp (mode k) (E c) (rowOf c) ms z) (endsWhenClosed k) r (rowsBeneath ms) z) (W .walked)
-      ∙ close-goes-on (mode k) (E c) (endsWhenClosed k) r (rowOf c) ms (T c) (ends k)
+      ∙ close-goes-on (mode k) (E c) (endsWhenClosed k) n r (rowOf c) ms d (T c) (ends k) (W .later)
 
   -- where the member has not ended, the process runs on
   pub runs-on : (k : Action) (r : ℕ) (ms : Members) (c : Process) → Out r (rowsBeneath ms) → Walks (mode k) ms c → getD u r 0 ≡ 1 → E c ≡ false → getD (T c) r 0 ≡ 1

@@ -14,14 +14,14 @@ use Rattle.meaning.specs.Limits.{maxRows}
 use Rattle.meaning.specs.Basics.{ifElse}
 use Rattle.meaning.specs.Rows.{rowCount}
 use Rattle.meaning.specs.Tree.{Process, node, Members, empty, also, actionOf, membersIn, rowsBeneath}
-use Rattle.meaning.specs.Settle.{Mode, inTurn, together, byStep, mode, complete, endsWhenClosed, statesOf, closing, settleMembers, settle, isEnded}
+use Rattle.meaning.specs.Settle.{Mode, inTurn, together, byStep, mode, complete, endsWhenClosed, stateOf, statesOf, closing, settle, isEnded}
 use Rattle.meaning.specs.State.{State, Program, program, processAt, whole, changeStates, Effect}
 use Rattle.meaning.specs.Intent.{Sheet}
 use Rattle.meaning.specs.Ready.{Label, intentAt}
 use Rattle.meaning.specs.Order.{OrderOf}
 use Rattle.meaning.specs.Buffers.{Buffers}
 use Rattle.meaning.specs.Answers.{check}
-use Rattle.agreement.proofs.Frame.{walk-local, see-local, zeros-local, length-local}
+use Rattle.agreement.proofs.Frame.{see-local, zeros-local, length-local}
 use Rattle.agreement.proofs.Again.{Sound, SoundM, sound-row, see-run, sameB, see-again, again}
 use Rattle.agreement.proofs.Commute.{At, at-run, agree, persist, absorb, other}
 use Rattle.agreement.proofs.Reach.{Good, good-agree, good-set, good-see, good-body}
@@ -32,7 +32,7 @@ use Rattle.agreement.proofs.Separate.{table-inv}
 use Rattle.agreement.proofs.TableFit.{fit}
 use Rattle.agreement.proofs.OrdersSettle.{settled-again}
 use Rattle.machine.specs.Held.{Holds}
-use Rattle.machine.specs.Upward.{membersAfter, goesOn, ofParent, parentOf, goesOnAt, upward, changeUp, changesUp}
+use Rattle.machine.specs.Upward.{membersAfter, startNext, goesOn, ofParent, parentOf, goesOnAt, upward, changeUp, changesUp}
 use Rattle.machine.proofs.LentLists.{lent-at, lent-length}
 use Rattle.machine.proofs.Declared.{room}
 use Rattle.machine.proofs.HeldLaws.{states-are}
@@ -48,10 +48,22 @@ closing-length true true r rs s = length-set s r 2
 closing-length true false r rs s = length-local (zeros-local rs) s
 closing-length false e r rs s = refl
 
+start-length : (q : ℕ) (ms : Members) (s : List ℕ) → length (startNext q ms s) ≡ length s
+start-length q empty s = length-set s q 2
+start-length q (also p ms) s = go (isEnded (stateOf t p)) (start-length q ms (settle p true s))
+  where
+    t : List ℕ
+    t = settle p true s
+
+    own : length t ≡ length s
+    own = length-local (see-local p true) s
+
+    go : (b : Bool) → length (startNext q ms t) ≡ length t → length (ifElse b (startNext q ms t) t) ≡ length s
+    go true f = f ∙ own
+    go false f = own
+
 goes-on-length : (m : Mode) (e : Bool) (q r : ℕ) (ms : Members) (s : List ℕ) → length (goesOn m e q r ms s) ≡ length s
-goes-on-length inTurn e q r ms s =
-    let t = settleMembers (membersAfter r ms) inTurn s in
-    closing-length (complete inTurn (statesOf (membersAfter r ms) t)) true q [] t ∙ length-local (walk-local (membersAfter r ms) inTurn) s
+goes-on-length inTurn e q r ms s = start-length q (membersAfter r ms) s
 goes-on-length together e q r ms s = closing-length (complete together (statesOf ms s)) true q [] s
 goes-on-length byStep e q r ms s = closing-length true e q (rowsBeneath ms) s
 

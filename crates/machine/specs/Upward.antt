@@ -7,7 +7,7 @@ use lib.ListN.{length, getD, set}
 use lib.Dec.{eqb}
 use Rattle.meaning.specs.Basics.{ifElse, among, lowest}
 use Rattle.meaning.specs.Tree.{Action, Members, empty, also, rowOf, actionOf, membersIn, rowsBeneath}
-use Rattle.meaning.specs.Settle.{Mode, inTurn, together, byStep, mode, isEnded, complete, endsWhenClosed, closing, statesOf, settleMembers, settle}
+use Rattle.meaning.specs.Settle.{Mode, inTurn, together, byStep, mode, isEnded, complete, endsWhenClosed, closing, stateOf, statesOf, settle}
 use Rattle.meaning.specs.State.{Program, processAt, StateChange}
 
 -- the rows of members
@@ -20,9 +20,14 @@ abbrev pub membersAfter : ℕ → Members → Members
 membersAfter r empty = empty
 membersAfter r (also p ms) = ifElse (eqb r (rowOf p)) ms (membersAfter r ms)
 
--- a running process at row q goes on, once its member of row r has ended: a SEQ starts the next member; it closes where all have ended, and where the one has that an IF, ALT or WHILE started
+-- a SEQ at row q starts the next of these members; where that one ends at once it starts the one after it, and after the last one it ends
+abbrev pub startNext : ℕ → Members → List ℕ → List ℕ
+startNext q empty s = set s q 2
+startNext q (also p ms) s = let t = settle p true s in let u = ifElse (isEnded (stateOf t p)) (startNext q ms t) t in u
+
+-- a running process at row q goes on, once its member of row r has ended: a SEQ starts the next member; a PAR closes where all have ended, and an IF, ALT or WHILE where the one has that it started
 abbrev pub goesOn : Mode → Bool → ℕ → ℕ → Members → List ℕ → List ℕ
-goesOn inTurn e q r ms s = let t = settleMembers (membersAfter r ms) inTurn s in let c = closing (complete inTurn (statesOf (membersAfter r ms) t)) true q [] t in c
+goesOn inTurn e q r ms s = startNext q (membersAfter r ms) s
 goesOn together e q r ms s = closing (complete together (statesOf ms s)) true q [] s
 goesOn byStep e q r ms s = closing true e q (rowsBeneath ms) s
 

@@ -1,7 +1,6 @@
 -- `go_on` meets its contract, by what stands at the row: a SEQ, a PAR, an IF or ALT, a WHILE. A row that is no process has no member.
 use borrow.Author.Needs.{needs}
 use Rattle.settling.proofs.Standing.{found}
-use Rattle.settling.proofs.Recording.{records-both}
 use Rattle.ascent.proofs.GoingOn.{in-turn-goes-on, together-goes-on, by-step-goes-on, repeating-goes-on, no-parent}
 use Rattle.ascent.proofs.go_on.Statement.{statement}
 use Rattle.ascent.proofs.go_on.Tie as tie
@@ -15,17 +14,14 @@ enum-known-s c = search needs
 enum-told : tie.Need-enum-told
 enum-told c = search needs
 
-settle-members-requires : tie.Need-settle-members-requires
-settle-members-requires c κs = search needs
-
-finish-requires : tie.Need-finish-requires
-finish-requires c κs = search needs
+start-next-requires : tie.Need-start-next-requires
+start-next-requires c κs = search needs
 
 enum-told-2 : tie.Need-enum-told-2
 enum-told-2 c = search needs
 
-finish-requires-2 : tie.Need-finish-requires-2
-finish-requires-2 c κs = search needs
+finish-requires : tie.Need-finish-requires
+finish-requires c κs = search needs
 
 enum-told-3 : tie.Need-enum-told-3
 enum-told-3 c = search needs
@@ -53,17 +49,14 @@ same-length-2 c = search needs
 
 returns : tie.Need-returns
 returns c =
-    let at-finish = c .before .before .before .before in
-    let at-settle-members = at-finish .before .before .before .before .before .before .before in
-    let at-mode = at-settle-members .before .before .before in
+    let at-start-next = c .before .before .before .before in
+    let at-mode = at-start-next .before .before .before in
     let at-s = at-mode .before .before .before in
     let at-shape-at = at-s .before .before in
     let at-start = at-shape-at .before .before .before in
     let args = at-start .args in
-    let h = rw (at-mode .enum-told .given .1) at (found (args .rows .now) (args .q) (at-shape-at .shape-at .ensures) (at-s .s .given .1)) in (
-      in-turn-goes-on (args .rows .now) (args .q) (args .r) (args .states .now) (args .next) h (at-start .pre .1) (at-settle-members .settle-members .ensures .0) (at-finish .finish .ensures .0),
-      records-both (at-settle-members .settle-members .ensures .1) (at-finish .finish .ensures .1),
-    )
+    let h = rw (at-mode .enum-told .given .1) at (found (args .rows .now) (args .q) (at-shape-at .shape-at .ensures) (at-s .s .given .1)) in
+    (in-turn-goes-on (args .rows .now) (args .q) (args .r) (args .states .now) (args .next) h (at-start .pre .1) (at-start-next .start-next .ensures .0), at-start-next .start-next .ensures .1)
 
 same-length-3 : tie.Need-same-length-3
 same-length-3 c = search needs
@@ -73,13 +66,13 @@ same-length-4 c = search needs
 
 returns-2 : tie.Need-returns-2
 returns-2 c =
-    let at-finish2 = c .before .before .before .before in
-    let at-mode = at-finish2 .before .before .before in
+    let at-finish = c .before .before .before .before in
+    let at-mode = at-finish .before .before .before in
     let at-s = at-mode .before .before .before in
     let at-shape-at = at-s .before .before in
     let args = at-shape-at .before .before .before .args in
     let h = rw (at-mode .enum-told2 .given .1) at (found (args .rows .now) (args .q) (at-shape-at .shape-at .ensures) (at-s .s .given .1)) in
-    (together-goes-on (args .rows .now) (args .q) (args .r) (args .states .now) h (at-finish2 .finish2 .ensures .0), at-finish2 .finish2 .ensures .1)
+    (together-goes-on (args .rows .now) (args .q) (args .r) (args .states .now) h (at-finish .finish .ensures .0), at-finish .finish .ensures .1)
 
 same-length-5 : tie.Need-same-length-5
 same-length-5 c = search needs
@@ -133,10 +126,9 @@ go-on-spec =
     shape-at-requires
     enum-known-s
     enum-told
-    settle-members-requires
-    finish-requires
+    start-next-requires
     enum-told-2
-    finish-requires-2
+    finish-requires
     enum-told-3
     change-requires
     enum-known-s-2
