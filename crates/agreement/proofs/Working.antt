@@ -88,11 +88,11 @@ both-true : (a b : Bool) → (a && b) ≡ true → (a ≡ true) × (b ≡ true)
 both-true true b e = (refl, e)
 both-true false b e = absurd (true≢false (sym e))
 
-idle-all : (l s : List ℕ) → allIdle l s ≡ true → Idle l s
+pub idle-all : (l s : List ℕ) → allIdle l s ≡ true → Idle l s
 idle-all (r ∷ l) s e b (List·Memᴰ·head q) = rw q (eqb-is (getD s r 0) 0 (both-true (eqb (getD s r 0) 0) (allIdle l s) e .0))
 idle-all (r ∷ l) s e b (List·Memᴰ·tail m) = idle-all l s (both-true (eqb (getD s r 0) 0) (allIdle l s) e .1) b m
 
-all-idle : (l s : List ℕ) → Idle l s → allIdle l s ≡ true
+pub all-idle : (l s : List ℕ) → Idle l s → allIdle l s ≡ true
 all-idle [] s h = refl
 all-idle (r ∷ l) s h = rw (h r (List·Memᴰ·head refl), all-idle l s (λ b m. h b (List·Memᴰ·tail m)))
 

@@ -9,23 +9,19 @@ use lib.IntN.{ℤ}
 use lib.ListN.{set}
 use Rattle.meaning.specs.Basics.{ifElse}
 use Rattle.meaning.specs.Tree.{Process, empty, andMember, partAt, orStop, actionOf, membersIn, rowsBeneath}
-use Rattle.meaning.specs.Settle.{together, mode, complete, endsWhenClosed, closing, makeIdle, stateOf, statesOf, isEnded, allOf}
+use Rattle.meaning.specs.Settle.{together, mode, complete, endsWhenClosed, makeIdle, stateOf, statesOf, isEnded, allOf}
 use Rattle.meaning.specs.State.{program, processAt}
 use Rattle.agreement.proofs.TableTree.{process-is}
 use Rattle.machine.specs.Upward.{memberRows, membersAfter, startNext, parentOf, goesOn, goesOnAt}
 use Rattle.machine.proofs.Upwards.{parent-has}
 use Rattle.settling.specs.declared.shape.Mode.the-variants.{InTurn, Together, ByStep}
 use Rattle.settling.specs.Members.{isOver, alone, settleAny}
+use Rattle.settling.proofs.Walks.{closing-ends}
 use Rattle.settling.proofs.Standing.{EndingAt, RepeatingAt, LinkAt}
 
 and-one : (b : Bool) → b && true ≡ b
 and-one true = refl
 and-one false = refl
-
--- a process that ends when it closes
-closing-ends : (c : Bool) (q : ℕ) (rs t : List ℕ) → ifElse c (set t q 2) t ≡ closing c true q rs t
-closing-ends true q rs t = refl
-closing-ends false q rs t = refl
 
 -- the next member of a SEQ, from link m on
 module _ (rows : List ℤ) (q m : ℕ) (s : List ℕ) where
@@ -68,7 +64,7 @@ module _ (rows : List ℤ) (q r : ℕ) (s : List ℕ) where
 
   -- a PAR: all its members
   pub together-goes-on : {f : ℕ} {w : List ℕ} → EndingAt rows q Together f → w ≡ ifElse (complete together (statesOf (partAt rows f .members) s)) (set s q 2) s → w ≡ goesOnAt (program rows) q r s
-  together-goes-on {f} h k = of-process (h .process-is) (rw (h .mode-is) (k ∙ closing-ends (complete together (statesOf (partAt rows f .members) s)) q [] s))
+  together-goes-on {f} h k = of-process (h .process-is) (rw (h .mode-is) (k ∙ sym (closing-ends (complete together (statesOf (partAt rows f .members) s)) q [] s)))
 
   -- an IF or ALT ends
   pub by-step-goes-on : {f : ℕ} {w : List ℕ} → EndingAt rows q ByStep f → w ≡ set s q 2 → w ≡ goesOnAt (program rows) q r s

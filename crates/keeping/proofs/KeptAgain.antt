@@ -14,7 +14,7 @@ use Rattle.notes.specs.Marks.{rowNote}
 use Rattle.stepping.specs.Acts.{sentCode, workingDoes}
 use Rattle.noting.specs.Kept.{Affected, Single, WaitsNoted, Room, Kept, Stale}
 use Rattle.renewing.specs.Renewed.{Right, Forgotten, Renewed, RowsRenewed, SameLengths}
-use Rattle.renewing.proofs.Agreeing.{lowest-same}
+use Rattle.rowlist.proofs.Agreeing.{lowest-same}
 
 module _ {n : ℕ} {act output : ℕ → ℕ} {owners : List ℕ} {A P : ℕ → Type 0} {acts₀ sent₀ waiting₀ sent₁ waiting₁ list₀ acts sent waiting list : List ℕ} {count₀ count : ℕ}
     (right : (j : ℕ) → j < n → A j ⊎ Right act output acts₀ sent₀ j) (meant : (j : ℕ) → A j → P j)

@@ -8,7 +8,7 @@ ghost use Rattle.meaning.specs.Declarations.{noChannel};
 ghost use Rattle.meaning.specs.Faults.{WithinLimits};
 ghost use Rattle.layout.specs.Names.{Reached, Named, nameAt, namesOf, sumsBelow, extentOf, variableIn, channelOf, channelIn};
 
-pub mod nodes; // nodes.rt: a row as a node, and the rows that it refers to
+pub mod nodes; // nodes.rt: the numbers of a row, and the rows that it refers to
 
 use nodes::natural;
 

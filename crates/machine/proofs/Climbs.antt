@@ -14,7 +14,7 @@ use Rattle.meaning.specs.Settle.{stateOf, Mode, inTurn, together, byStep, mode,
 use Rattle.meaning.specs.State.{Program, program, processAt, whole}
 use Rattle.meaning.specs.Answers.{check}
 use Rattle.agreement.proofs.Frame.{row-in}
-use Rattle.agreement.proofs.Again.{Out, Sound, SoundM, Idle, see-run, see-over}
+use Rattle.agreement.proofs.Again.{Sound, SoundM, Idle, see-run, see-over}
 use Rattle.agreement.proofs.Commute.{Child, eldest, younger, child-in, own, child, At, AtM, here, under, first, later, at-run, at-in, atM-in, busy}
 use Rattle.agreement.proofs.Reach.{Good, GoodM, each, past, now, pass, pick, running, Sub, SubM, self, inside, front, back}
 use Rattle.agreement.proofs.TableFit.{fit}

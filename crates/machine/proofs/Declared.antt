@@ -146,14 +146,10 @@ module _ (rows : List ℤ) where
   unfolding sinkAt
   sink-below r h = let (t, p, c) = host-role 2 r h in rw p (port-below 2 r t)
 
-  -- its capacity, and where its strip begins
+  -- its capacity
   pub sink-capacity : (r : ℕ) → sinkAt rows r .host ≡ true → getD (capacities rows) (sinkAt rows r .port) 0 ≡ sinkAt rows r .capacity
   unfolding sinkAt
   sink-capacity r h = let (t, p, c) = host-role 2 r h in rw (p, c) (capacity-at r t)
-
-  pub sink-start : (r : ℕ) → sinkAt rows r .host ≡ true → stripStart rows (sinkAt rows r .port) ≡ sumBelow (capacityAt rows) r
-  unfolding sinkAt
-  sink-start r h = let (t, p, c) = host-role 2 r h in rw p (strip-start r t)
 
   -- ---- an accepted table is within the limits
   pub room : check rows ≡ none → Room rows

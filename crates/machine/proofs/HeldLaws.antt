@@ -61,15 +61,6 @@ module _ (rows : List ℤ) (s : State) (b : Buffers) (h : Holds rows s b) where
   pub states-long : length (b .states) ≡ maxRows
   states-long = rw states-are (lent-length maxRows 0 (s .states))
 
-  pub places-long : length (b .places) ≡ maxPorts
-  places-long = rw places-are (lent-length maxPorts 0 (s .store .places))
-
-  pub numbers-long : length (b .numbers) ≡ maxCapacity
-  numbers-long = rw numbers-are (lent-length maxCapacity (pos 0) (strips (capacities rows) (s .store .outputs)))
-
-  pub counts-long : length (b .counts) ≡ maxPorts
-  counts-long = rw counts-are (lent-length maxPorts 0 (map (λ (l : List Message). length l) (s .store .outputs)))
-
 module _ (rows : List ℤ) (R : Room rows) (s : State) (L : Lengths rows s) (b : Buffers) (h : Holds rows s b) where
   cells-fit : length (map numberIn (s .store .cells)) ≤ maxCells
   cells-fit = omega (arith, length-map (s .store .cells) numberIn, L .cells, R .cells)

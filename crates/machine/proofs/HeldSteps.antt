@@ -17,7 +17,7 @@ use Rattle.meaning.specs.State.{Message, State, program, whole, start, Write, w
 use Rattle.meaning.specs.Buffers.{Buffers, lent, encode}
 use Rattle.meaning.specs.Answers.{check}
 use Rattle.agreement.proofs.Again.{Sound, SoundM}
-use Rattle.agreement.proofs.Frame.{see-local, length-local}
+use Rattle.agreement.proofs.Frame.{see-local}
 use Rattle.agreement.proofs.Separate.{processes-length}
 use Rattle.agreement.proofs.TableFit.{fit}
 use Rattle.machine.specs.Held.{blank, Holds, withWrite, withState, withSettled, putWrite, putWrites, putChanges, putSettled, putEffect, InRange, AllInRange, ChangesBelow, Lengths, Room}
@@ -57,9 +57,6 @@ module _ (rows : List ℤ) (ok : check rows ≡ none) where
 
   pub lengths-state : (r v : ℕ) (s : State) → Lengths rows s → Lengths rows (withState r v s)
   lengths-state r v s L = record { cells = L .cells; places = L .places; outputs = L .outputs; states = length-set (s .states) r v ∙ L .states }
-
-  pub lengths-settled : (t : Bool) (s : State) → Lengths rows s → Lengths rows (withSettled rows t s)
-  lengths-settled t s L = record { cells = L .cells; places = L .places; outputs = L .outputs; states = length-local (see-local (whole (program rows)) t) (s .states) ∙ L .states }
 
   -- ---- settling, changes, writes
 

@@ -1,9 +1,9 @@
--- In a state of an order the direct members of a running row tell whether it is live; a row of a kind without members is live where it runs.
+-- In a state of an order the direct members of a running row tell whether it is live.
 use mathlib.Core.Path.{_≡_, refl, sym}
 use mathlib.Core.Logic.{_⊎_, inl, inr}
-use mathlib.Core.Bool.{Bool, true, false, _&&_, true≢false, false≢true}
+use mathlib.Core.Bool.{Bool, true, false, _&&_, false≢true}
 use mathlib.Core.Option.{none}
-use mathlib.Core.List.{List, [], _∷_, List·Memᴰ, List·Memᴰ·head, List·Memᴰ·tail, Memᴰ·append-left, Memᴰ·append-right}
+use mathlib.Core.List.{List, List·Memᴰ, Memᴰ·append-left, Memᴰ·append-right}
 use Prim.Native.Nat.{ℕ}
 use native.Mathlib.Omega.{arith}
 use lib.IntN.{ℤ}
@@ -11,7 +11,7 @@ use lib.ListN.{getD}
 use lib.Dec.{eqb}
 use borrow.Author.Tests.{eqb-true}
 use Rattle.meaning.specs.Rows.{ifElse}
-use Rattle.meaning.specs.Tree.{Action, stop, skip, sequence, parallel, assign, receive, send, conditional, loop, alternation, Process, node, Members, empty, also, rowOf, actionOf, membersIn, rowsIn, rowsBeneath}
+use Rattle.meaning.specs.Tree.{Action, Process, node, Members, empty, also, rowOf, actionOf, membersIn, rowsIn, rowsBeneath}
 use Rattle.meaning.specs.Settle.{stateOf, statesOf, allOf}
 use Rattle.meaning.specs.SettlingRules.{Among, All, Inside}
 use Rattle.meaning.specs.State.{State, program, processAt, whole}
@@ -22,13 +22,11 @@ use Rattle.meaning.specs.Answers.{check}
 use Rattle.agreement.proofs.Again.{Out, Idle}
 use Rattle.agreement.proofs.Frame.{row-in}
 use Rattle.agreement.proofs.Reach.{Sub, SubM, self, inside, front, back}
-use Rattle.agreement.proofs.Settled.{PlainA, Plain}
-use Rattle.agreement.proofs.Working.{in-or-out, sub-at}
+use Rattle.agreement.proofs.Working.{in-or-out, sub-at, idle-all, all-idle}
 use Rattle.agreement.proofs.Separate.{table-inv}
-use Rattle.agreement.proofs.TableTree.{plain}
 use Rattle.agreement.proofs.TableFit.{fit}
 use Rattle.agreement.proofs.OrdersCoherent.{members-tell}
-use Rattle.machine.specs.RowSteps.{liveByMembers, mayHaveMembers}
+use Rattle.machine.specs.RowSteps.{liveByMembers}
 
 -- ---- a process that stands in another, by the way down
 
@@ -47,14 +45,6 @@ pub both : (a b : Bool) → (a && b) ≡ true → (a ≡ true) × (b ≡ true)
 both true b e = (refl, e)
 both false b e = absurd (false≢true e)
 
-pub idle-all : (l s : List ℕ) → allIdle l s ≡ true → Idle l s
-idle-all (r ∷ l) s e b (List·Memᴰ·head q) = rw q (eqb-true (getD s r 0) 0 (both (eqb (getD s r 0) 0) (allIdle l s) e .0))
-idle-all (r ∷ l) s e b (List·Memᴰ·tail m) = idle-all l s (both (eqb (getD s r 0) 0) (allIdle l s) e .1) b m
-
-pub all-idle : (l s : List ℕ) → Idle l s → allIdle l s ≡ true
-all-idle [] s h = refl
-all-idle (r ∷ l) s h = rw (h r (List·Memᴰ·head refl), all-idle l s (λ b m. h b (List·Memᴰ·tail m)))
-
 members-idle : (ms : Members) (s : List ℕ) → allOf (λ n. eqb n 0) (statesOf ms s) ≡ true → All 0 s ms
 members-idle empty s e = All.no-more
 members-idle (also p ms) s e = let (a, b) = both (eqb (stateOf s p) 0) (allOf (λ n. eqb n 0) (statesOf ms s)) e in All.and-then (eqb-true (stateOf s p) 0 a) (members-idle ms s b)
@@ -69,40 +59,7 @@ same-test true b f g = sym (f refl)
 same-test false true f g = g refl
 same-test false false f g = refl
 
--- ---- kinds without members
-
-no-members-of : (a : Action) (ms : Members) → PlainA a ms → mayHaveMembers a ≡ false → ms ≡ empty
-no-members-of stop empty h e = refl
-no-members-of stop (also p ms) h e = absurd h
-no-members-of skip empty h e = refl
-no-members-of skip (also p ms) h e = absurd h
-no-members-of sequence ms h e = absurd (true≢false e)
-no-members-of parallel ms h e = absurd (true≢false e)
-no-members-of (assign v a b) empty h e = refl
-no-members-of (assign v a b) (also p ms) h e = absurd h
-no-members-of (receive i) empty h e = refl
-no-members-of (receive i) (also p ms) h e = absurd h
-no-members-of (send c a b) empty h e = refl
-no-members-of (send c a b) (also p ms) h e = absurd h
-no-members-of (conditional ts) ms h e = absurd (true≢false e)
-no-members-of (loop a b) ms h e = absurd (true≢false e)
-no-members-of (alternation bs) ms h e = absurd (true≢false e)
-
-plain-node : (p : Process) → Plain p → mayHaveMembers (actionOf p) ≡ false → membersIn p ≡ empty
-plain-node (node a r ms) h e = no-members-of a ms (h .0) e
-
--- STOP, SKIP, assignments, inputs and outputs have none, in every table
-pub no-members : (rows : List ℤ) (r : ℕ) → mayHaveMembers (actionOf (processAt (program rows) r)) ≡ false → membersIn (processAt (program rows) r) ≡ empty
-no-members rows r e = plain-node (processAt (program rows) r) (plain rows r) e
-
--- so such a row is live where it runs
-pub live-without-members : (rows : List ℤ) (sheet : Sheet) (s : State) (r : ℕ) → mayHaveMembers (actionOf (processAt (program rows) r)) ≡ false → live (program rows) sheet r s ≡ eqb (getD (s .states) r 0) 1
-unfolding live
-live-without-members rows sheet s r e = rw (no-members rows r e) (and-true (eqb (getD (s .states) r 0) 1))
-  where
-    and-true : (t : Bool) → (t && true) ≡ t
-    and-true true = refl
-    and-true false = refl
+-- ---- what a row would do
 
 -- what a row would do, by whether it is live
 pub intent-is : (rows : List ℤ) (sheet : Sheet) (s : State) (r : ℕ) (t : Bool) → live (program rows) sheet r s ≡ t → intentAt (program rows) sheet s r ≡ ifElse t (intent sheet (actionOf (processAt (program rows) r)) r (s .store)) waits

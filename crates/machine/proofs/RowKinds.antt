@@ -1,7 +1,7 @@
--- The kind of a row tells where to look for its step: an option orders a step of its ALT, any other row only one of its own. It holds of every table and state.
+-- The kind of a row tells where to look for its step: the rows of options are options, and an option orders no step of its own. It holds of every table and state.
 use mathlib.Core.Path.{_≡_, refl, sym, ap, _∙_}
 use mathlib.Core.Logic.{inl, inr}
-use mathlib.Core.Bool.{Bool, true, false, true≢false}
+use mathlib.Core.Bool.{true, true≢false}
 use mathlib.Core.Option.{Option, none, some}
 use mathlib.Core.List.{List, [], _∷_, List·Memᴰ, List·Memᴰ·head, List·Memᴰ·tail, List·Memᴰ·not-nil}
 use Prim.Native.Nat.{ℕ, _<_}
@@ -10,16 +10,14 @@ use native.Mathlib.Decide.{decLt}
 use lib.IntN.{ℤ}
 use Rattle.meaning.specs.declared.Node.{Node}
 use Rattle.meaning.specs.declared.Node.the-variants.{Literal, Element, Monadic, Dyadic, Stop, Skip, Assignment, Input, Output, Seq, Par, If, While, Alt, Member, Choice, Option as Alternative, Guard, Other}
-use Rattle.meaning.specs.Rows.{ifElse, rowCount, nodeAt}
+use Rattle.meaning.specs.Rows.{rowCount, nodeAt}
 use Rattle.meaning.specs.Tree.{Process, Part, noPart, partOf, partAt, orStop, actionOf}
 use Rattle.meaning.specs.State.{State, program, processAt}
 use Rattle.meaning.specs.Intent.{Sheet, intent}
-use Rattle.meaning.specs.Ready.{Label}
 use Rattle.agreement.proofs.OptionRows.{rowsOf, optionRows}
 use Rattle.agreement.proofs.TableTree.{above, part-at, part-past, process-is, Known, every-row}
-use Rattle.machine.specs.RowSteps.{isOption, altOf, ownStepBy, orElse, waitingAt, ownStep, optionStep, stepAt}
+use Rattle.machine.specs.RowSteps.{isOption, ownStepBy, waitingAt, ownStep}
 use Rattle.machine.proofs.LiveRows.{intent-waits}
-use Rattle.machine.proofs.RowReady.{alt-is}
 
 module _ (rows : List ℤ) where
   -- ---- the rows of options are options
@@ -117,24 +115,3 @@ module _ (rows : List ℤ) where
     no-own-step j e =
         let p : processAt (program rows) j ≡ orStop none = process-is rows j ∙ ap orStop e in
         ap (ownStepBy (waitingAt (program rows) sheet s) j) (intent-waits rows sheet s j (ap (λ (q : Process). intent sheet (actionOf q) j (s .store)) p))
-
-    -- a row that is no option has no ALT
-    pub no-alt : (j : ℕ) → isOption (nodeAt rows j) ≡ false → altOf (program rows) j ≡ none
-    no-alt j e = go (altOf (program rows) j) refl
-      where
-        go : (o : Option ℕ) → altOf (program rows) j ≡ o → o ≡ none
-        go none q = refl
-        go (some r) q = absurd (true≢false (sym (option-kind r j (alt-is (program rows) r j q)) ∙ e))
-
-    -- so the step of a row is told by its kind
-    pub step-by-kind : (j : ℕ) → stepAt (program rows) sheet s j ≡ ifElse (isOption (nodeAt rows j)) (optionStep (program rows) sheet s j) (ownStep (program rows) sheet s j)
-    unfolding stepAt optionStep
-    step-by-kind j = go (isOption (nodeAt rows j)) refl
-      where
-        or-none : (o : Option Label) → orElse o none ≡ o
-        or-none none = refl
-        or-none (some x) = refl
-
-        go : (t : Bool) → isOption (nodeAt rows j) ≡ t → orElse (ownStep (program rows) sheet s j) (optionStep (program rows) sheet s j) ≡ ifElse t (optionStep (program rows) sheet s j) (ownStep (program rows) sheet s j)
-        go true e = rw (no-own-step j (no-process j e))
-        go false e = rw (no-alt j e) (or-none (ownStep (program rows) sheet s j))

@@ -1,16 +1,13 @@
 -- Steps by row as a list: as many as the rows that order one, and the k-th is that of the k-th such row.
-use mathlib.Core.Path.{_≡_, refl, sym, ap, ap₂, subst, _∙_}
-use mathlib.Core.Bool.{Bool, true, false}
+use mathlib.Core.Path.{_≡_, refl, sym, ap, ap₂, _∙_}
 use mathlib.Core.Option.{Option, none, some}
 use mathlib.Core.List.{List, [], _∷_, _++_, map, append-nil, append-assoc}
 use Prim.Native.Nat.{ℕ, zero, suc, _+_, _<_}
 use native.Mathlib.Omega.{arith}
-use native.Mathlib.Decide.{decLt}
-use lib.ListN.{length, getD, length-append, length-map, List·getD-map, List·getD-append}
-use lib.Seq.{getD-append-seam}
+use lib.ListN.{length, getD, length-map, List·getD-map}
 use Rattle.meaning.specs.Basics.{ifElse, isSome, concat, allBelow}
 use Rattle.meaning.specs.Usage.{range}
-use Rattle.meaning.specs.Ready.{Label, orderRow}
+use Rattle.meaning.specs.Ready.{Label}
 use Rattle.machine.specs.RowSteps.{listOf}
 use Rattle.machine.proofs.LentLists.{map-append}
 
@@ -44,13 +41,6 @@ module _ (step : ℕ → Option Label) where
   unfolding allBelow
   rows-next j = refl
 
-  pub count-next : (j : ℕ) → length (rowsBelow (suc j)) ≡ length (rowsBelow j) + ifElse (isSome (step j)) 1 0
-  count-next j = ap (λ (l : List ℕ). length l) (rows-next j) ∙ length-append (rowsBelow j) (ifElse (isSome (step j)) (j ∷ []) []) ∙ ap (λ (k : ℕ). length (rowsBelow j) + k) (go (isSome (step j)))
-    where
-      go : (t : Bool) → length (ifElse t (j ∷ []) []) ≡ ifElse t 1 0
-      go true = refl
-      go false = refl
-
   none-below : stepsBelow 0 ≡ []
   unfolding concat range
   none-below = refl
@@ -81,29 +71,3 @@ module _ (step : ℕ → Option Label) where
       sym (List·getD-map step (rowsBelow n) k 0) ∙ ap (λ (l : List (Option Label)). getD l k (step 0)) (steps-of-rows n)
       ∙ any-default (map {B = Option Label} some (stepsBelow n)) k (step 0) (some d) (rw (length-map {B = Option Label} (stepsBelow n) some, count-steps n) h)
       ∙ List·getD-map {B = Option Label} some (stepsBelow n) k d
-
-  -- the step of row j is number "how many rows below j order one"
-  pub step-number : (n j : ℕ) (x d : Label) → j < n → step j ≡ some x → (length (rowsBelow j) < length (stepsBelow n)) × (getD (stepsBelow n) (length (rowsBelow j)) d ≡ x)
-  step-number zero j x d l e = absurd (omega arith)
-  step-number (suc n) j x d l e = go (decLt j n) (step-number n j x d)
-    where
-      last : j ≡ n → stepsBelow (suc n) ≡ stepsBelow j ++ (x ∷ [])
-      last q = subst (λ (i : ℕ). stepsBelow (suc i) ≡ stepsBelow j ++ (x ∷ [])) q (steps-next j ∙ ap (λ (o : Option Label). stepsBelow j ++ listOf o) e)
-
-      go : Dec (j < n) → (j < n → step j ≡ some x → (length (rowsBelow j) < length (stepsBelow n)) × (getD (stepsBelow n) (length (rowsBelow j)) d ≡ x))
-          → (length (rowsBelow j) < length (stepsBelow (suc n))) × (getD (stepsBelow (suc n)) (length (rowsBelow j)) d ≡ x)
-      go (yes h) k =
-          let (a, b) = k h e in
-          rw (steps-next n) (rw (length-append (stepsBelow n) (listOf (step n))) (omega arith), List·getD-append (stepsBelow n) (listOf (step n)) d (length (rowsBelow j)) a ∙ b)
-      go (no h) k =
-          rw (last (omega arith), ← count-steps j) (rw (length-append (stepsBelow j) (x ∷ [])) (omega arith), getD-append-seam (stepsBelow j) x [] d)
-
-  -- the rows are those that the order names
-  pub order-rows : ((j : ℕ) (x : Label) → step j ≡ some x → orderRow x ≡ j) → (n : ℕ) → map orderRow (stepsBelow n) ≡ rowsBelow n
-  order-rows h zero = ap (map orderRow) none-below ∙ sym no-rows-below
-  order-rows h (suc n) =
-      ap (map orderRow) (steps-next n) ∙ map-append orderRow (stepsBelow n) (listOf (step n)) ∙ ap₂ (λ (a b : List ℕ). a ++ b) (order-rows h n) (go (step n) refl) ∙ sym (rows-next n)
-    where
-      go : (o : Option Label) → step n ≡ o → map orderRow (listOf o) ≡ ifElse (isSome o) (n ∷ []) []
-      go none e = refl
-      go (some x) e = ap (λ (k : ℕ). k ∷ []) (h n x e)

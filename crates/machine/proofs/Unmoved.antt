@@ -2,7 +2,7 @@
 use mathlib.Core.Path.{_≡_, refl, sym, ap, _∙_}
 use mathlib.Core.Logic.{_⊎_, inl, inr}
 use mathlib.Core.Bool.{Bool, true, false}
-use mathlib.Core.Option.{Option, none, some, Option·map, Option·none-ne-some, Option·some-injective}
+use mathlib.Core.Option.{none, some}
 use mathlib.Core.List.{List, [], _∷_, _++_, List·Memᴰ, Memᴰ·append-left}
 use Prim.Native.Nat.{ℕ}
 use native.Mathlib.Omega.{arith}
@@ -15,8 +15,8 @@ use Rattle.meaning.specs.Tree.{stop, skip, sequence, parallel, assign, receive,
 use Rattle.meaning.specs.Settle.{statesOf, byStep, mode}
 use Rattle.meaning.specs.SettlingRules.{Among, All, Next, Inside, Settles}
 use Rattle.meaning.specs.State.{Message, State, Program, program, processAt, whole, Effect, settled}
-use Rattle.meaning.specs.Intent.{Sheet, Offer, openOffer, inputOffer, Intent, waits, moves, inputsFrom, outputsTo, selects}
-use Rattle.meaning.specs.Ready.{Label, pass, takeFrom, allIdle, live, intentAt, after}
+use Rattle.meaning.specs.Intent.{Sheet, outputsTo}
+use Rattle.meaning.specs.Ready.{Label, allIdle, live, intentAt, after}
 use Rattle.meaning.specs.Step.{Live}
 use Rattle.meaning.specs.Order.{OrderOf}
 use Rattle.meaning.specs.Answers.{check}
@@ -24,21 +24,20 @@ use Rattle.meaning.proofs.AnswerLaws.{accepted}
 use Rattle.agreement.specs.SettlingClaims.{Final}
 use Rattle.agreement.proofs.Again.{Out, Idle}
 use Rattle.agreement.proofs.Frame.{row-in}
-use Rattle.agreement.proofs.Commute.{At}
 use Rattle.agreement.proofs.Allowed.{allowed}
 use Rattle.agreement.proofs.Reached.{order-more}
 use Rattle.agreement.proofs.Fit.{Fit}
-use Rattle.agreement.proofs.Active.{RowOf, offerAt, Active}
-use Rattle.agreement.proofs.Working.{acts, Inv, Works, works, sub-at, in-or-out, at-sub, live-works}
+use Rattle.agreement.proofs.Active.{Active}
+use Rattle.agreement.proofs.Working.{Inv, Works, idle-all, sub-at, in-or-out, live-works}
 use Rattle.agreement.proofs.Separate.{table-inv}
 use Rattle.agreement.proofs.TableFit.{fit}
-use Rattle.agreement.proofs.Freedom.{NoneOf, works-stays, works-same}
+use Rattle.agreement.proofs.Freedom.{NoneOf, works-same}
 use Rattle.agreement.proofs.TableOptions.{option-rows, one-alt-row}
 use Rattle.agreement.proofs.OrdersSettle.{orders-settled}
-use Rattle.machine.specs.RowSteps.{altOf, ownStepBy, offerStep, optionStepBy, orElse, waitingAt, ownStep, optionStepOf, optionStep, stepAt, liveByMembers}
+use Rattle.machine.specs.RowSteps.{waitingAt, liveByMembers}
 use Rattle.machine.proofs.StepEffects.{active-effect, after-effect}
-use Rattle.machine.proofs.RowReady.{waiting-outputs, waiting-found}
-use Rattle.machine.proofs.LiveRows.{both, idle-all, all-idle, intent-is, running-inside, live-by-members}
+use Rattle.machine.proofs.RowReady.{waiting-found}
+use Rattle.machine.proofs.LiveRows.{both, intent-is, running-inside, live-by-members}
 
 -- ---- live rows, by the rules
 
@@ -57,13 +56,6 @@ module _ (P : Program) (sheet : Sheet) (s : State) (r : ℕ) where
   -- so it is live by the rules, with its own action
   live-rule : live P sheet r s ≡ true → Live P s r (actionOf (processAt P r))
   live-rule h = Live.live (node-is (processAt P r)) (live-tells h .0) (live-tells h .1)
-
-  -- a row at the frontier is live
-  at-live : (n x v : ℕ) → Fit P n → At r x v (s .states) (whole P) → live P sheet r s ≡ true
-  unfolding live
-  at-live n x v F h =
-      let (k, (ms, (q, e, i))) = at-sub h in
-      rw (F .placed k r ms q, e, all-idle (rowsBeneath ms) (s .states) i)
 
 -- a running process with all beneath it idle, to which no rule of settling applies, starts no member by itself
 final-by-step : (top p : Process) (s : List ℕ) → Final top s → Inside top p → getD s (rowOf p) 0 ≡ 1 → Idle (rowsBeneath (membersIn p)) s → mode (actionOf p) ≡ byStep
@@ -84,44 +76,6 @@ final-by-step top (node (alternation bs) r ms) s f i u h = refl
 pub told-same : (P : Program) (r : ℕ) (a b : List ℕ) → getD b r 0 ≡ getD a r 0 → statesOf (membersIn (processAt P r)) b ≡ statesOf (membersIn (processAt P r)) a → liveByMembers P r b ≡ liveByMembers P r a
 unfolding liveByMembers
 told-same P r a b h g = rw (h, g)
-
--- ---- the step of a row, in two states
-
-module _ (P : Program) (sheet : Sheet) (s : State) where
-  -- an element at whose waiting row the step of row j is looked for
-  pub data LooksAt (j e : ℕ) : Type 0 where
-    by-input : {a : ℕ} → intentAt P sheet s j ≡ inputsFrom e a → LooksAt j e
-    by-option : {r i q a : ℕ} {os : List Offer} → altOf P j ≡ some r → intentAt P sheet s r ≡ selects os → offerAt j os ≡ some (inputOffer i q e a) → LooksAt j e
-
-  module _ (t : State) (j : ℕ) (same : (e : ℕ) → LooksAt j e → waitingAt P sheet t e ≡ waitingAt P sheet s e) where
-    -- the step by itself; the step of an offer; the step as an option
-    own-same : (w : Intent) → intentAt P sheet s j ≡ w → ownStepBy (waitingAt P sheet t) j w ≡ ownStepBy (waitingAt P sheet s) j w
-    own-same waits q = refl
-    own-same (moves x v ws) q = refl
-    own-same (inputsFrom e a) q = ap (Option·map (pass j)) (same e (by-input q))
-    own-same (outputsTo e v) q = refl
-    own-same (selects os) q = refl
-
-    offer-same : (r : ℕ) (os : List Offer) → altOf P j ≡ some r → intentAt P sheet s r ≡ selects os → (o : Option Offer) → offerAt j os ≡ o → offerStep (waitingAt P sheet t) r j o ≡ offerStep (waitingAt P sheet s) r j o
-    offer-same r os f g none q = refl
-    offer-same r os f g (some (openOffer i p ws)) q = refl
-    offer-same r os f g (some (inputOffer i p e a)) q = ap (Option·map (takeFrom r j)) (same e (by-option f g q))
-
-    option-same : (r : ℕ) → altOf P j ≡ some r → (w : Intent) → intentAt P sheet s r ≡ w → optionStepBy (waitingAt P sheet t) r j w ≡ optionStepBy (waitingAt P sheet s) r j w
-    option-same r f waits q = refl
-    option-same r f (moves x v ws) q = refl
-    option-same r f (inputsFrom e a) q = refl
-    option-same r f (outputsTo e v) q = refl
-    option-same r f (selects os) q = offer-same r os f q (offerAt j os) refl
-
-    -- a row orders the same step where it and its ALT would do the same, and the same rows wait at the elements that it looks at
-    pub step-same : intentAt P sheet t j ≡ intentAt P sheet s j → ((r : ℕ) → altOf P j ≡ some r → intentAt P sheet t r ≡ intentAt P sheet s r) → stepAt P sheet t j ≡ stepAt P sheet s j
-    unfolding stepAt ownStep optionStep
-    step-same h k = rw (h, own-same (intentAt P sheet s j) refl) (ap (orElse (ownStepBy (waitingAt P sheet s) j (intentAt P sheet s j))) (go (altOf P j) refl))
-      where
-        go : (o : Option ℕ) → altOf P j ≡ o → optionStepOf P sheet t j o ≡ optionStepOf P sheet s j o
-        go none q = refl
-        go (some r) q = rw (k r q) (option-same r q (intentAt P sheet s r) refl)
 
 -- ---- accepted tables
 
@@ -170,11 +124,7 @@ module _ (rows : List ℤ) (ok : check rows ≡ none) (sheet : Sheet) (l : List 
     order-after = rw left (order-more P sheet o (allowed P sheet s x e (active-effect (intentAt P sheet s) A)))
 
     module _ (r : ℕ) (d : NoneOf x r) where
-      -- a live row that is none of the step's rows stays live
-      pub live-stays : live P sheet r s ≡ true → live P sheet r t ≡ true
-      live-stays h = rw left (at-live P sheet (settled P e s) r (rowCount rows) r 2 F (works-stays P (rowCount rows) F sheet s inv A r d (live-row-works r h)))
-
-      -- and would do the same after it
+      -- a live row that is none of the step's rows would do the same after it
       pub live-same : live P sheet r s ≡ true → intentAt P sheet t r ≡ intentAt P sheet s r
       live-same h = rw left (works-same P (rowCount rows) F sheet s inv A r d (live-row-works r h))
 
@@ -187,44 +137,3 @@ module _ (rows : List ℤ) (ok : check rows ≡ none) (sheet : Sheet) (l : List 
           go false h =
               intent-is rows sheet t r false (live-by-members rows ok sheet (l ++ (x ∷ [])) t order-after r ∙ q ∙ sym (live-by-members rows ok sheet l s o r) ∙ h)
               ∙ sym (intent-is rows sheet s r false h)
-
-    -- the row is none of the step's rows, and its own state and those of its direct members tell the same of it
-    abbrev pub LeftAlone : ℕ → Type 0
-    LeftAlone r = NoneOf x r × (liveByMembers P r (t .states) ≡ liveByMembers P r (s .states))
-
-    -- ---- the row that waits at an element
-
-    -- a row that waits, and is none of the step's rows, still waits
-    pub waits-on : (d r : ℕ) → waitingAt P sheet s d ≡ some r → NoneOf x r → waitingAt P sheet t d ≡ some r
-    waits-on d r h k =
-        let (z, g) = waiting-outputs P sheet s d r h in
-        let same : intentAt P sheet t r ≡ intentAt P sheet s r = rw left (works-same P (rowCount rows) F sheet s inv A r k (works P (rowCount rows) F sheet s r inv (ap acts g))) in
-        output-waits rows ok sheet (l ++ (x ∷ [])) t order-after d r z (same ∙ g)
-
-    -- a row that waits after the step, and is left alone, did before
-    pub waited : (d r : ℕ) → waitingAt P sheet t d ≡ some r → LeftAlone r → waitingAt P sheet s d ≡ some r
-    waited d r h (k, q) = let (z, g) = waiting-outputs P sheet t d r h in output-waits rows ok sheet l s o d r z (sym (unmoved r k q) ∙ g)
-
-    -- where the row that waited is none of the step's rows, and the row that waits now is left alone, they are one
-    pub waiting-same : (d : ℕ) → ((r : ℕ) → waitingAt P sheet s d ≡ some r → NoneOf x r) → ((r : ℕ) → waitingAt P sheet t d ≡ some r → LeftAlone r) → waitingAt P sheet t d ≡ waitingAt P sheet s d
-    waiting-same d f g = go (waitingAt P sheet s d) (waitingAt P sheet t d) refl refl
-      where
-        go : (a b : Option ℕ) → waitingAt P sheet s d ≡ a → waitingAt P sheet t d ≡ b → waitingAt P sheet t d ≡ waitingAt P sheet s d
-        go (some r) b h k = waits-on d r h (f r h) ∙ sym h
-        go none (some r) h k = absurd (Option·none-ne-some r (sym h ∙ waited d r k (g r k)))
-        go none none h k = k ∙ sym h
-
-    -- where the row that waited is one of the step's rows, and no row waits now but one that is left alone, none waits
-    pub waiting-gone : (d r : ℕ) → waitingAt P sheet s d ≡ some r → RowOf x r → ((q : ℕ) → waitingAt P sheet t d ≡ some q → LeftAlone q) → waitingAt P sheet t d ≡ none
-    waiting-gone d r h m g = go (waitingAt P sheet t d) refl
-      where
-        go : (b : Option ℕ) → waitingAt P sheet t d ≡ b → b ≡ none
-        go none k = refl
-        go (some q) k = absurd (g q k .0 r m (Option·some-injective r q (sym h ∙ waited d q k (g q k))))
-
-    -- ---- the step of a row
-
-    -- a row orders the same step where it and its ALT are left alone, and the same rows wait at the elements that it looks at
-    pub step-unmoved : (j : ℕ) → LeftAlone j → ((r : ℕ) → altOf P j ≡ some r → LeftAlone r) → ((d : ℕ) → LooksAt P sheet s j d → waitingAt P sheet t d ≡ waitingAt P sheet s d)
-        → stepAt P sheet t j ≡ stepAt P sheet s j
-    step-unmoved j (k, q) f g = step-same P sheet s t j g (unmoved j k q) (λ r h. unmoved r (f r h .0) (f r h .1))

@@ -1,27 +1,26 @@
 -- Settling upward from a changed row is settling from the root: of one change, and of the changes of a step, on row states that may be followed by zeros.
 use mathlib.Core.Path.{_≡_, refl, sym, ap, subst, _∙_}
 use mathlib.Core.Logic.{_≢_}
-use mathlib.Core.Bool.{Bool, true, false}
-use mathlib.Core.Option.{Option, none, some}
-use mathlib.Core.List.{List, []}
-use Prim.Native.Nat.{ℕ, zero, suc, _<_, _≤_}
+use mathlib.Core.Bool.{Bool, false}
+use mathlib.Core.Option.{none}
+use mathlib.Core.List.{List}
+use Prim.Native.Nat.{ℕ, _<_, _≤_}
 use native.Mathlib.Omega.{arith}
 use native.Mathlib.Decide.{ℕ-discrete}
 use lib.IntN.{ℤ}
 use lib.ListN.{length, getD, set, length-set}
 use lib.Seq.{getD-set-other, getD-set-same, ext-getD}
 use Rattle.meaning.specs.Limits.{maxRows}
-use Rattle.meaning.specs.Basics.{ifElse}
 use Rattle.meaning.specs.Rows.{rowCount}
-use Rattle.meaning.specs.Tree.{Process, node, Members, empty, also, actionOf, membersIn, rowsBeneath}
-use Rattle.meaning.specs.Settle.{Mode, inTurn, together, byStep, mode, complete, endsWhenClosed, stateOf, statesOf, closing, settle, isEnded}
-use Rattle.meaning.specs.State.{State, Program, program, processAt, whole, changeStates, Effect}
+use Rattle.meaning.specs.Tree.{Process, node, Members, empty, also}
+use Rattle.meaning.specs.Settle.{settle}
+use Rattle.meaning.specs.State.{State, Program, program, whole, changeStates, Effect}
 use Rattle.meaning.specs.Intent.{Sheet}
 use Rattle.meaning.specs.Ready.{Label, intentAt}
 use Rattle.meaning.specs.Order.{OrderOf}
 use Rattle.meaning.specs.Buffers.{Buffers}
 use Rattle.meaning.specs.Answers.{check}
-use Rattle.agreement.proofs.Frame.{see-local, zeros-local, length-local}
+use Rattle.agreement.proofs.Frame.{see-local, length-local}
 use Rattle.agreement.proofs.Again.{Sound, SoundM, sound-row, see-run, sameB, see-again, again}
 use Rattle.agreement.proofs.Commute.{At, at-run, agree, persist, absorb, other}
 use Rattle.agreement.proofs.Reach.{Good, good-agree, good-set, good-see, good-body}
@@ -32,7 +31,7 @@ use Rattle.agreement.proofs.Separate.{table-inv}
 use Rattle.agreement.proofs.TableFit.{fit}
 use Rattle.agreement.proofs.OrdersSettle.{settled-again}
 use Rattle.machine.specs.Held.{Holds}
-use Rattle.machine.specs.Upward.{membersAfter, startNext, goesOn, ofParent, parentOf, goesOnAt, upward, changeUp, changesUp}
+use Rattle.machine.specs.Upward.{upward, changeUp, changesUp}
 use Rattle.machine.proofs.LentLists.{lent-at, lent-length}
 use Rattle.machine.proofs.Declared.{room}
 use Rattle.machine.proofs.HeldLaws.{states-are}
@@ -40,48 +39,6 @@ use Rattle.machine.proofs.HeldSteps.{row-below}
 pub use Rattle.machine.proofs.Parents.{members-higher, parent-has, parent-below, upward-enough}
 pub use Rattle.machine.proofs.OneParent.{one-parent, parent-of-member, root-alone, told-apart}
 pub use Rattle.machine.proofs.Climbs.{up-rests, up-top, up-goes, change-upward}
-
--- ---- as many row states as before, of any table
-
-closing-length : (b e : Bool) (r : ℕ) (rs s : List ℕ) → length (closing b e r rs s) ≡ length s
-closing-length true true r rs s = length-set s r 2
-closing-length true false r rs s = length-local (zeros-local rs) s
-closing-length false e r rs s = refl
-
-start-length : (q : ℕ) (ms : Members) (s : List ℕ) → length (startNext q ms s) ≡ length s
-start-length q empty s = length-set s q 2
-start-length q (also p ms) s = go (isEnded (stateOf t p)) (start-length q ms (settle p true s))
-  where
-    t : List ℕ
-    t = settle p true s
-
-    own : length t ≡ length s
-    own = length-local (see-local p true) s
-
-    go : (b : Bool) → length (startNext q ms t) ≡ length t → length (ifElse b (startNext q ms t) t) ≡ length s
-    go true f = f ∙ own
-    go false f = own
-
-goes-on-length : (m : Mode) (e : Bool) (q r : ℕ) (ms : Members) (s : List ℕ) → length (goesOn m e q r ms s) ≡ length s
-goes-on-length inTurn e q r ms s = start-length q (membersAfter r ms) s
-goes-on-length together e q r ms s = closing-length (complete together (statesOf ms s)) true q [] s
-goes-on-length byStep e q r ms s = closing-length true e q (rowsBeneath ms) s
-
-pub upward-length : (P : Program) (k r : ℕ) (s : List ℕ) → length (upward P k r s) ≡ length s
-unfolding upward
-upward-length P zero r s = refl
-upward-length P (suc k) r s = go (isEnded (getD s r 0)) (parentOf P r) (λ q t. upward-length P k q t)
-  where
-    go : (b : Bool) (o : Option ℕ) → ((q : ℕ) (t : List ℕ) → length (upward P k q t) ≡ length t) → length (ifElse b (ofParent (λ q t. upward P k q (goesOnAt P q r t)) o s) s) ≡ length s
-    go true none f = refl
-    go true (some q) f =
-        let p = processAt P q in
-        f q (goesOnAt P q r s) ∙ goes-on-length (mode (actionOf p)) (endsWhenClosed (actionOf p)) q r (membersIn p) s
-    go false o f = refl
-
-pub change-length : (P : Program) (x v : ℕ) (s : List ℕ) → length (changeUp P x v s) ≡ length s
-unfolding changeUp
-change-length P x v s = upward-length P (suc x) x (settle (processAt P x) false (set s x v)) ∙ length-local (see-local (processAt P x) false) (set s x v) ∙ length-set s x v
 
 -- ---- more row states than the table has rows
 

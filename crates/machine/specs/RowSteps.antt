@@ -8,7 +8,7 @@ use lib.Dec.{eqb}
 use Rattle.meaning.specs.declared.Node.{Node}
 use Rattle.meaning.specs.declared.Node.the-variants.{Literal, Element, Monadic, Dyadic, Stop, Skip, Assignment, Input, Output, Seq, Par, If, While, Alt, Member, Choice, Option as Alternative, Guard, Other}
 use Rattle.meaning.specs.Basics.{isSome, concat, among, lowest, allBelow}
-use Rattle.meaning.specs.Tree.{Action, stop, skip, sequence, parallel, assign, receive, send, conditional, loop, alternation, actionOf, membersIn}
+use Rattle.meaning.specs.Tree.{actionOf, membersIn}
 use Rattle.meaning.specs.Usage.{range}
 use Rattle.meaning.specs.Settle.{statesOf, allOf}
 use Rattle.meaning.specs.State.{State, Program, processAt}
@@ -114,16 +114,3 @@ module _ (P : Program) (sheet : Sheet) (s : State) where
 -- whether row r is running, and each of its direct members is idle
 unfoldable pub liveByMembers : Program → ℕ → List ℕ → Bool
 liveByMembers P r states = eqb (getD states r 0) 1 && allOf (λ n. eqb n 0) (statesOf (membersIn (processAt P r)) states)
-
--- whether a process of this action may have members
-abbrev pub mayHaveMembers : Action → Bool
-mayHaveMembers stop = false
-mayHaveMembers skip = false
-mayHaveMembers sequence = true
-mayHaveMembers parallel = true
-mayHaveMembers (assign v e f) = false
-mayHaveMembers (receive i) = false
-mayHaveMembers (send c e f) = false
-mayHaveMembers (conditional ts) = true
-mayHaveMembers (loop e b) = true
-mayHaveMembers (alternation bs) = true

@@ -6,7 +6,7 @@ use Prim.Native.Nat.{ℕ, zero, suc, _-_}
 use lib.ListN.{length, getD, set}
 use lib.Dec.{eqb}
 use Rattle.meaning.specs.Basics.{ifElse, among, lowest}
-use Rattle.meaning.specs.Tree.{Action, Members, empty, also, rowOf, actionOf, membersIn, rowsBeneath}
+use Rattle.meaning.specs.Tree.{Members, empty, also, rowOf, actionOf, membersIn, rowsBeneath}
 use Rattle.meaning.specs.Settle.{Mode, inTurn, together, byStep, mode, isEnded, complete, endsWhenClosed, closing, stateOf, statesOf, settle}
 use Rattle.meaning.specs.State.{Program, processAt, StateChange}
 

@@ -1,56 +1,16 @@
--- Numbers below n that pass a test: where each stands among them, how many there are, and the lowest with one number more.
+-- The lowest number below n that passes a test, with one number more.
 use mathlib.Core.Path.{_≡_, refl, sym, ap, subst, _∙_}
 use mathlib.Core.Bool.{Bool, true, false}
 use mathlib.Core.Option.{Option, none, some}
-use mathlib.Core.List.{List, [], _∷_, _++_}
 use Prim.Native.Nat.{ℕ, zero, suc, _+_, _<_}
 use native.Mathlib.Omega.{arith}
-use native.Mathlib.Decide.{decLt}
-use lib.ListN.{length, getD, length-append, List·getD-append}
-use lib.Seq.{getD-append-seam}
-use Rattle.meaning.specs.Basics.{ifElse, lowestFrom, lowest, allBelow}
+use Rattle.meaning.specs.Basics.{ifElse, lowestFrom, lowest}
 use Rattle.notes.specs.Marks.{rowNote, firstNote}
 
 one-more : (n : ℕ) → suc n ≡ n + 1
 one-more n = omega arith
 
 module _ (p : ℕ → Bool) where
-  below-none : allBelow p 0 ≡ []
-  unfolding allBelow
-  below-none = refl
-
-  pub below-next : (n : ℕ) → allBelow p (suc n) ≡ allBelow p n ++ ifElse (p n) (n ∷ []) []
-  unfolding allBelow
-  below-next n = refl
-
-  pub none-below : length (allBelow p 0) ≡ 0
-  none-below = ap (λ (l : List ℕ). length l) below-none
-
-  -- one number more
-  pub count-passed : (n : ℕ) → p n ≡ true → length (allBelow p (n + 1)) ≡ length (allBelow p n) + 1
-  count-passed n e = subst (λ (m : ℕ). length (allBelow p m) ≡ length (allBelow p n) + 1) (one-more n) (rw (below-next n, e) (length-append (allBelow p n) (n ∷ [])))
-
-  pub count-failed : (n : ℕ) → p n ≡ false → length (allBelow p (n + 1)) ≡ length (allBelow p n)
-  count-failed n e = subst (λ (m : ℕ). length (allBelow p m) ≡ length (allBelow p n)) (one-more n) (rw (below-next n, e) (length-append (allBelow p n) [] ∙ omega arith))
-
-  -- a number that passes stands after those below it
-  found-below : (n i d : ℕ) → i < n → p i ≡ true → (length (allBelow p i) < length (allBelow p n)) × (getD (allBelow p n) (length (allBelow p i)) d ≡ i)
-  found-below zero i d l e = absurd (omega arith)
-  found-below (suc n) i d l e = go (decLt i n) (found-below n i d)
-    where
-      last : i ≡ n → allBelow p (suc n) ≡ allBelow p i ++ (i ∷ [])
-      last q = subst (λ (m : ℕ). allBelow p (suc m) ≡ allBelow p i ++ (i ∷ [])) q (below-next i ∙ ap (λ (t : Bool). allBelow p i ++ ifElse t (i ∷ []) []) e)
-
-      go : Dec (i < n) → (i < n → p i ≡ true → (length (allBelow p i) < length (allBelow p n)) × (getD (allBelow p n) (length (allBelow p i)) d ≡ i))
-          → (length (allBelow p i) < length (allBelow p (suc n))) × (getD (allBelow p (suc n)) (length (allBelow p i)) d ≡ i)
-      go (yes h) k =
-          let (a, b) = k h e in
-          rw (below-next n) (rw (length-append (allBelow p n) (ifElse (p n) (n ∷ []) [])) (omega arith), List·getD-append (allBelow p n) (ifElse (p n) (n ∷ []) []) d (length (allBelow p i)) a ∙ b)
-      go (no h) k = rw (last (omega arith)) (rw (length-append (allBelow p i) (i ∷ [])) (omega arith), getD-append-seam (allBelow p i) i [] d)
-
-  pub number-of : (n i d k : ℕ) → i < n → p i ≡ true → k ≡ length (allBelow p i) → i ≡ getD (allBelow p n) k d
-  number-of n i d k l e q = sym (ap (λ (m : ℕ). getD (allBelow p n) m d) q ∙ found-below n i d l e .1)
-
   -- the lowest with one number more
   abbrev later : Option ℕ → Option ℕ → Option ℕ
   later none y = y

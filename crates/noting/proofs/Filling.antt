@@ -2,8 +2,9 @@
 use mathlib.Core.Path.{_≡_, refl, sym, ap, ap₂, _∙_}
 use mathlib.Core.Bool.{Bool, _||_, not}
 use mathlib.Core.List.{List, [], _∷_, _++_}
-use Prim.Native.Nat.{ℕ, zero, suc, _+_, _<_, _≤_, zero-le}
+use Prim.Native.Nat.{ℕ, _+_, _<_, _≤_, zero-le}
 use native.Mathlib.Omega.{arith}
+use native.Mathlib.Numerals.{add-one}
 use lib.IntN.{ℤ}
 use lib.ListN.{length, getD, set, take}
 use lib.Seq.{getD-set-same, getD-set-other}
@@ -12,29 +13,16 @@ use Rattle.meaning.specs.Basics.{ifElse, allBelow}
 use Rattle.meaning.specs.Rows.{rowCount}
 use Rattle.meaning.specs.Intent.{Sheet}
 use Rattle.offers.specs.Held.{KeptReadings}
+use Rattle.rowlist.proofs.Agreeing.{below-none, below-next, below-same}
 use Rattle.stepping.specs.Acts.{actCode, sentCode, noteSender, workingDoes, Noted}
 use Rattle.stepping.proofs.ActNotes.{acts-next, noted-start, noted-next}
 use Rattle.noting.specs.Kept.{mayStep, Room, Kept}
-
--- tests that agree below n pass the same numbers there
-below-same : (p q : ℕ → Bool) (n : ℕ) → ((j : ℕ) → j < n → p j ≡ q j) → allBelow p n ≡ allBelow q n
-unfolding allBelow
-below-same p q zero h = refl
-below-same p q (suc n) h = ap₂ (λ (l m : List ℕ). l ++ m) (below-same p q n (λ j l. h j (omega arith))) (ap (λ (t : Bool). ifElse t (n ∷ []) []) (h n (omega arith)))
-
-below-none : (p : ℕ → Bool) → allBelow p 0 ≡ []
-unfolding allBelow
-below-none p = refl
-
-below-next : (p : ℕ → Bool) (n : ℕ) → allBelow p (n + 1) ≡ allBelow p n ++ ifElse (p n) (n ∷ []) []
-unfolding allBelow
-below-next p n = let e : n + 1 ≡ suc n = omega arith in ap (allBelow p) e
 
 -- the rows below r + 1 that may step, when what row r would do is noted
 pub may-next : (acts owners : List ℕ) (r x : ℕ) → r < length acts
     → allBelow (mayStep (set acts r x) owners) (r + 1) ≡ allBelow (mayStep acts owners) r ++ ifElse (not (eqb x 0) || not (eqb (getD owners r 0) 0)) (r ∷ []) []
 may-next acts owners r x l =
-    below-next (mayStep (set acts r x) owners) r
+    ap (allBelow (mayStep (set acts r x) owners)) (add-one r) ∙ below-next (mayStep (set acts r x) owners) r
     ∙ ap₂ (λ (l m : List ℕ). l ++ m) (below-same _ _ r (λ j h. ap (λ (a : ℕ). not (eqb a 0) || not (eqb (getD owners j 0) 0)) (getD-set-other acts r j x 0 (λ e. absurd (omega arith)))))
     (ap (λ (a : ℕ). ifElse (not (eqb a 0) || not (eqb (getD owners r 0) 0)) (r ∷ []) []) (getD-set-same acts r x 0 l))
 

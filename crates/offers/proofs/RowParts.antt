@@ -5,11 +5,10 @@ use mathlib.Core.List.{List, [], _∷_}
 use Prim.Native.Nat.{ℕ, _<_}
 use lib.IntN.{ℤ, pos}
 use Rattle.meaning.specs.declared.Node.{Node}
-use Rattle.meaning.specs.Rows.{rowCount, fieldAt, naturalAt, kindAt}
+use Rattle.meaning.specs.Rows.{rowCount, naturalAt, kindAt}
 use Rattle.meaning.specs.Declarations.{variableAt, sourceAt}
 use Rattle.meaning.specs.Tree.{literal, Target, Receive, IfChoice, AltGuard, AltOption, Part, noTarget, noGuard, partOf, partAt}
 use Rattle.layout.specs.Operands.{operandAt}
-use Rattle.layout.proofs.RowNodes.{nodeOf}
 use Rattle.layout.proofs.Parts.{higherPart, part-of-kind, operand-part}
 use Rattle.offers.specs.Rows.{operandExpr, receiveAt, optionAt}
 use Rattle.offers.proofs.KindCases.{kind-cases}
@@ -23,9 +22,6 @@ module _ (rows : List ℤ) (r : ℕ) where
   receive-at = ap₂ seenReceive (operand-part rows r 2) (operand-part rows r 3)
 
   module _ (h : r < rowCount rows) where
-    abbrev node : ℕ → Node
-    node k = nodeOf k (fieldAt rows r 1) (naturalAt rows r 1) (naturalAt rows r 2) (naturalAt rows r 3)
-
     pub target-at : kindAt rows r ≡ 11 → partAt rows r .target ≡ record { name = variableAt rows (naturalAt rows r 1); subscript = operandExpr rows r 2 }
     target-at e = ap (λ (p : Part). p .target) (part-of-kind rows r 11 h e) ∙ ap aimed (operand-part rows r 2)
       where

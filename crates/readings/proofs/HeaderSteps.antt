@@ -42,9 +42,6 @@ module _ (sheet : List ℕ) (from r end : ℕ) (e : end ≡ from + fieldSize (dr
   abbrev field : List ℕ
   field = take (end - from) (drop from sheet)
 
-  size : end - from ≡ fieldSize (drop from sheet)
-  size = omega arith
-
   -- a number with a comma or a line feed behind it is the field
   number-field : (b : ℕ) (u : List ℕ) → Stops b → drop from sheet ≡ decimal r ++ (b ∷ u) → (end < length sheet) × (field ≡ decimal r)
   number-field b u s i =

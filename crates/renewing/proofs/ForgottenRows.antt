@@ -14,7 +14,7 @@ use Rattle.meaning.proofs.NoFault.{none-lowest}
 use Rattle.notes.specs.Marks.{rowNote}
 use Rattle.noting.specs.Kept.{Single, WaitsNoted}
 use Rattle.renewing.specs.Renewed.{withNote, Forgotten}
-use Rattle.renewing.proofs.Agreeing.{lowest-same}
+use Rattle.rowlist.proofs.Agreeing.{lowest-same}
 
 pub with-note-length : (waiting : List ℕ) (s note : ℕ) → length (withNote waiting s note) ≡ length waiting
 with-note-length waiting zero note = refl

@@ -14,7 +14,8 @@ use Rattle.notes.specs.Marks.{rowNote}
 use Rattle.rowlist.specs.InOrder.{InOrder}
 use Rattle.noting.specs.Kept.{mayStep, Single, WaitsNoted}
 use Rattle.renewing.specs.Renewed.{withNote, Right, Renewed, SameLengths}
-use Rattle.renewing.proofs.Agreeing.{lowest-same, lowest-only}
+use Rattle.rowlist.proofs.Agreeing.{lowest-same}
+use Rattle.renewing.proofs.Agreeing.{lowest-only}
 
 pub lengths-then : {acts₀ sent₀ waiting₀ list₀ acts sent waiting list acts′ sent′ waiting′ list′ : List ℕ} → SameLengths acts₀ sent₀ waiting₀ list₀ acts sent waiting list → SameLengths acts sent waiting list acts′ sent′ waiting′ list′ → SameLengths acts₀ sent₀ waiting₀ list₀ acts′ sent′ waiting′ list′
 lengths-then F G = record { acts = G .acts ∙ F .acts; sent = G .sent ∙ F .sent; waiting = G .waiting ∙ F .waiting; list = G .list ∙ F .list }

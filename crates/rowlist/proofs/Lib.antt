@@ -1,3 +1,4 @@
+pub mod Agreeing
 pub mod Shifts
 pub mod Splits
 pub mod Placing

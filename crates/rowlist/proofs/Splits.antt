@@ -1,5 +1,5 @@
 -- Two tests that are the same but for row r: the rows of one are those of the other with r between those below it and those above it.
-use mathlib.Core.Path.{_≡_, refl, sym, ap, ap₂, subst, _∙_}
+use mathlib.Core.Path.{_≡_, sym, ap, ap₂, subst, _∙_}
 use mathlib.Core.Bool.{Bool, true, false}
 use mathlib.Core.List.{List, [], _∷_, _++_, append-nil, append-assoc}
 use Prim.Native.Nat.{ℕ, zero, suc, _<_, _≤_}
@@ -9,20 +9,7 @@ use lib.ListN.{length, getD, length-append, List·getD-append}
 use lib.Seq.{getD-append-seam}
 use Rattle.meaning.specs.Basics.{ifElse, allBelow}
 use Rattle.rowlist.specs.InOrder.{SameBut}
-
-below-next : (p : ℕ → Bool) (n : ℕ) → allBelow p (suc n) ≡ allBelow p n ++ ifElse (p n) (n ∷ []) []
-unfolding allBelow
-below-next p n = refl
-
-below-none : (p : ℕ → Bool) → allBelow p 0 ≡ []
-unfolding allBelow
-below-none p = refl
-
--- tests that are the same below n have the same rows there
-below-same : (p q : ℕ → Bool) (n : ℕ) → ((j : ℕ) → j < n → q j ≡ p j) → allBelow q n ≡ allBelow p n
-below-same p q zero h = below-none q ∙ sym (below-none p)
-below-same p q (suc n) h =
-    below-next q n ∙ ap₂ (λ (l : List ℕ) (t : Bool). l ++ ifElse t (n ∷ []) []) (below-same p q n (λ j l. h j (omega arith))) (h n (omega arith)) ∙ sym (below-next p n)
+use Rattle.rowlist.proofs.Agreeing.{below-none, below-next, below-same}
 
 -- what holds of each entry of a list holds with one entry more
 module _ (P : ℕ → Type 0) where
@@ -70,7 +57,7 @@ module _ (f g : ℕ → Bool) (r : ℕ) where
           (record {
             rest = [];
             without = below-next f r ∙ ap (λ (t : Bool). allBelow f r ++ ifElse t (r ∷ []) []) fr;
-            withRow = below-next g r ∙ ap₂ (λ (l : List ℕ) (t : Bool). l ++ ifElse t (r ∷ []) []) (below-same f g r (λ j s. h j (omega arith) (λ q. omega arith))) gr;
+            withRow = below-next g r ∙ ap₂ (λ (l : List ℕ) (t : Bool). l ++ ifElse t (r ∷ []) []) (below-same g f r (λ j s. h j (omega arith) (λ q. omega arith))) gr;
             above = λ k s. absurd (omega (arith, s));
           })
 

@@ -58,7 +58,3 @@ natural-negative (negsuc n) e = refl
 pub natural-positive : (x : ℤ) → ltZ x (pos 0) ≡ false → natAbs x ≡ naturalOf x
 natural-positive (pos n) e = refl
 natural-positive (negsuc n) e = absurd (false≢true (sym e))
-
-pub as-natural : (x : ℤ) → ltZ x (pos 0) ≡ false → x ≡ pos (naturalOf x)
-as-natural (pos n) e = refl
-as-natural (negsuc n) e = absurd (false≢true (sym e))

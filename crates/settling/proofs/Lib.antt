@@ -5,5 +5,3 @@ pub mod Idling
 pub mod Walks
 pub mod Recording
 pub mod Roots
-pub mod RowsBelow
-pub mod Longer

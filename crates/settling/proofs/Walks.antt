@@ -16,7 +16,8 @@ use Rattle.settling.specs.States.{runs, entered}
 use Rattle.settling.proofs.Standing.{EndingAt, RepeatingAt, LinkAt}
 use Rattle.settling.proofs.Entering.{settle-runs, settle-rests}
 
-closing-ends : (c : Bool) (r : ℕ) (rs s : List ℕ) → closing c true r rs s ≡ ifElse c (set s r 2) s
+-- a process that ends when it closes, and a WHILE
+pub closing-ends : (c : Bool) (r : ℕ) (rs s : List ℕ) → closing c true r rs s ≡ ifElse c (set s r 2) s
 closing-ends true r rs s = refl
 closing-ends false r rs s = refl
 

@@ -1,7 +1,7 @@
 // Settling: the walk over a process calls the walk over its members, and back. Each function is its definition in the crate
 // `meaning`, on a slice of row states of any length.
 ghost use mathlib.Core.Path.{_≡_};
-ghost use mathlib.Core.Bool.{true, false};
+ghost use mathlib.Core.Bool.{true};
 ghost use lib.ListN.{length, replicate};
 ghost use Rattle.meaning.specs.Tree.{partAt};
 ghost use Rattle.meaning.specs.Settle as meaning;
@@ -99,14 +99,6 @@ pub fn settle_members(rows: &[i32], m: usize, mode: Mode, states: &mut [u8], tou
         }
         Shape::Neither => {}
     }
-}
-
-// The process of row `root` settles.
-pub fn settle(rows: &[i32], root: usize, states: &mut [u8])
-    ensures { λ _. ⌜ now (states .exit) ≡ meaning.settle (processAt (program (now (rows .entry))) root) false (now (states .entry)) ⌝ }
-{
-    let mut touched = [0usize; 1];
-    settle_from(rows, root, false, states, &mut touched);
 }
 
 // From all rows idle, the process of row `root` starts and settles.

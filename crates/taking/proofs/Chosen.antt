@@ -1,17 +1,16 @@
 -- Of an accepted table, where a run stands and its ready steps are noted: the listed row that a choice picks is one of the table and orders the chosen step, and after its change the arrays hold the state that the step leaves.
-use mathlib.Core.Path.{_≡_, refl, sym, ap, ap₂, subst, _∙_}
+use mathlib.Core.Path.{_≡_, sym, ap, _∙_}
 use mathlib.Core.Logic.{_⊎_, inl, inr}
-use mathlib.Core.Bool.{Bool, true, false}
+use mathlib.Core.Bool.{Bool, false}
 use mathlib.Core.Option.{none, some}
-use mathlib.Core.List.{List, [], _∷_, _++_, List·Memᴰ}
-use Prim.Native.Nat.{ℕ, zero, suc, _+_, _-_, _%_, _<_, _≤_}
+use mathlib.Core.List.{List, [], _∷_, List·Memᴰ}
+use Prim.Native.Nat.{ℕ, _-_, _%_, _<_, _≤_}
 use native.Mathlib.Omega.{arith}
-use native.Mathlib.Decide.{decLt}
 use native.Mathlib.Nat.{mod-lt}
 use lib.IntN.{ℤ}
-use lib.ListN.{length, getD, set, length-append, List·getD-append}
-use lib.Seq.{getD-append-seam, length-take-le}
-use Rattle.meaning.specs.Basics.{ifElse, isSome, allBelow}
+use lib.ListN.{length, getD, set}
+use lib.Seq.{length-take-le}
+use Rattle.meaning.specs.Basics.{isSome, allBelow}
 use Rattle.meaning.specs.Rows.{rowCount}
 use Rattle.meaning.specs.Settle.{settle}
 use Rattle.meaning.specs.State.{State, program, whole, StateChange, Effect}
@@ -30,29 +29,12 @@ use Rattle.notes.specs.Changes.{endNoted}
 use Rattle.stepping.specs.Acts.{hasStep}
 use Rattle.stepping.proofs.StepsNoted.{has-step-is}
 use Rattle.rowlist.specs.InOrder.{InOrder}
+use Rattle.rowlist.proofs.Agreeing.{below-same}
+use Rattle.rowlist.proofs.Splits.{each-below}
 use Rattle.changing.specs.declared.Change.{Change}
 use Rattle.changing.specs.Changes.{changeOf, putChange, DataFits}
 use Rattle.changing.proofs.StepChanges.{change-held, change-fits, change-up, change-within, change-made}
 use Rattle.taking.specs.Stands.{StandsAt, NotedAt, Touches}
-
--- a number that passes a test below n is below n
-below-bound : (p : ℕ → Bool) (n k d : ℕ) → k < length (allBelow p n) → getD (allBelow p n) k d < n
-unfolding allBelow
-below-bound p zero k d h = absurd (omega arith)
-below-bound p (suc n) k d h = go (decLt k (length (allBelow p n))) (p n) h (below-bound p n k d)
-  where
-    go : Dec (k < length (allBelow p n)) → (t : Bool) → k < length (allBelow p n ++ ifElse t (n ∷ []) []) → (k < length (allBelow p n) → getD (allBelow p n) k d < n) → getD (allBelow p n ++ ifElse t (n ∷ []) []) k d < suc n
-    go (yes l) t h f = omega (arith, f l, List·getD-append (allBelow p n) (ifElse t (n ∷ []) []) d k l)
-    go (no l) true h f =
-        let e : k ≡ length (allBelow p n) = omega (arith, length-append (allBelow p n) (n ∷ [])) in
-        rw (e, getD-append-seam (allBelow p n) n [] d) (omega arith)
-    go (no l) false h f = absurd (omega (arith, length-append {A = ℕ} (allBelow p n) []))
-
--- the same numbers below n pass tests that are the same there
-below-same : (p q : ℕ → Bool) (n : ℕ) → ((j : ℕ) → j < n → p j ≡ q j) → allBelow p n ≡ allBelow q n
-unfolding allBelow
-below-same p q zero h = refl
-below-same p q (suc n) h = ap₂ (λ (l m : List ℕ). l ++ m) (below-same p q n (λ j l. h j (omega arith))) (ap (λ (t : Bool). ifElse t (n ∷ []) []) (h n (omega arith)))
 
 module _ (rows : List ℤ) (ok : check rows ≡ none) (sheet : Sheet) (readings : List ℤ) (given : List ℕ) (lines : ℕ) (b : Buffers) (s : State)
     (owners acts waiting list : List ℕ) (count : ℕ) (A : StandsAt rows sheet readings given lines b s) (N : NotedAt rows sheet b owners acts waiting list count) where
@@ -80,7 +62,9 @@ module _ (rows : List ℤ) (ok : check rows ≡ none) (sheet : Sheet) (readings 
 
     -- the row is one of the table
     pub row-below : j < rowCount rows
-    row-below = rw row (below-bound steps (rowCount rows) (choice % count) (rowCount rows) (rw listed-are in-rows))
+    row-below =
+        let l : choice % count < length (allBelow steps (rowCount rows)) = rw listed-are in-rows in
+        rw (row ∙ any-default (allBelow steps (rowCount rows)) (choice % count) (rowCount rows) 0 l) (each-below steps (rowCount rows) (choice % count) l)
 
     -- it orders the ready step of its number
     row-step : (d : Label) → stepAt (program rows) sheet s j ≡ some (getD (ready (program rows) sheet s) (choice % count) d)

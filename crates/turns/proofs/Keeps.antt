@@ -1,6 +1,6 @@
 -- What was noted of the rows before a step is right after it too, but for rows that the step affected.
 use mathlib.Core.Path.{_≡_, refl, sym, ap, subst, _∙_}
-use mathlib.Core.Logic.{_⊎_, inl, inr, _≢_}
+use mathlib.Core.Logic.{_⊎_, inl, inr}
 use mathlib.Core.Bool.{Bool, true, false}
 use mathlib.Core.Option.{Option, none, some, Option·none-ne-some, Option·some-injective}
 use mathlib.Core.List.{List, [], _∷_, _++_, List·Memᴰ, List·Memᴰ·head, List·Memᴰ·tail}
@@ -9,14 +9,14 @@ use native.Mathlib.Omega.{arith}
 use native.Mathlib.Decide.{decLt, ℕ-discrete}
 use native.Mathlib.Numerals.{add-one}
 use lib.IntN.{ℤ}
-use lib.ListN.{length, getD, List·getD-eq-default}
+use lib.ListN.{getD, List·getD-eq-default}
 use lib.Dec.{eqb, ltb}
-use Rattle.meaning.specs.Basics.{ifElse, lowestFrom, lowest}
+use Rattle.meaning.specs.Basics.{ifElse}
 use Rattle.meaning.specs.Rows.{rowCount}
 use Rattle.meaning.specs.Tree.{AltOption, Members, actionOf, membersIn}
-use Rattle.meaning.specs.State.{Message, Store, State, Program, program, processAt, StateChange, Effect}
-use Rattle.meaning.specs.Intent.{Sheet, Offer, openOffer, inputOffer, Intent, waits, moves, inputsFrom, outputsTo, selects}
-use Rattle.meaning.specs.Ready.{Label, own, pass, take, takeFrom, intentAt, effectOf, after}
+use Rattle.meaning.specs.State.{Message, Store, State, program, processAt, StateChange, Effect}
+use Rattle.meaning.specs.Intent.{Sheet, openOffer, inputOffer, Intent, waits, moves, inputsFrom, outputsTo, selects}
+use Rattle.meaning.specs.Ready.{Label, own, pass, take, takeFrom, intentAt, after}
 use Rattle.meaning.specs.Step.{becomes}
 use Rattle.meaning.specs.Order.{OrderOf}
 use Rattle.meaning.specs.Buffers.{Buffers}
@@ -33,20 +33,19 @@ use Rattle.intents.specs.declared.Does.{Does}
 use Rattle.intents.specs.declared.Does.the-variants.{Waits, Stops, Assigns, Ends, Starts, Reads, Writes, InputsFrom, OutputsTo, Selects}
 use Rattle.intents.specs.Stands.{standsFor, optionsOf}
 use Rattle.settling.specs.Touched.{Listed}
-use Rattle.machine.specs.RowSteps.{waitingAt, liveByMembers}
 use Rattle.machine.specs.Held.{Holds, ChangesBelow}
 use Rattle.machine.specs.Upward.{memberRows, parentOf}
 use Rattle.machine.proofs.Declared.{room}
 use Rattle.machine.proofs.StateSizes.{lengths}
 use Rattle.machine.proofs.HeldLaws.{read-state}
 use Rattle.machine.proofs.MachineSteps.{changes-below}
-use Rattle.machine.proofs.StepEffects.{active-effect}
 use Rattle.machine.proofs.Unmoved.{output-waits, order-after, unmoved}
 use Rattle.machine.proofs.OneParent.{parent-of-member, told-apart}
 use Rattle.notes.specs.Marks.{rowNote}
 use Rattle.parents.specs.Parents.{ParentsNoted}
 use Rattle.stepping.specs.Acts.{inputCode, actCode, sentCode, workingDoes, waitsAt}
 use Rattle.stepping.proofs.StepsNoted.{intent-noted}
+use Rattle.rowlist.proofs.Agreeing.{lowest-same}
 use Rattle.noting.specs.Kept.{WaitsNoted, Single, Affected, Kept, Stale}
 
 -- the numbers of what a row would do, by its intent
@@ -99,16 +98,6 @@ sent-tells (outputsTo e v) h = go (ltb e 256) refl
     go true q = (e, (v, refl, ap (λ (t : Bool). ifElse t (e + 1) 0) q))
     go false q = absurd (h (ap (λ (t : Bool). ifElse t (e + 1) 0) q))
 sent-tells (selects os) h = absurd (h refl)
-
--- tests that agree below n find the same lowest
-lowest-from-same : (p q : ℕ → Bool) (k at : ℕ) → ((r : ℕ) → at ≤ r → r < at + k → p r ≡ q r) → lowestFrom p at k ≡ lowestFrom q at k
-unfolding lowestFrom
-lowest-from-same p q zero at h = refl
-lowest-from-same p q (suc k) at h = rw (h at (omega arith) (omega arith), lowest-from-same p q k (suc at) (λ r l m. h r (omega arith) (omega arith)))
-
-lowest-below-same : (p q : ℕ → Bool) (n : ℕ) → ((r : ℕ) → r < n → p r ≡ q r) → lowest p n ≡ lowest q n
-unfolding lowest
-lowest-below-same p q n h = lowest-from-same p q n 0 (λ r l m. h r (omega arith))
 
 -- one of two holds of every row below n: the first of all, or the second of one
 search-below : {A B : ℕ → Type 0} (n : ℕ) → ((r : ℕ) → r < n → A r ⊎ B r) → ((r : ℕ) → r < n → A r) ⊎ ((r : ℕ) × ((r < n) × B r))
@@ -192,7 +181,7 @@ module _ (rows : List ℤ) (ok : check rows ≡ none) (sheet : Sheet) (l : List 
   pub noted-waits : (acts sent waiting list owners : List ℕ) (count : ℕ) → Kept rows sheet (b .cells) (b .marks) (b .places) (b .counts) (b .states) owners acts sent waiting list count → WaitsNoted (rowCount rows) sent waiting
   noted-waits acts sent waiting list owners count K e k =
       K .noted .waiting e k
-      ∙ ap rowNote (lowest-below-same (waitsAt rows sheet (b .cells) (b .marks) (b .places) (b .counts) (b .states) e) (λ j. eqb (getD sent j 0) (suc e)) (rowCount rows)
+      ∙ ap rowNote (lowest-same (waitsAt rows sheet (b .cells) (b .marks) (b .places) (b .counts) (b .states) e) (λ j. eqb (getD sent j 0) (suc e)) (rowCount rows)
       (λ j lj. rw (K .sent j lj, add-one e)))
 
   -- ---- after a step
@@ -201,9 +190,6 @@ module _ (rows : List ℤ) (ok : check rows ≡ none) (sheet : Sheet) (l : List 
       (touched parents nexts owners acts sent waiting list : List ℕ) (count : ℕ) (PN : ParentsNoted rows parents nexts)
       (differs : (r : ℕ) → (getD (b′ .states) r 0 ≡ getD (b .states) r 0) ⊎ Listed touched r) (made : (m : StateChange) → List·Memᴰ m (e .changes) → Listed touched (m .at))
       (K : Kept rows sheet (b .cells) (b .marks) (b .places) (b .counts) (b .states) owners acts sent waiting list count) where
-    abbrev P : Program
-    P = program rows
-
     abbrev n : ℕ
     n = rowCount rows
 

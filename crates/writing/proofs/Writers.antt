@@ -47,10 +47,6 @@ unfolding putAll
 putAll-append [] ys w = refl
 putAll-append (x ∷ xs) ys w = putAll-append xs ys (put x w)
 
-pub putAll-one : (b : ℕ) (w : Writer) → putAll (b ∷ []) w ≡ put b w
-unfolding putAll
-putAll-one b w = refl
-
 pub putAll-next : (bs : List ℕ) (i : ℕ) (w : Writer) → i < length bs → putAll (drop i bs) w ≡ putAll (drop (i + 1) bs) (put (getD bs i 0) w)
 unfolding putAll
 putAll-next bs i w h = rw (add-one i, drop-cons bs i 0 h)
@@ -77,10 +73,6 @@ putLines-none w = refl
 pub putLines-one : (l : Line) (w : Writer) → putLines (l ∷ []) w ≡ putAll (lineBytes l) w
 unfolding putLines concat
 putLines-one l w = ap (λ (m : List ℕ). putAll m w) (append-nil (lineBytes l))
-
-pub putLines-more : (l : Line) (ls : List Line) (w : Writer) → putLines (l ∷ ls) w ≡ putLines ls (putAll (lineBytes l) w)
-unfolding putLines concat
-putLines-more l ls w = putAll-append (lineBytes l) _ w
 
 pub length-putLines : (ls : List Line) (w : Writer) → length (putLines ls w .1) ≡ length (w .1)
 unfolding putLines
