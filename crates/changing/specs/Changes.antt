@@ -1,5 +1,5 @@
 -- What the step of a row does, as the code holds it, from what the rows would do; and what that does to the arrays.
-use mathlib.Core.Bool.{false}
+use mathlib.Core.Bool.{Bool, true, false}
 use mathlib.Core.Option.{some}
 use mathlib.Core.List.{List}
 use Prim.Native.Nat.{ℕ, suc, _+_, _-_, _<_, _≤_}
@@ -82,6 +82,13 @@ unfoldable pub changeOf : List ℤ → Sheet → List ℤ → List ℕ → List 
 changeOf rows sheet values marks places counts states owners waiting j =
     ifElse (eqb (getD owners j 0) 0) (ownChange rows sheet values marks places counts states waiting j)
     (optionChange rows sheet values marks places counts states waiting j)
+
+-- does a change of data change anything
+abbrev pub hasData : Data → Bool
+hasData Nothing = false
+hasData (Cell a x m) = true
+hasData (Reading a x m p) = true
+hasData (Output p x) = true
 
 -- a change of data in the arrays
 abbrev pub putData : List ℤ → Data → Buffers → Buffers

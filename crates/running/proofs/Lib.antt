@@ -1,5 +1,5 @@
 pub mod Starting
 pub mod Outcomes
 pub mod Going
-pub mod Stages
+pub mod Ending
 pub mod Underway

@@ -10,7 +10,6 @@ use lib.IntN.{ℤ}
 use lib.ListN.{length, getD, take, drop, replicate}
 use lib.Seq.{take-suc, take-append-le, take-at}
 use lib.Dec.{eqb}
-use Rattle.meaning.specs.declared.Outcome.{Outcome}
 use Rattle.meaning.specs.declared.Outcome.the-variants.{Ended, Stuck, Broken}
 use Rattle.meaning.specs.Limits.{maxRows}
 use Rattle.meaning.specs.Basics.{ifElse}

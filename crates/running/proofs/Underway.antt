@@ -1,6 +1,6 @@
 -- A run under way: the arrays hold a state of an order from which the run goes on. So it is at the start and after each turn, and a turn that takes no step ends it.
 use mathlib.Core.Path.{_≡_, refl, sym, ap, subst, _∙_}
-use mathlib.Core.Bool.{Bool}
+use mathlib.Core.Bool.{Bool, true, false, _||_}
 use mathlib.Core.Option.{none}
 use mathlib.Core.List.{List, [], _∷_, _++_, List·Memᴰ}
 use Prim.Native.Nat.{ℕ, suc, _+_, _-_, _<_}
@@ -9,10 +9,11 @@ use native.Mathlib.Omega.{arith}
 use lib.IntN.{ℤ}
 use lib.ListN.{length, getD, drop}
 use lib.Seq.{getD-drop, drop-drop}
-use lib.Dec.{ltb}
-use borrow.Author.Tests.{lt-ltb, le-ltb}
+use lib.Dec.{eqb, ltb}
+use borrow.Author.Tests.{eqb-true, eqb-false, lt-ltb, le-ltb}
 use Rattle.meaning.specs.declared.Outcome.{Outcome}
 use Rattle.meaning.specs.declared.Outcome.the-variants.{Spent}
+use Rattle.meaning.specs.Basics.{ifElse}
 use Rattle.meaning.specs.Rows.{rowCount, root}
 use Rattle.meaning.specs.State.{State, program, start}
 use Rattle.meaning.specs.Intent.{Sheet}
@@ -29,6 +30,7 @@ use Rattle.taking.specs.Stands.{StandsAt}
 use Rattle.turns.specs.Turned.{turnFrom, Turned}
 use Rattle.turns.proofs.Picked.{chosen-ready}
 use Rattle.running.specs.Ran.{restOutcome, Reached}
+use Rattle.running.specs.Ending.{isLast, outcomeWith}
 use Rattle.running.proofs.Outcomes.{rest-is}
 use Rattle.running.proofs.Going.{goes-to-rest, goes-no-further, goes-on, chosen-first}
 
@@ -67,7 +69,7 @@ module _ (rows : List ℤ) (ok : check rows ≡ none) (sheet : Sheet) (readings 
     some-ready (x ∷ m) h = (x, m, refl)
 
     -- no step is ready
-    pub at-rest : (more : Bool) (choice count : ℕ) (c : Buffers) → Turned rows sheet more choice s count c → count ≡ 0
+    at-rest : (more : Bool) (choice count : ℕ) (c : Buffers) → Turned rows sheet more choice s count c → count ≡ 0
         → (r : ℕ) → r ≡ root rows → (o : Outcome) → o ≡ restOutcome r (rowCount rows) (c .states) → Reached rows (run rows sheet choices budget) o n c
     at-rest more choice count c T z r i o j =
         let e = none-ready (ready (program rows) sheet s) (sym z ∙ T .counted) in
@@ -80,13 +82,27 @@ module _ (rows : List ℤ) (ok : check rows ≡ none) (sheet : Sheet) (readings 
         }
 
     -- a step is ready, and the budget is used
-    pub spent : (choice count : ℕ) (c : Buffers) → Turned rows sheet (ltb n budget) choice s count c → (count ≡ 0 → ⊥) → n ≡ budget → Reached rows (run rows sheet choices budget) Spent n c
+    spent : (choice count : ℕ) (c : Buffers) → Turned rows sheet (ltb n budget) choice s count c → (count ≡ 0 → ⊥) → n ≡ budget → Reached rows (run rows sheet choices budget) Spent n c
     spent choice count c T z d =
         let (x, m, e) = some-ready (ready (program rows) sheet s) (λ y. z (T .counted ∙ y)) in
         let h : Holds rows s c = rw (le-ltb n budget (omega arith), e) at (T .holds) in
         let k : budget - n ≡ 0 = omega arith in
         let q = U .goes ∙ ap (λ (b : ℕ). go (program rows) sheet b n (drop n choices) s) k ∙ goes-no-further (program rows) sheet n (drop n choices) s x m e in
         record { outcome = ap (λ (r : Result). r .outcome) (sym q); steps = ap (λ (r : Result). r .steps) (sym q); arrays = subst (λ (r : Result). Holds rows (r .state) c) (sym q) h }
+
+    -- a run ends: at rest, or with its budget used
+    pub run-ends : (count : ℕ) → (count ≡ 0 → Turned rows sheet (ltb n budget) 0 s count b) → (ltb n budget ≡ false → Turned rows sheet (ltb n budget) 0 s count b) → isLast count n budget ≡ true
+        → (r : ℕ) → r ≡ root rows → (o : Outcome) → o ≡ outcomeWith count r (rowCount rows) (b .states) → Reached rows (run rows sheet choices budget) o n b
+    run-ends count rest used l r i o j = go (eqb count 0) refl
+      where
+        outcome-is : (t : Bool) → eqb count 0 ≡ t → o ≡ ifElse t (restOutcome r (rowCount rows) (b .states)) Spent
+        outcome-is t e = j ∙ ap (λ (t : Bool). ifElse t (restOutcome r (rowCount rows) (b .states)) Spent) e
+
+        go : (t : Bool) → eqb count 0 ≡ t → Reached rows (run rows sheet choices budget) o n b
+        go true e = let z = eqb-true count 0 e in at-rest (ltb n budget) 0 count b (rest z) z r i o (outcome-is true e)
+        go false e =
+            let d = eqb-true n budget (sym (ap (λ (t : Bool). t || eqb n budget) e) ∙ l) in
+            subst (λ (q : Outcome). Reached rows (run rows sheet choices budget) q n b) (sym (outcome-is false e)) (spent 0 count b (used (le-ltb n budget (omega arith))) (eqb-false count 0 e) d)
 
     -- a step is ready, and budget is left
     pub one-further : (choice count : ℕ) (c : Buffers) → Turned rows sheet (ltb n budget) choice s count c → (count ≡ 0 → ⊥) → n < budget → choice ≡ getD choices n 0

@@ -1,2 +1,2 @@
-pub mod Stages
 pub mod Ran
+pub mod Ending

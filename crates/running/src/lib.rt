@@ -12,7 +12,7 @@ pub mod result; // result.rt: what a run leaves
 mod outcome; // outcome.rt: the outcome at rest
 mod steps; // steps.rt: the steps up to rest or the budget
 
-use evaluation::store::State;
+use evaluation::store::fresh;
 use result::Run;
 
 // The run of an accepted table on its readings, with these choices, up to rest or the budget.
@@ -36,9 +36,6 @@ pub fn run<'a>(
     let mut parents = [0u16; 1024];
     let mut nexts = [0u16; 1024];
     parents::note_parents(rows, &mut parents, &mut nexts);
-    let values = [0i32; 256];
-    let marks = [0u8; 256];
-    let places = [0u32; 8];
     let mut states = [0u8; 1024];
     let mut numbers = [0i32; 1024];
     let mut counts = [0u32; 8];
@@ -55,11 +52,7 @@ pub fn run<'a>(
         root,
         choices,
         budget,
-        State {
-            values,
-            marks,
-            places,
-        },
+        fresh(),
         &mut states,
         &mut numbers,
         &mut counts,

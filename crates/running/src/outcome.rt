@@ -1,10 +1,11 @@
-// The outcome at rest: ended if the root has ended, broken if a row is stopped, else stuck.
+// The outcome of a run: at rest, ended if the root has ended, broken if a row is stopped, else stuck; before rest, spent.
 ghost use mathlib.Core.Path.{_≡_};
 ghost use Prim.Native.Nat.{_≤_};
 ghost use lib.ListN.{length, take};
 ghost use Rattle.meaning.specs.Settle.{anyOf};
 ghost use Rattle.meaning.specs.Run.{isStopped};
 ghost use Rattle.running.specs.Ran.{restOutcome};
+ghost use Rattle.running.specs.Ending.{outcomeWith};
 use meaning::Outcome;
 
 // Whether one of the first n rows is stopped.
@@ -23,7 +24,7 @@ fn any_stopped(states: &[u8], n: usize) -> bool
 }
 
 // The outcome at rest of a table of n rows.
-pub fn rest_outcome(states: &[u8], root: usize, n: usize) -> Outcome
+fn rest_outcome(states: &[u8], root: usize, n: usize) -> Outcome
     requires { ⌜ n ≤ length (now states) ⌝ }
     ensures { λ o. ⌜ o ≡ restOutcome root n (now (states .entry)) ⌝ }
 {
@@ -34,4 +35,15 @@ pub fn rest_outcome(states: &[u8], root: usize, n: usize) -> Outcome
         return Outcome::Broken;
     }
     Outcome::Stuck
+}
+
+// The outcome of a run that ends with `count` steps ready: that at rest where there is none.
+pub fn outcome_with(count: usize, states: &[u8], root: usize, n: usize) -> Outcome
+    requires { ⌜ n ≤ length (now states) ⌝ }
+    ensures { λ o. ⌜ o ≡ outcomeWith count root n (now (states .entry)) ⌝ }
+{
+    if count == 0 {
+        return rest_outcome(states, root, n);
+    }
+    Outcome::Spent
 }

@@ -13,13 +13,14 @@ ghost use Rattle.offers.specs.Held.{KeptReadings};
 ghost use Rattle.machine.specs.Held.{Holds};
 ghost use Rattle.parents.specs.Parents.{ParentsNoted};
 ghost use Rattle.taking.specs.Stands.{arraysOf, Owned};
-ghost use Rattle.running.specs.Stages.{stageOf};
+ghost use Rattle.running.specs.Ending.{isLast};
 ghost use Rattle.running.specs.Ran.{Reached};
-use crate::outcome::rest_outcome;
+use crate::outcome::outcome_with;
 use evaluation::store::State;
 use meaning::Outcome;
 use noting::note_all;
 use readying::list_ready;
+use taking::has_data;
 use taking::picked_change;
 use taking::with_data;
 use turns::follow_up;
@@ -39,24 +40,14 @@ fn choice_at(choices: &[u16], n: u32) -> u16
     if i < choices.len() { choices[i] } else { 0 }
 }
 
-// What a run comes to after n steps: rest if no step is ready, else its budget if that is used, else a further step.
-enum Stage {
-    AtRest,
-    Spent,
-    Further,
-}
-
-// The stage of a run after n steps, with `count` steps ready.
-fn stage_of(count: usize, n: u32, budget: u32) -> Stage
-    ensures { λ s. ⌜ s ≡ stageOf count n budget ⌝ }
+// Whether a run ends after n steps, with `count` steps ready: at rest, or with its budget used.
+fn is_last(count: usize, n: u32, budget: u32) -> bool
+    ensures { λ t. ⌜ t ≡ isLast count n budget ⌝ }
 {
     if count == 0 {
-        return Stage::AtRest;
+        return true;
     }
-    if n == budget {
-        return Stage::Spent;
-    }
-    Stage::Further
+    n == budget
 }
 
 // From the start, the steps that the choices pick, up to rest or the budget. What the rows would do is noted for all at the start, and kept from step to step.
@@ -129,23 +120,12 @@ pub fn take_steps<'a>(
             working,
             &mut ready,
         );
-        let stage = stage_of(count, n, budget);
-        match stage {
-            Stage::AtRest => {
-                return Done {
-                    outcome: rest_outcome(&states[..], root, rows.len() / 4),
-                    steps: n,
-                    state,
-                };
-            }
-            Stage::Spent => {
-                return Done {
-                    outcome: Outcome::Spent,
-                    steps: n,
-                    state,
-                };
-            }
-            Stage::Further => {}
+        if is_last(count, n, budget) {
+            return Done {
+                outcome: outcome_with(count, &states[..], root, rows.len() / 4),
+                steps: n,
+                state,
+            };
         }
         let c = picked_change(
             rows,
@@ -165,7 +145,9 @@ pub fn take_steps<'a>(
             choice_at(choices, n),
         );
         let d = c.written;
-        state = with_data(rows, d, state, numbers, counts);
+        if has_data(d) {
+            state = with_data(rows, d, state, numbers, counts);
+        }
         working = follow_up(
             rows,
             names,

@@ -1,6 +1,6 @@
 -- Changes in a run's arrays: a cell, a reading, an output, and the change of a step from its parts.
-use mathlib.Core.Path.{_≡_, ap, _∙_}
-use mathlib.Core.Bool.{false}
+use mathlib.Core.Path.{_≡_, refl, ap, _∙_}
+use mathlib.Core.Bool.{false, true≢false}
 use mathlib.Core.List.{List, []}
 use Prim.Native.Nat.{ℕ, _+_}
 use native.Mathlib.Numerals.{add-one}
@@ -16,8 +16,15 @@ use Rattle.notes.specs.Changes.{endNoted}
 use Rattle.changing.specs.declared.Data.{Data}
 use Rattle.changing.specs.declared.Data.the-variants.{Nothing, Cell, Reading, Output}
 use Rattle.changing.specs.declared.Change.{Change}
-use Rattle.changing.specs.Changes.{putData, putEnded, putChange, DataFits}
+use Rattle.changing.specs.Changes.{hasData, putData, putEnded, putChange, DataFits}
 use Rattle.taking.specs.Stands.{arrays, arraysOf}
+
+-- no change of data
+pub nothing-put : (rows : List ℤ) (d : Data) (b : Buffers) → hasData d ≡ false → putData rows d b ≡ b
+nothing-put rows Nothing b e = refl
+nothing-put rows (Cell a z m) b e = absurd (true≢false e)
+nothing-put rows (Reading a z m p) b e = absurd (true≢false e)
+nothing-put rows (Output p z) b e = absurd (true≢false e)
 
 module _ (rows values : List ℤ) (marks states places : List ℕ) (numbers : List ℤ) (counts : List ℕ) where
   abbrev old : Buffers

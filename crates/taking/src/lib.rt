@@ -9,7 +9,7 @@ ghost use Rattle.meaning.specs.Intent.{Sheet};
 ghost use Rattle.meaning.specs.Answers.{check};
 ghost use Rattle.layout.specs.Names.{Named};
 ghost use Rattle.offers.specs.Held.{KeptReadings};
-ghost use Rattle.changing.specs.Changes.{putData, DataFits};
+ghost use Rattle.changing.specs.Changes.{hasData, putData, DataFits};
 ghost use Rattle.taking.specs.Stands.{arrays, arraysOf, StandsAt, NotedAt, PickedChange};
 use changing::Change;
 use changing::Data;
@@ -18,6 +18,18 @@ use changing::strip_start;
 use evaluation::store::State;
 use notes::changes::add_output;
 use readying::pick;
+
+// Whether a change of data changes anything.
+pub fn has_data(d: Data) -> bool
+    ensures { λ t. ⌜ t ≡ hasData d ⌝ }
+{
+    match d {
+        Data::Nothing => false,
+        Data::Cell(_, _, _) => true,
+        Data::Reading(_, _, _, _) => true,
+        Data::Output(_, _) => true,
+    }
+}
 
 // Makes a change of data: an absent reading, of mark 0, makes its cell unset. The state after it.
 pub fn with_data(

@@ -48,6 +48,9 @@ slice-aggregate-take-steps-2 c = search needs
 slice-aggregate-take-steps-3 : tie.Need-slice-aggregate-take-steps-3
 slice-aggregate-take-steps-3 c = search needs
 
+fresh-requires : tie.Need-fresh-requires
+fresh-requires c κs = search needs
+
 slice-aggregate-take-steps-4 : tie.Need-slice-aggregate-take-steps-4
 slice-aggregate-take-steps-4 c = search needs
 
@@ -59,12 +62,13 @@ slice-aggregate-take-steps-6 c = search needs
 
 take-steps-requires : tie.Need-take-steps-requires
 take-steps-requires c κs =
-    let i = c .before .before .before .before .before .before .before .before .before .before in
+    let x = c .before .before .before in
+    let i = x .before .before .before .before .before .before .before .before in
     let m = i .before .before .before .before in
     let o = m .before .before .before .before in
     let p = o .before .before .before .before .before .before .pre in
     let rooted = root-is _ _ (o .before .before .declarations .ensures) in
-    (p .0, (rooted, (o .before .before .before .layout-of .ensures .1, ((λ j h. o .note-owners .ensures j (le-trans h (rows-limit _ (p .0)))), (m .note-parents .ensures, (p .1 .0, (p .1 .1, started _ (p .0) _ rooted _ (i .start .ensures))))))))
+    (p .0, (rooted, (o .before .before .before .layout-of .ensures .1, ((λ j h. o .note-owners .ensures j (le-trans h (rows-limit _ (p .0)))), (m .note-parents .ensures, (p .1 .0, (p .1 .1, started _ (p .0) _ rooted _ (x .fresh .ensures .0) _ (i .start .ensures))))))))
 
 returns : tie.Need-returns
 returns c = λ sheet k. let R = c .before .before .before .before .before .before .before .take-steps .ensures sheet k in record { outcome = R .outcome; steps = R .steps; arrays = R .arrays }
@@ -85,6 +89,7 @@ run-spec =
     slice-aggregate-take-steps
     slice-aggregate-take-steps-2
     slice-aggregate-take-steps-3
+    fresh-requires
     slice-aggregate-take-steps-4
     slice-aggregate-take-steps-5
     slice-aggregate-take-steps-6

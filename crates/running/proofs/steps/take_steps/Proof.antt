@@ -1,22 +1,28 @@
 -- `take_steps` meets its contract. The loop's invariant: on every sheet whose readings are kept the run is under way, n steps taken, and what each row would do is kept. The measure is what is left of the budget.
 use mathlib.Core.Path.{_≡_, refl, sym, subst, _∙_}
+use mathlib.Core.Logic.{⊎-elim}
+use mathlib.Core.List.{List}
 use Prim.Native.Nat.{ℕ, _-_, _≤_}
 use native.Mathlib.Omega.{arith}
+use lib.IntN.{ℤ}
 use lib.ListN.{length}
 use lib.Dec.{ltb}
 use borrow.Author.Needs.{needs}
-use borrow.Author.Tests.{lt-ltb, le-ltb}
+use borrow.Author.Tests.{lt-ltb}
 use Rattle.meaning.specs.Intent.{Sheet}
 use Rattle.meaning.specs.Rows.{rowCount}
 use Rattle.agreement.proofs.TableFit.{rows-limit}
 use Rattle.offers.specs.Held.{KeptReadings}
 use Rattle.machine.proofs.HeldLaws.{states-long}
 use Rattle.noting.specs.Kept.{Kept}
+use Rattle.evaluation.specs.declared.store.State.{State}
+use Rattle.changing.specs.Changes.{putData}
 use Rattle.taking.specs.Stands.{arraysOf}
+use Rattle.taking.proofs.ArraysPut.{nothing-put}
 use Rattle.turns.proofs.Counted.{not-none, noted, turned-at-rest, turned-spent}
 use Rattle.turns.proofs.Following.{picked-fits, picked-within, turned-followed}
-use Rattle.running.proofs.Stages.{none-at-rest, some-spent, some-further}
-use Rattle.running.proofs.Underway.{Underway, underway-start, at-rest, spent, one-further}
+use Rattle.running.proofs.Ending.{not-last}
+use Rattle.running.proofs.Underway.{Underway, underway-start, run-ends, one-further}
 use Rattle.running.proofs.steps.take_steps.Statement.{statement}
 use Rattle.running.proofs.steps.take_steps.Tie as tie
 
@@ -51,7 +57,7 @@ note-all-requires c κs =
 loop-holds : tie.Need-loop-holds Inv-loop μ-loop
 loop-holds c =
     let a = c .before .before .before .before in
-    let p = a .before .before .before .before .before .before .before .before .before .before .before .before .before .before .before .before .before .before .before .before .before .before .pre in
+    let p = c .before .before .before .before .before .before .before .before .before .before .before .before .before .before .before .before .before .before .before .before .before .before .before .before .before .before .pre in
     (omega arith, refl, refl, refl, refl, c .before .before .before .acts2 .given, c .before .before .sent2 .given, c .before .waiting2 .given, c .list2 .given, refl, λ sheet k. (underway-start _ (p .0) sheet _ _ _ _ _ k _ (p .1 .1 .1 .1 .1 .1 .1), a .note-all .ensures sheet k))
 
 slice-aggregate-list-ready : tie.Need-slice-aggregate-list-ready Inv-loop μ-loop
@@ -69,64 +75,34 @@ slice-aggregate-list-ready-4 c = search needs
 list-ready-requires : tie.Need-list-ready-requires Inv-loop μ-loop
 list-ready-requires c κs = c .before .before .before .before .before .before .before .before .before .before .before .before .before .before .before .before .before .before .before .before .before .before .before .before .before .before .before .before .before .before .before .before .before .before .before .before .before .before .pre .1 .1 .0
 
-stage-of-requires : tie.Need-stage-of-requires Inv-loop μ-loop
-stage-of-requires c κs = search needs
+is-last-requires : tie.Need-is-last-requires Inv-loop μ-loop
+is-last-requires c κs = search needs
 
-enum-told : tie.Need-enum-told Inv-loop μ-loop
-enum-told c = search needs
-
-rest-outcome-requires : tie.Need-rest-outcome-requires Inv-loop μ-loop
-rest-outcome-requires c κs =
-    let l = c .before .before .before .before .before .before .before .before .before .before .before .before .before .before .before .before .before in
-    let s0 = c .before .before .before .before .before .before .before .before .before .before .before .before .before .before .before .before .before .before .before .before .before .before .before .before .before .before .before .before .before .before .before .before .before .before .before .before .before .before .before .before .before .before .before .before in
+outcome-with-requires : tie.Need-outcome-with-requires Inv-loop μ-loop
+outcome-with-requires c κs =
+    let l = c .before .before .before .before .before .before .before .before .before .before .before .before .before .before .before .before in
+    let s0 = c .before .before .before .before .before .before .before .before .before .before .before .before .before .before .before .before .before .before .before .before .before .before .before .before .before .before .before .before .before .before .before .before .before .before .before .before .before .before .before .before .before .before .before in
     let p = s0 .pre in
     subst (λ (k : ℕ). rowCount (s0 .args .rows .now) ≤ k) (sym (l .loop .inv .1 ∙ states-long _ _ _ (p .1 .1 .1 .1 .1 .1 .1))) (rows-limit _ (p .0))
 
 same-length : tie.Need-same-length Inv-loop μ-loop
-same-length c = c .before .before .before .before .before .before .before .before .before .before .before .before .before .before .before .before .before .before .loop .inv .1
+same-length c = c .before .before .before .before .before .before .before .before .before .before .before .before .before .before .before .before .before .loop .inv .1
 
 same-length-2 : tie.Need-same-length-2 Inv-loop μ-loop
-same-length-2 c = c .before .before .before .before .before .before .before .before .before .before .before .before .before .before .before .before .before .before .loop .inv .2
+same-length-2 c = c .before .before .before .before .before .before .before .before .before .before .before .before .before .before .before .before .before .loop .inv .2
 
 same-length-3 : tie.Need-same-length-3 Inv-loop μ-loop
-same-length-3 c = c .before .before .before .before .before .before .before .before .before .before .before .before .before .before .before .before .before .before .loop .inv .3
+same-length-3 c = c .before .before .before .before .before .before .before .before .before .before .before .before .before .before .before .before .before .loop .inv .3
 
 returns : tie.Need-returns Inv-loop μ-loop
 returns c =
-    let g = c .before .before .before .before in
-    let a = c .before .before .before .before .before .before in
-    let l = c .before .before .before .before .before .before .before .before .before .before .before .before .before .before .before .before .before .before in
-    let s0 = c .before .before .before .before .before .before .before .before .before .before .before .before .before .before .before .before .before .before .before .before .before .before .before .before .before .before .before .before .before .before .before .before .before .before .before .before .before .before .before .before .before .before .before .before .before in
+    let g = c .before .before .before in
+    let a = c .before .before .before .before .before in
+    let l = c .before .before .before .before .before .before .before .before .before .before .before .before .before .before .before .before .before in
+    let s0 = c .before .before .before .before .before .before .before .before .before .before .before .before .before .before .before .before .before .before .before .before .before .before .before .before .before .before .before .before .before .before .before .before .before .before .before .before .before .before .before .before .before .before .before .before in
     let p = s0 .pre in
-    let q = none-at-rest (a .list-ready .result) (l .loop .n) (s0 .args .budget) (sym (g .stage-of .ensures) ∙ c .before .before .enum-told .given .1) in
     λ sheet k. let (U, K) = l .loop .inv .10 sheet k in
-    at-rest _ (p .0) sheet _ _ _ _ _ _ _ U _ _ _ _ (turned-at-rest _ (p .0) sheet _ _ _ _ (U .state) (U .stands) _ _ _ _ _ _ (p .1 .1 .1 .0) K _ _ (a .list-ready .ensures .0 sheet (l .loop .counts) (l .loop .states) (U .stands .kept) (K .work) (subst (λ (m : ℕ). rowCount (s0 .args .rows .now) ≤ m) (sym (l .loop .inv .4)) (rows-limit _ (p .0)))) (ltb (l .loop .n) (s0 .args .budget)) 0 q) q (s0 .args .root) (p .1 .0) _ (c .rest-outcome .ensures)
-
-enum-told-2 : tie.Need-enum-told-2 Inv-loop μ-loop
-enum-told-2 c = search needs
-
-same-length-4 : tie.Need-same-length-4 Inv-loop μ-loop
-same-length-4 c = c .before .before .before .before .before .before .before .before .before .before .before .before .before .before .before .before .loop .inv .1
-
-same-length-5 : tie.Need-same-length-5 Inv-loop μ-loop
-same-length-5 c = c .before .before .before .before .before .before .before .before .before .before .before .before .before .before .before .before .loop .inv .2
-
-same-length-6 : tie.Need-same-length-6 Inv-loop μ-loop
-same-length-6 c = c .before .before .before .before .before .before .before .before .before .before .before .before .before .before .before .before .loop .inv .3
-
-returns-2 : tie.Need-returns-2 Inv-loop μ-loop
-returns-2 c =
-    let g = c .before .before in
-    let a = c .before .before .before .before in
-    let l = c .before .before .before .before .before .before .before .before .before .before .before .before .before .before .before .before in
-    let s0 = c .before .before .before .before .before .before .before .before .before .before .before .before .before .before .before .before .before .before .before .before .before .before .before .before .before .before .before .before .before .before .before .before .before .before .before .before .before .before .before .before .before .before .before in
-    let p = s0 .pre in
-    let q = some-spent (a .list-ready .result) (l .loop .n) (s0 .args .budget) (sym (g .stage-of .ensures) ∙ c .enum-told2 .given .1) in
-    λ sheet k. let (U, K) = l .loop .inv .10 sheet k in
-    spent _ (p .0) sheet _ _ _ _ _ _ _ U 0 _ _ (turned-spent _ (p .0) sheet _ _ _ _ (U .state) (U .stands) _ _ _ _ _ _ (p .1 .1 .1 .0) K _ _ (a .list-ready .ensures .0 sheet (l .loop .counts) (l .loop .states) (U .stands .kept) (K .work) (subst (λ (m : ℕ). rowCount (s0 .args .rows .now) ≤ m) (sym (l .loop .inv .4)) (rows-limit _ (p .0)))) (ltb (l .loop .n) (s0 .args .budget)) 0 (le-ltb (l .loop .n) (s0 .args .budget) (omega (arith, q .1)))) (q .0) (q .1)
-
-enum-told-3 : tie.Need-enum-told-3 Inv-loop μ-loop
-enum-told-3 c = search needs
+    run-ends _ (p .0) sheet _ _ _ _ _ _ _ U (a .list-ready .result) (turned-at-rest _ (p .0) sheet _ _ _ _ (U .state) (U .stands) _ _ _ _ _ _ (p .1 .1 .1 .0) K _ _ (a .list-ready .ensures .0 sheet (l .loop .counts) (l .loop .states) (U .stands .kept) (K .work) (subst (λ (m : ℕ). rowCount (s0 .args .rows .now) ≤ m) (sym (l .loop .inv .4)) (rows-limit _ (p .0)))) (ltb (l .loop .n) (s0 .args .budget)) 0) (turned-spent _ (p .0) sheet _ _ _ _ (U .state) (U .stands) _ _ _ _ _ _ (p .1 .1 .1 .0) K _ _ (a .list-ready .ensures .0 sheet (l .loop .counts) (l .loop .states) (U .stands .kept) (K .work) (subst (λ (m : ℕ). rowCount (s0 .args .rows .now) ≤ m) (sym (l .loop .inv .4)) (rows-limit _ (p .0)))) (ltb (l .loop .n) (s0 .args .budget)) 0) (sym (g .is-last .ensures) ∙ c .before .before .if1 .taken) (s0 .args .root) (p .1 .0) _ (c .outcome-with .ensures)
 
 slice-aggregate-picked-change : tie.Need-slice-aggregate-picked-change Inv-loop μ-loop
 slice-aggregate-picked-change c = search needs
@@ -139,94 +115,118 @@ choice-at-requires c κs = search needs
 
 picked-change-requires : tie.Need-picked-change-requires Inv-loop μ-loop
 picked-change-requires c κs =
-    let g = c .before .before .before .before .before .before .before .before .before .before .before .before .before .before in
-    let a = c .before .before .before .before .before .before .before .before .before .before .before .before .before .before .before .before in
-    let l = c .before .before .before .before .before .before .before .before .before .before .before .before .before .before .before .before .before .before .before .before .before .before .before .before .before .before .before .before in
-    let s0 = c .before .before .before .before .before .before .before .before .before .before .before .before .before .before .before .before .before .before .before .before .before .before .before .before .before .before .before .before .before .before .before .before .before .before .before .before .before .before .before .before .before .before .before .before .before .before .before .before .before .before .before .before .before .before .before in
+    let e = c .before .before .before .before .before .before .before .before .before .before .before .before in
+    let g = c .before .before .before .before .before .before .before .before .before .before .before .before .before in
+    let a = c .before .before .before .before .before .before .before .before .before .before .before .before .before .before .before in
+    let l = c .before .before .before .before .before .before .before .before .before .before .before .before .before .before .before .before .before .before .before .before .before .before .before .before .before .before .before in
+    let s0 = c .before .before .before .before .before .before .before .before .before .before .before .before .before .before .before .before .before .before .before .before .before .before .before .before .before .before .before .before .before .before .before .before .before .before .before .before .before .before .before .before .before .before .before .before .before .before .before .before .before .before .before .before .before .before in
     let p = s0 .pre in
-    let q = some-further (a .list-ready .result) (l .loop .n) (s0 .args .budget) (l .loop .inv .0) (sym (g .stage-of .ensures) ∙ c .before .before .before .before .before .before .before .before .before .before .before .before .enum-told3 .given .1) in
+    let q = not-last (a .list-ready .result) (l .loop .n) (s0 .args .budget) (l .loop .inv .0) (sym (g .is-last .ensures) ∙ e .if1 .left) in
     let (sheet, k) = p .1 .1 .1 .1 .1 .0 in
     let (U, K) = l .loop .inv .10 sheet k in
     (p .0, (p .1 .1 .0, ((sheet, U .state, _, l .loop .numbers, U .stands, noted _ (p .0) sheet _ _ _ _ (U .state) (U .stands) _ _ _ _ _ _ (p .1 .1 .1 .0) K _ _ (a .list-ready .ensures .0 sheet (l .loop .counts) (l .loop .states) (U .stands .kept) (K .work) (subst (λ (m : ℕ). rowCount (s0 .args .rows .now) ≤ m) (sym (l .loop .inv .4)) (rows-limit _ (p .0))))), (not-none _ (q .0), p .1 .1 .1 .1 .1 .1 .0))))
 
+has-data-requires : tie.Need-has-data-requires Inv-loop μ-loop
+has-data-requires c κs = search needs
+
 with-data-requires : tie.Need-with-data-requires Inv-loop μ-loop
 with-data-requires c κs =
-    let pc = c .before .before in
-    let g = c .before .before .before .before .before .before .before .before .before .before .before .before .before .before .before .before .before in
-    let a = c .before .before .before .before .before .before .before .before .before .before .before .before .before .before .before .before .before .before .before in
-    let l = c .before .before .before .before .before .before .before .before .before .before .before .before .before .before .before .before .before .before .before .before .before .before .before .before .before .before .before .before .before .before .before in
-    let s0 = c .before .before .before .before .before .before .before .before .before .before .before .before .before .before .before .before .before .before .before .before .before .before .before .before .before .before .before .before .before .before .before .before .before .before .before .before .before .before .before .before .before .before .before .before .before .before .before .before .before .before .before .before .before .before .before .before .before .before in
+    let pc = c .before .before .before .before in
+    let e = c .before .before .before .before .before .before .before .before .before .before .before .before .before .before .before .before .before in
+    let g = c .before .before .before .before .before .before .before .before .before .before .before .before .before .before .before .before .before .before in
+    let a = c .before .before .before .before .before .before .before .before .before .before .before .before .before .before .before .before .before .before .before .before in
+    let l = c .before .before .before .before .before .before .before .before .before .before .before .before .before .before .before .before .before .before .before .before .before .before .before .before .before .before .before .before .before .before .before .before in
+    let s0 = c .before .before .before .before .before .before .before .before .before .before .before .before .before .before .before .before .before .before .before .before .before .before .before .before .before .before .before .before .before .before .before .before .before .before .before .before .before .before .before .before .before .before .before .before .before .before .before .before .before .before .before .before .before .before .before .before .before .before .before in
     let p = s0 .pre in
-    let q = some-further (a .list-ready .result) (l .loop .n) (s0 .args .budget) (l .loop .inv .0) (sym (g .stage-of .ensures) ∙ c .before .before .before .before .before .before .before .before .before .before .before .before .before .before .before .enum-told3 .given .1) in
+    let q = not-last (a .list-ready .result) (l .loop .n) (s0 .args .budget) (l .loop .inv .0) (sym (g .is-last .ensures) ∙ e .if1 .left) in
     let (sheet, k) = p .1 .1 .1 .1 .1 .0 in
     let (U, K) = l .loop .inv .10 sheet k in
     (p .0, picked-fits _ (p .0) sheet _ _ _ (p .1 .1 .1 .1 .1 .1 .0) (l .loop .state) (l .loop .states) (l .loop .numbers) (l .loop .counts) (U .state) (U .stands) _ _ _ _ _ _ (p .1 .1 .1 .0) K _ _ (a .list-ready .ensures .0 sheet (l .loop .counts) (l .loop .states) (U .stands .kept) (K .work) (subst (λ (m : ℕ). rowCount (s0 .args .rows .now) ≤ m) (sym (l .loop .inv .4)) (rows-limit _ (p .0)))) (q .0) _ (pc .picked-change .result) (pc .picked-change .ensures sheet k))
 
 slice-aggregate-follow-up : tie.Need-slice-aggregate-follow-up Inv-loop μ-loop
-slice-aggregate-follow-up c = sym (c .before .before .before .before .before .before .before .before .before .before .before .before .before .before .before .before .before .before .before .before .before .before .before .before .before .before .before .before .before .before .before .before .before .before .before .before .before .before .before .before .before .before .before .before .before .loop .inv .9)
+slice-aggregate-follow-up c = sym (c .before .before .before .before .before .before .before .before .before .before .before .before .before .before .before .before .before .before .before .before .before .before .before .before .before .before .before .before .before .before .before .before .before .before .before .before .before .before .before .before .loop .inv .9)
 
 slice-aggregate-follow-up-2 : tie.Need-slice-aggregate-follow-up-2 Inv-loop μ-loop
-slice-aggregate-follow-up-2 c = sym (c .before .before .before .before .before .before .before .before .before .before .before .before .before .before .before .before .before .before .before .before .before .before .before .before .before .before .before .before .before .before .before .before .before .before .before .before .before .before .before .before .before .before .before .before .before .before .loop .inv .5)
+slice-aggregate-follow-up-2 c = sym (c .before .before .before .before .before .before .before .before .before .before .before .before .before .before .before .before .before .before .before .before .before .before .before .before .before .before .before .before .before .before .before .before .before .before .before .before .before .before .before .before .before .loop .inv .5)
 
 slice-aggregate-follow-up-3 : tie.Need-slice-aggregate-follow-up-3 Inv-loop μ-loop
-slice-aggregate-follow-up-3 c = sym (c .before .before .before .before .before .before .before .before .before .before .before .before .before .before .before .before .before .before .before .before .before .before .before .before .before .before .before .before .before .before .before .before .before .before .before .before .before .before .before .before .before .before .before .before .before .before .before .loop .inv .6)
+slice-aggregate-follow-up-3 c = sym (c .before .before .before .before .before .before .before .before .before .before .before .before .before .before .before .before .before .before .before .before .before .before .before .before .before .before .before .before .before .before .before .before .before .before .before .before .before .before .before .before .before .before .loop .inv .6)
 
 slice-aggregate-follow-up-4 : tie.Need-slice-aggregate-follow-up-4 Inv-loop μ-loop
-slice-aggregate-follow-up-4 c = sym (c .before .before .before .before .before .before .before .before .before .before .before .before .before .before .before .before .before .before .before .before .before .before .before .before .before .before .before .before .before .before .before .before .before .before .before .before .before .before .before .before .before .before .before .before .before .before .before .before .loop .inv .7)
+slice-aggregate-follow-up-4 c = sym (c .before .before .before .before .before .before .before .before .before .before .before .before .before .before .before .before .before .before .before .before .before .before .before .before .before .before .before .before .before .before .before .before .before .before .before .before .before .before .before .before .before .before .before .loop .inv .7)
 
 slice-aggregate-follow-up-5 : tie.Need-slice-aggregate-follow-up-5 Inv-loop μ-loop
-slice-aggregate-follow-up-5 c = sym (c .before .before .before .before .before .before .before .before .before .before .before .before .before .before .before .before .before .before .before .before .before .before .before .before .before .before .before .before .before .before .before .before .before .before .before .before .before .before .before .before .before .before .before .before .before .before .before .before .before .loop .inv .8)
+slice-aggregate-follow-up-5 c = sym (c .before .before .before .before .before .before .before .before .before .before .before .before .before .before .before .before .before .before .before .before .before .before .before .before .before .before .before .before .before .before .before .before .before .before .before .before .before .before .before .before .before .before .before .before .loop .inv .8)
 
 follow-up-requires : tie.Need-follow-up-requires Inv-loop μ-loop
 follow-up-requires c κs =
-    let pc = c .before .before .before .before .before .before .before .before .before .before .before .before .before .before .before .before .before .before .before .before in
-    let g = c .before .before .before .before .before .before .before .before .before .before .before .before .before .before .before .before .before .before .before .before .before .before .before .before .before .before .before .before .before .before .before .before .before .before .before in
-    let a = c .before .before .before .before .before .before .before .before .before .before .before .before .before .before .before .before .before .before .before .before .before .before .before .before .before .before .before .before .before .before .before .before .before .before .before .before .before in
-    let l = c .before .before .before .before .before .before .before .before .before .before .before .before .before .before .before .before .before .before .before .before .before .before .before .before .before .before .before .before .before .before .before .before .before .before .before .before .before .before .before .before .before .before .before .before .before .before .before .before .before in
-    let s0 = c .before .before .before .before .before .before .before .before .before .before .before .before .before .before .before .before .before .before .before .before .before .before .before .before .before .before .before .before .before .before .before .before .before .before .before .before .before .before .before .before .before .before .before .before .before .before .before .before .before .before .before .before .before .before .before .before .before .before .before .before .before .before .before .before .before .before .before .before .before .before .before .before .before .before .before .before in
+    let pc = c .before .before .before .before .before .before .before .before .before .before .before .before .before .before .before .before in
+    let e = c .before .before .before .before .before .before .before .before .before .before .before .before .before .before .before .before .before .before .before .before .before .before .before .before .before .before .before .before .before in
+    let g = c .before .before .before .before .before .before .before .before .before .before .before .before .before .before .before .before .before .before .before .before .before .before .before .before .before .before .before .before .before .before in
+    let a = c .before .before .before .before .before .before .before .before .before .before .before .before .before .before .before .before .before .before .before .before .before .before .before .before .before .before .before .before .before .before .before .before in
+    let l = c .before .before .before .before .before .before .before .before .before .before .before .before .before .before .before .before .before .before .before .before .before .before .before .before .before .before .before .before .before .before .before .before .before .before .before .before .before .before .before .before .before .before .before .before in
+    let s0 = c .before .before .before .before .before .before .before .before .before .before .before .before .before .before .before .before .before .before .before .before .before .before .before .before .before .before .before .before .before .before .before .before .before .before .before .before .before .before .before .before .before .before .before .before .before .before .before .before .before .before .before .before .before .before .before .before .before .before .before .before .before .before .before .before .before .before .before .before .before .before .before in
     let p = s0 .pre in
-    let q = some-further (a .list-ready .result) (l .loop .n) (s0 .args .budget) (l .loop .inv .0) (sym (g .stage-of .ensures) ∙ c .before .before .before .before .before .before .before .before .before .before .before .before .before .before .before .before .before .before .before .before .before .before .before .before .before .before .before .before .before .before .before .before .before .enum-told3 .given .1) in
+    let q = not-last (a .list-ready .result) (l .loop .n) (s0 .args .budget) (l .loop .inv .0) (sym (g .is-last .ensures) ∙ e .if1 .left) in
     let (sheet, k) = p .1 .1 .1 .1 .1 .0 in
     let (U, K) = l .loop .inv .10 sheet k in
     (p .1 .1 .0, (p .1 .1 .1 .1 .0, (picked-within _ (p .0) sheet _ _ _ (p .1 .1 .1 .1 .1 .1 .0) (l .loop .state) (l .loop .states) (l .loop .numbers) (l .loop .counts) (U .state) (U .stands) _ _ _ _ _ _ (p .1 .1 .1 .0) K _ _ (a .list-ready .ensures .0 sheet (l .loop .counts) (l .loop .states) (U .stands .kept) (K .work) (subst (λ (m : ℕ). rowCount (s0 .args .rows .now) ≤ m) (sym (l .loop .inv .4)) (rows-limit _ (p .0)))) (q .0) _ (pc .picked-change .result) (pc .picked-change .ensures sheet k), (rows-limit _ (p .0), K .room, K .work .2))))
 
 add-n : tie.Need-add-n Inv-loop μ-loop
 add-n c =
-    let g = c .before .before .before .before .before .before .before .before .before .before .before .before .before .before .before .before .before .before .before .before .before .before .before .before .before .before .before .before .before .before .before .before .before .before .before .before .before .before .before .before .before .before .before in
-    let a = c .before .before .before .before .before .before .before .before .before .before .before .before .before .before .before .before .before .before .before .before .before .before .before .before .before .before .before .before .before .before .before .before .before .before .before .before .before .before .before .before .before .before .before .before .before in
-    let l = c .before .before .before .before .before .before .before .before .before .before .before .before .before .before .before .before .before .before .before .before .before .before .before .before .before .before .before .before .before .before .before .before .before .before .before .before .before .before .before .before .before .before .before .before .before .before .before .before .before .before .before .before .before .before .before .before .before in
-    let s0 = c .before .before .before .before .before .before .before .before .before .before .before .before .before .before .before .before .before .before .before .before .before .before .before .before .before .before .before .before .before .before .before .before .before .before .before .before .before .before .before .before .before .before .before .before .before .before .before .before .before .before .before .before .before .before .before .before .before .before .before .before .before .before .before .before .before .before .before .before .before .before .before .before .before .before .before .before .before .before .before .before .before .before .before .before in
+    let e = c .before .before .before .before .before .before .before .before .before .before .before .before .before .before .before .before .before .before .before .before .before .before .before .before .before .before .before .before .before .before .before .before .before .before .before .before .before in
+    let g = c .before .before .before .before .before .before .before .before .before .before .before .before .before .before .before .before .before .before .before .before .before .before .before .before .before .before .before .before .before .before .before .before .before .before .before .before .before .before in
+    let a = c .before .before .before .before .before .before .before .before .before .before .before .before .before .before .before .before .before .before .before .before .before .before .before .before .before .before .before .before .before .before .before .before .before .before .before .before .before .before .before .before in
+    let l = c .before .before .before .before .before .before .before .before .before .before .before .before .before .before .before .before .before .before .before .before .before .before .before .before .before .before .before .before .before .before .before .before .before .before .before .before .before .before .before .before .before .before .before .before .before .before .before .before .before .before .before .before in
+    let s0 = c .before .before .before .before .before .before .before .before .before .before .before .before .before .before .before .before .before .before .before .before .before .before .before .before .before .before .before .before .before .before .before .before .before .before .before .before .before .before .before .before .before .before .before .before .before .before .before .before .before .before .before .before .before .before .before .before .before .before .before .before .before .before .before .before .before .before .before .before .before .before .before .before .before .before .before .before .before .before .before in
     let p = s0 .pre in
-    let q = some-further (a .list-ready .result) (l .loop .n) (s0 .args .budget) (l .loop .inv .0) (sym (g .stage-of .ensures) ∙ c .before .before .before .before .before .before .before .before .before .before .before .before .before .before .before .before .before .before .before .before .before .before .before .before .before .before .before .before .before .before .before .before .before .before .before .before .before .before .before .before .before .enum-told3 .given .1) in
+    let q = not-last (a .list-ready .result) (l .loop .n) (s0 .args .budget) (l .loop .inv .0) (sym (g .is-last .ensures) ∙ e .if1 .left) in
     omega (arith, s0 .fits .budget, q .1)
 
 loop-less : tie.Need-loop-less Inv-loop μ-loop
 loop-less c =
-    let g = c .before .before .before .before .before .before .before .before .before .before .before .before .before .before .before .before .before .before .before .before .before .before .before .before .before .before .before .before .before .before .before .before .before .before .before .before .before .before .before .before .before .before .before in
-    let a = c .before .before .before .before .before .before .before .before .before .before .before .before .before .before .before .before .before .before .before .before .before .before .before .before .before .before .before .before .before .before .before .before .before .before .before .before .before .before .before .before .before .before .before .before .before in
-    let l = c .before .before .before .before .before .before .before .before .before .before .before .before .before .before .before .before .before .before .before .before .before .before .before .before .before .before .before .before .before .before .before .before .before .before .before .before .before .before .before .before .before .before .before .before .before .before .before .before .before .before .before .before .before .before .before .before .before in
-    let s0 = c .before .before .before .before .before .before .before .before .before .before .before .before .before .before .before .before .before .before .before .before .before .before .before .before .before .before .before .before .before .before .before .before .before .before .before .before .before .before .before .before .before .before .before .before .before .before .before .before .before .before .before .before .before .before .before .before .before .before .before .before .before .before .before .before .before .before .before .before .before .before .before .before .before .before .before .before .before .before .before .before .before .before .before .before in
+    let e = c .before .before .before .before .before .before .before .before .before .before .before .before .before .before .before .before .before .before .before .before .before .before .before .before .before .before .before .before .before .before .before .before .before .before .before .before .before in
+    let g = c .before .before .before .before .before .before .before .before .before .before .before .before .before .before .before .before .before .before .before .before .before .before .before .before .before .before .before .before .before .before .before .before .before .before .before .before .before .before in
+    let a = c .before .before .before .before .before .before .before .before .before .before .before .before .before .before .before .before .before .before .before .before .before .before .before .before .before .before .before .before .before .before .before .before .before .before .before .before .before .before .before .before in
+    let l = c .before .before .before .before .before .before .before .before .before .before .before .before .before .before .before .before .before .before .before .before .before .before .before .before .before .before .before .before .before .before .before .before .before .before .before .before .before .before .before .before .before .before .before .before .before .before .before .before .before .before .before .before in
+    let s0 = c .before .before .before .before .before .before .before .before .before .before .before .before .before .before .before .before .before .before .before .before .before .before .before .before .before .before .before .before .before .before .before .before .before .before .before .before .before .before .before .before .before .before .before .before .before .before .before .before .before .before .before .before .before .before .before .before .before .before .before .before .before .before .before .before .before .before .before .before .before .before .before .before .before .before .before .before .before .before .before in
     let p = s0 .pre in
-    let q = some-further (a .list-ready .result) (l .loop .n) (s0 .args .budget) (l .loop .inv .0) (sym (g .stage-of .ensures) ∙ c .before .before .before .before .before .before .before .before .before .before .before .before .before .before .before .before .before .before .before .before .before .before .before .before .before .before .before .before .before .before .before .before .before .before .before .before .before .before .before .before .before .enum-told3 .given .1) in
+    let q = not-last (a .list-ready .result) (l .loop .n) (s0 .args .budget) (l .loop .inv .0) (sym (g .is-last .ensures) ∙ e .if1 .left) in
     omega (arith, q .1)
+
+-- what the change of data leaves, whether or not there is one: as many numbers and counts, and the arrays with the change made
+abbrev Made : tie.Joined2 Inv-loop μ-loop → State → List ℤ → List ℕ → Type 0
+Made c state numbers counts =
+    let l = c .before .before .before .before .before .before .before .before .before .before .before .before .before .before .before .before .before .before .before .before .before .before .before .before .before .before .before .before .before .before .loop in
+    (length numbers ≡ length (l .numbers)) × (length counts ≡ length (l .counts))
+    × ((t : List ℕ) → arraysOf state t numbers counts ≡ putData (c .before .before .before .before .before .before .before .before .before .before .before .before .before .before .before .before .before .before .before .before .before .before .before .before .before .before .before .before .before .before .before .before .before .before .before .before .before .before .before .before .before .before .before .before .before .before .before .before .before .before .before .before .before .before .before .before .before .args .rows .now) (c .before .before .picked-change .result .written) (arraysOf (l .state) t (l .numbers) (l .counts)))
+
+data-made : (c : tie.Joined2 Inv-loop μ-loop) → Made c (c .if2 .state) (c .if2 .numbers) (c .if2 .counts)
+data-made c =
+    ⊎-elim
+    (λ w. rw (w .7, w .8, w .9) (w .4 .given, w .5 .given, w .3 .ensures))
+    (λ w. rw (w .1, w .2, w .3) (refl, refl, λ t. sym (nothing-put (c .before .before .before .before .before .before .before .before .before .before .before .before .before .before .before .before .before .before .before .before .before .before .before .before .before .before .before .before .before .before .before .before .before .before .before .before .before .before .before .before .before .before .before .before .before .before .before .before .before .before .before .before .before .before .before .before .before .args .rows .now) (c .before .before .picked-change .result .written) _ (sym (c .before .has-data .ensures) ∙ w .0 .left))))
+    (c .if2 .came)
 
 loop-again : tie.Need-loop-again Inv-loop μ-loop
 loop-again c =
     let fu = c .before .before .before .before .before .before .before in
-    let wd = c .before .before .before .before .before .before .before .before .before .before .before .before .before .before .before .before .before .before .before .before .before .before .before .before .before in
-    let pc = c .before .before .before .before .before .before .before .before .before .before .before .before .before .before .before .before .before .before .before .before .before .before .before .before .before .before .before .before in
-    let ch = c .before .before .before .before .before .before .before .before .before .before .before .before .before .before .before .before .before .before .before .before .before .before .before .before .before .before .before .before .before in
-    let g = c .before .before .before .before .before .before .before .before .before .before .before .before .before .before .before .before .before .before .before .before .before .before .before .before .before .before .before .before .before .before .before .before .before .before .before .before .before .before .before .before .before .before .before in
-    let a = c .before .before .before .before .before .before .before .before .before .before .before .before .before .before .before .before .before .before .before .before .before .before .before .before .before .before .before .before .before .before .before .before .before .before .before .before .before .before .before .before .before .before .before .before .before in
-    let l = c .before .before .before .before .before .before .before .before .before .before .before .before .before .before .before .before .before .before .before .before .before .before .before .before .before .before .before .before .before .before .before .before .before .before .before .before .before .before .before .before .before .before .before .before .before .before .before .before .before .before .before .before .before .before .before .before .before in
-    let s0 = c .before .before .before .before .before .before .before .before .before .before .before .before .before .before .before .before .before .before .before .before .before .before .before .before .before .before .before .before .before .before .before .before .before .before .before .before .before .before .before .before .before .before .before .before .before .before .before .before .before .before .before .before .before .before .before .before .before .before .before .before .before .before .before .before .before .before .before .before .before .before .before .before .before .before .before .before .before .before .before .before .before .before .before .before in
+    let j = c .before .before .before .before .before .before .before .before .before .before .before .before .before .before .before .before .before .before .before .before .before .before in
+    let pc = c .before .before .before .before .before .before .before .before .before .before .before .before .before .before .before .before .before .before .before .before .before .before .before .before in
+    let ch = c .before .before .before .before .before .before .before .before .before .before .before .before .before .before .before .before .before .before .before .before .before .before .before .before .before in
+    let e = c .before .before .before .before .before .before .before .before .before .before .before .before .before .before .before .before .before .before .before .before .before .before .before .before .before .before .before .before .before .before .before .before .before .before .before .before .before in
+    let g = c .before .before .before .before .before .before .before .before .before .before .before .before .before .before .before .before .before .before .before .before .before .before .before .before .before .before .before .before .before .before .before .before .before .before .before .before .before .before in
+    let a = c .before .before .before .before .before .before .before .before .before .before .before .before .before .before .before .before .before .before .before .before .before .before .before .before .before .before .before .before .before .before .before .before .before .before .before .before .before .before .before .before in
+    let l = c .before .before .before .before .before .before .before .before .before .before .before .before .before .before .before .before .before .before .before .before .before .before .before .before .before .before .before .before .before .before .before .before .before .before .before .before .before .before .before .before .before .before .before .before .before .before .before .before .before .before .before .before in
+    let s0 = c .before .before .before .before .before .before .before .before .before .before .before .before .before .before .before .before .before .before .before .before .before .before .before .before .before .before .before .before .before .before .before .before .before .before .before .before .before .before .before .before .before .before .before .before .before .before .before .before .before .before .before .before .before .before .before .before .before .before .before .before .before .before .before .before .before .before .before .before .before .before .before .before .before .before .before .before .before .before .before in
     let p = s0 .pre in
-    let q = some-further (a .list-ready .result) (l .loop .n) (s0 .args .budget) (l .loop .inv .0) (sym (g .stage-of .ensures) ∙ c .before .before .before .before .before .before .before .before .before .before .before .before .before .before .before .before .before .before .before .before .before .before .before .before .before .before .before .before .before .before .before .before .before .before .before .before .before .before .before .before .before .enum-told3 .given .1) in
+    let q = not-last (a .list-ready .result) (l .loop .n) (s0 .args .budget) (l .loop .inv .0) (sym (g .is-last .ensures) ∙ e .if1 .left) in
+    let m = data-made j in
     let f = fu .follow-up .ensures in (
       omega (arith, q .1),
       c .before .before .before .before .before .before .states .given ∙ l .loop .inv .1,
-      c .before .before .before .before .before .before .before .before .before .before .before .before .before .before .before .before .before .before .before .before .before .before .before .before .numbers .given ∙ l .loop .inv .2,
-      c .before .before .before .before .before .before .before .before .before .before .before .before .before .before .before .before .before .before .before .before .before .before .before .counts .given ∙ l .loop .inv .3,
+      m .0 ∙ l .loop .inv .2,
+      m .1 ∙ l .loop .inv .3,
       a .list-ready .ensures .1 ∙ l .loop .inv .4,
       c .before .before .before .acts5 .given,
       c .before .before .sent4 .given,
@@ -234,7 +234,7 @@ loop-again c =
       c .list5 .given,
       c .before .before .before .before .touched2 .given,
       λ sheet k. let (U, K) = l .loop .inv .10 sheet k in
-          let T = turned-followed _ (p .0) sheet _ _ _ (p .1 .1 .1 .1 .1 .1 .0) (l .loop .state) (l .loop .states) (l .loop .numbers) (l .loop .counts) (U .state) (U .stands) _ _ _ _ _ _ (p .1 .1 .1 .0) K _ _ (a .list-ready .ensures .0 sheet (l .loop .counts) (l .loop .states) (U .stands .kept) (K .work) (subst (λ (m : ℕ). rowCount (s0 .args .rows .now) ≤ m) (sym (l .loop .inv .4)) (rows-limit _ (p .0)))) (q .0) _ (pc .picked-change .result) (pc .picked-change .ensures sheet k) _ _ (p .1 .1 .1 .1 .0) _ _ _ _ _ (wd .with-data .ensures) (f .0) (f .1 .0) (f .1 .1 .0) (ltb (l .loop .n) (s0 .args .budget)) (lt-ltb (l .loop .n) (s0 .args .budget) (omega (arith, q .1))) (f .1 .1 .1 sheet k) in
+          let T = turned-followed _ (p .0) sheet _ _ _ (p .1 .1 .1 .1 .1 .1 .0) (l .loop .state) (l .loop .states) (l .loop .numbers) (l .loop .counts) (U .state) (U .stands) _ _ _ _ _ _ (p .1 .1 .1 .0) K _ _ (a .list-ready .ensures .0 sheet (l .loop .counts) (l .loop .states) (U .stands .kept) (K .work) (subst (λ (m : ℕ). rowCount (s0 .args .rows .now) ≤ m) (sym (l .loop .inv .4)) (rows-limit _ (p .0)))) (q .0) _ (pc .picked-change .result) (pc .picked-change .ensures sheet k) _ _ (p .1 .1 .1 .1 .0) _ _ _ _ _ (m .2) (f .0) (f .1 .0) (f .1 .1 .0) (ltb (l .loop .n) (s0 .args .budget)) (lt-ltb (l .loop .n) (s0 .args .budget) (omega (arith, q .1))) (f .1 .1 .1 sheet k) in
           (one-further _ (p .0) sheet _ _ _ _ _ _ _ U _ _ _ (T .0) (q .0) (q .1) (ch .choice-at .ensures), T .1),
     )
 
@@ -255,23 +255,17 @@ take-steps-spec =
     slice-aggregate-list-ready-3
     slice-aggregate-list-ready-4
     list-ready-requires
-    stage-of-requires
-    enum-told
-    rest-outcome-requires
+    is-last-requires
+    outcome-with-requires
     same-length
     same-length-2
     same-length-3
     returns
-    enum-told-2
-    same-length-4
-    same-length-5
-    same-length-6
-    returns-2
-    enum-told-3
     slice-aggregate-picked-change
     slice-aggregate-picked-change-2
     choice-at-requires
     picked-change-requires
+    has-data-requires
     with-data-requires
     slice-aggregate-follow-up
     slice-aggregate-follow-up-2
