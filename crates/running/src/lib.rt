@@ -9,7 +9,7 @@ ghost use Rattle.offers.specs.Held.{KeptReadings};
 ghost use Rattle.running.specs.Ran.{RunHeld};
 
 pub mod result; // result.rt: what a run leaves
-mod outcome; // outcome.rt: the outcome at rest
+mod outcome; // outcome.rt: the outcome of a run
 mod steps; // steps.rt: the steps up to rest or the budget
 
 use evaluation::store::fresh;
