@@ -15,7 +15,7 @@ use meaning::Index;
 use meaning::Value;
 
 // What a cell gives: its number if it is set, else reason 1.
-fn cell<'a>(values: &'a [i32], marks: &'a [u8], i: usize) -> Value
+pub fn cell<'a>(values: &'a [i32], marks: &'a [u8], i: usize) -> Value
     ensures { λ v. ⌜ v ≡ cellValue (getD (decoded (now (values .entry)) (now (marks .entry))) i none) ⌝ }
 {
     if marks.len() <= i {
@@ -31,7 +31,7 @@ fn cell<'a>(values: &'a [i32], marks: &'a [u8], i: usize) -> Value
 }
 
 // What the cell gives that a name and a subscript mean.
-fn cell_at<'a>(values: &'a [i32], marks: &'a [u8], i: Index) -> Value
+pub fn cell_at<'a>(values: &'a [i32], marks: &'a [u8], i: Index) -> Value
     ensures { λ v. ⌜ v ≡ readCell (decoded (now (values .entry)) (now (marks .entry))) i ⌝ }
 {
     match i {
@@ -49,7 +49,7 @@ fn element<'a>(names: &[u16], values: &'a [i32], marks: &'a [u8], a: u32, i: Val
 }
 
 // A monadic operator on what may have a value.
-fn monadic(op: u32, v: Value) -> Value
+pub fn monadic(op: u32, v: Value) -> Value
     ensures { λ r. ⌜ r ≡ whenNumber v (monadicOf op) ⌝ }
 {
     match v {
@@ -59,7 +59,7 @@ fn monadic(op: u32, v: Value) -> Value
 }
 
 // A dyadic operator on a first operand, and on a second that may have a value.
-fn dyadic(op: u32, x: i32, w: Value) -> Value
+pub fn dyadic(op: u32, x: i32, w: Value) -> Value
     ensures { λ r. ⌜ r ≡ whenNumber w (operate op x) ⌝ }
 {
     match w {
@@ -69,7 +69,7 @@ fn dyadic(op: u32, x: i32, w: Value) -> Value
 }
 
 // What AND or OR gives that its first operand decides.
-fn decided(x: i32) -> Value
+pub fn decided(x: i32) -> Value
     ensures { λ r. ⌜ r ≡ truth (isTrue x) ⌝ }
 {
     if numbers::is_true(x) {
