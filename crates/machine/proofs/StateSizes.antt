@@ -6,7 +6,8 @@ use Prim.Native.Nat.{ℕ}
 use lib.IntN.{ℤ}
 use lib.ListN.{length, length-set, length-replicate}
 use Rattle.meaning.specs.Declarations.{totalCells, totalPorts}
-use Rattle.meaning.specs.State.{Message, Store, State, program, start, Write, writeCell, writePlace, writeOutput, write, writeAll, settled}
+use Rattle.meaning.specs.State.{Message, Store, State, program, Write, writeCell, writePlace, writeOutput, write, writeAll}
+use Rattle.meaning.specs.Settle.{start, settled}
 use Rattle.meaning.specs.Intent.{Sheet}
 use Rattle.meaning.specs.Ready.{Label}
 use Rattle.meaning.specs.Step.{Step}

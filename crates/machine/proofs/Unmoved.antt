@@ -12,9 +12,9 @@ use lib.Dec.{eqb}
 use borrow.Author.Tests.{eqb-true}
 use Rattle.meaning.specs.Rows.{rowCount}
 use Rattle.meaning.specs.Tree.{stop, skip, sequence, parallel, assign, receive, send, conditional, loop, alternation, Process, node, empty, also, rowOf, actionOf, membersIn, rowsIn, rowsBeneath}
-use Rattle.meaning.specs.Settle.{statesOf, byStep, mode}
+use Rattle.meaning.specs.Settle.{statesOf, byStep, mode, settled}
 use Rattle.meaning.specs.SettlingRules.{Among, All, Next, Inside, Settles}
-use Rattle.meaning.specs.State.{Message, State, Program, program, processAt, whole, Effect, settled}
+use Rattle.meaning.specs.State.{Message, State, Program, program, processAt, whole, Effect}
 use Rattle.meaning.specs.Intent.{Sheet, outputsTo}
 use Rattle.meaning.specs.Ready.{Label, allIdle, live, intentAt, after}
 use Rattle.meaning.specs.Step.{Live}

@@ -9,7 +9,8 @@ use lib.IntN.{ℤ}
 use lib.ListN.{length, getD, set, length-append}
 use Rattle.meaning.specs.Declarations.{Channel, totalPorts}
 use Rattle.meaning.specs.Tree.{Expr, Process, actionOf, send}
-use Rattle.meaning.specs.State.{Message, State, program, start, settled}
+use Rattle.meaning.specs.State.{Message, State, program}
+use Rattle.meaning.specs.Settle.{start, settled}
 use Rattle.meaning.specs.Intent.{Sheet}
 use Rattle.meaning.specs.Ready.{Label}
 use Rattle.meaning.specs.Step.{Live, live, Step, assignment, while-false, while-true, if-true, communication, host-read, host-write, alt-skip, alt-read, alt-communication, stopping}

@@ -21,7 +21,8 @@ use Rattle.meaning.specs.Rows.{kindAt, nodeAt}
 use Rattle.meaning.specs.Declarations.{totalCells, totalPorts}
 use Rattle.meaning.specs.Tree.{Expr, literal, element, monadic, dyadic, noExpr, Action, stop, skip, sequence, parallel, assign, receive, send, conditional, loop, alternation, Process, Part, partOf, partAt, orStop, actionOf}
 use Rattle.meaning.specs.Values.{fitted, turned, wrapped, isTrue, truth, quotient, remainder, operators, operate, monadicOf, decides, whenNumber, dyadicOf, inArray, cellValue, readCell, value}
-use Rattle.meaning.specs.State.{Message, State, program, start, settled}
+use Rattle.meaning.specs.State.{Message, State, program}
+use Rattle.meaning.specs.Settle.{start, settled}
 use Rattle.meaning.specs.Intent.{Sheet, entry}
 use Rattle.meaning.specs.Ready.{Label}
 use Rattle.meaning.specs.Step.{Live, live, host, sends, Step, assignment, while-false, while-true, if-true, communication, host-read, host-write, alt-skip, alt-read, alt-communication, stopping}

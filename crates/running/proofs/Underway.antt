@@ -15,7 +15,8 @@ use Rattle.meaning.specs.declared.Outcome.{Outcome}
 use Rattle.meaning.specs.declared.Outcome.the-variants.{Spent}
 use Rattle.meaning.specs.Basics.{ifElse}
 use Rattle.meaning.specs.Rows.{rowCount, root}
-use Rattle.meaning.specs.State.{State, program, start}
+use Rattle.meaning.specs.State.{State, program}
+use Rattle.meaning.specs.Settle.{start}
 use Rattle.meaning.specs.Intent.{Sheet}
 use Rattle.meaning.specs.Ready.{Label, ready, after}
 use Rattle.meaning.specs.Run.{Result, chosenStep, go, run}
