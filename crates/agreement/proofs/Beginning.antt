@@ -55,9 +55,9 @@ module _ (P : Program) (n : ℕ) (F : Fit P n) where
   pub start-normal : NormalForm (whole P) (rootStarted P) (start P .states)
   start-normal = subst (λ (u : List ℕ). NormalForm (whole P) (rootStarted P) u) (sym start-is) (normal-form (whole P) n (F .sound) (F .plain) (rootStarted P) started-length started-good)
 
-  pub start-begins : Begins P (start P)
+  pub begins-at-start : Begins P (start P)
   unfolding start
-  start-begins = record { settles = record { by-rules = start-normal .reached; final = start-normal .final }; unset = refl; unread = refl; unwritten = refl }
+  begins-at-start = record { settles = record { by-rules = start-normal .reached; final = start-normal .final }; unset = refl; unread = refl; unwritten = refl }
 
   pub begins-start : (s : State) → Begins P s → s ≡ start P
   unfolding start

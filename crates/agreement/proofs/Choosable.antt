@@ -20,7 +20,7 @@ use Rattle.agreement.proofs.Fit.{Fit}
 use Rattle.agreement.proofs.OptionRows.{OptionRows}
 use Rattle.agreement.proofs.Working.{Inv}
 use Rattle.agreement.proofs.Invariant.{step-inv, start-inv}
-use Rattle.agreement.proofs.Beginning.{start-begins, begins-start}
+use Rattle.agreement.proofs.Beginning.{begins-at-start, begins-start}
 use Rattle.agreement.proofs.RowsAscend.{ready-list}
 use Rattle.agreement.proofs.FewReady.{few-ready}
 
@@ -95,4 +95,4 @@ choosable Accepted fit rows sheet l s a o =
     let (F, O, k) = fit rows sheet a in
     let q = begins-start (program rows) (rowCount rows) F (o .beginning) (o .begins) in
     let (choices, (b, c, f)) = follows rows sheet F O k (start-inv (program rows) (rowCount rows) F sheet) (subst (λ (p : State). Order (program rows) sheet p l s) q (o .order)) in
-    (choices, b, record { beginning = start (program rows); begins = start-begins (program rows) (rowCount rows) F; picked = c }, f 0 .0, f 0 .1 ∙ omega arith)
+    (choices, b, record { beginning = start (program rows); begins = begins-at-start (program rows) (rowCount rows) F; picked = c }, f 0 .0, f 0 .1 ∙ omega arith)

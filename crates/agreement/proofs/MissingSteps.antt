@@ -8,13 +8,13 @@ use lib.IntN.{ℤ}
 use lib.ListN.{getD, set, replicate}
 use lib.Seq.{getD-set-same}
 use Rattle.meaning.specs.State.{Message, Store, State, Program, program, writeAll, Effect}
+use Rattle.meaning.specs.Settle.{settled}
 use Rattle.meaning.specs.Intent.{Sheet}
 use Rattle.meaning.specs.Ready.{Label}
 use Rattle.meaning.specs.Step.{sends, Host, Allows, Step, assignment, while-false, while-true, if-true, communication, host-read, host-write, alt-skip, alt-read, alt-communication, stopping}
 use Rattle.meaning.specs.Order.{Begins, Order, halt, then, OrderOf}
 use Rattle.agreement.specs.MissingClaims.{cellOf, Delivers, by-assignment, by-communication, by-reading, by-option-reading, by-option-communication, ReadsAbsent, input-absent, option-absent, SetOnly, SetByNumber, OnlyAbsentUnsets, DeliveredHolds, AbsentUnsets, SetInOrder}
 use Rattle.agreement.proofs.Takeable.{takeable}
-use Rattle.meaning.specs.Settle.{settled}
 use Rattle.agreement.proofs.Steps.{distinct-options, allowed-step}
 use Rattle.agreement.proofs.Separate.{table-inv}
 use Rattle.agreement.proofs.TableFit.{fit}

@@ -23,7 +23,7 @@ use Rattle.agreement.proofs.Fit.{Fit}
 use Rattle.agreement.proofs.TableFit.{fit}
 use Rattle.agreement.proofs.Separate.{table-inv}
 use Rattle.agreement.proofs.Invariant.{start-inv}
-use Rattle.agreement.proofs.Beginning.{start-begins, begins-start}
+use Rattle.agreement.proofs.Beginning.{begins-at-start, begins-start}
 
 -- a sheet for a table with no role 1 channel: one empty line
 abbrev emptySheet : List ℕ
@@ -35,7 +35,7 @@ module _ (rows : List ℤ) (ok : check rows ≡ none) (sheet : Sheet) where
 
   -- an order from the start of a run
   from-start : (l : List Label) (s : State) → Order (program rows) sheet (start (program rows)) l s → OrderOf rows sheet l s
-  from-start l s o = record { beginning = start (program rows); begins = start-begins (program rows) (rowCount rows) F; order = o }
+  from-start l s o = record { beginning = start (program rows); begins = begins-at-start (program rows) (rowCount rows) F; order = o }
 
   -- a step that the list of ready steps holds, by an equation
   ready-step : (k : List Label) (s : State) → OrderOf rows sheet k s → (x : Label) (l : List Label) → ready (program rows) sheet s ≡ l → List·Memᴰ x l

@@ -23,7 +23,7 @@ use Rattle.agreement.proofs.Fit.{Fit}
 use Rattle.agreement.proofs.Active.{active}
 use Rattle.agreement.proofs.Working.{Inv}
 use Rattle.agreement.proofs.Invariant.{step-normal, leaves-settled, only-settled, step-effect}
-use Rattle.agreement.proofs.Beginning.{start-normal, start-begins, begins-start}
+use Rattle.agreement.proofs.Beginning.{start-normal, begins-at-start, begins-start}
 use Rattle.agreement.proofs.Separate.{table-inv}
 use Rattle.agreement.proofs.TableFit.{fit}
 use Rattle.agreement.proofs.NormalForm.{final-is}
@@ -60,10 +60,10 @@ module _ (rows : List ℤ) (ok : check rows ≡ none) where
 pub start-settles : StartSettles
 start-settles rows ok = start-normal (program rows) (rowCount rows) (fit rows ok)
 
-pub start-begins-orders : StartBegins
-start-begins-orders rows ok s =
+pub start-begins : StartBegins
+start-begins rows ok s =
     let F = fit rows ok in
-    (begins-start (program rows) (rowCount rows) F s, λ e. subst (λ (t : State). Begins (program rows) t) (sym e) (start-begins (program rows) (rowCount rows) F))
+    (begins-start (program rows) (rowCount rows) F s, λ e. subst (λ (t : State). Begins (program rows) t) (sym e) (begins-at-start (program rows) (rowCount rows) F))
 
 pub steps-settle : StepsSettle
 steps-settle rows ok sheet l s o = normal-after rows ok sheet s (table-inv rows sheet (fit rows ok) l s o)

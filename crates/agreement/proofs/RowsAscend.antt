@@ -96,8 +96,10 @@ one-list from (x ∷ l) (y ∷ k) a b h =
     let e = first-same x y l k (a .1) (b .1) (h x .0 (List·Memᴰ·head refl)) (h y .1 (List·Memᴰ·head refl)) in
     let c : Ascending (suc (orderRow x)) (map orderRow k) = subst (λ (z : Label). Ascending (suc (orderRow z)) (map orderRow k)) (sym e) (b .1) in
     let t = one-list (suc (orderRow x)) l k (a .1) c
-    (λ z. (λ m. later-same x z l k (a .1) m (subst (λ (w : Label). List·Memᴰ z (w ∷ k)) (sym e) (h z .0 (List·Memᴰ·tail m))),
-    λ m. later-same x z k l c m (h z .1 (List·Memᴰ·tail m)))) in
+    (λ z. (
+      λ m. later-same x z l k (a .1) m (subst (λ (w : Label). List·Memᴰ z (w ∷ k)) (sym e) (h z .0 (List·Memᴰ·tail m))),
+      λ m. later-same x z k l c m (h z .1 (List·Memᴰ·tail m)),
+    )) in
     ap₂ (λ (w : Label) (m : List Label). w ∷ m) e t
 
 pub ready-listed : ReadyListed

@@ -20,7 +20,7 @@ use Rattle.agreement.proofs.Fit.{Fit}
 use Rattle.agreement.proofs.OptionRows.{OptionRows}
 use Rattle.agreement.proofs.Working.{Inv}
 use Rattle.agreement.proofs.Invariant.{start-inv, step-inv}
-use Rattle.agreement.proofs.Beginning.{start-begins}
+use Rattle.agreement.proofs.Beginning.{begins-at-start}
 use Rattle.agreement.proofs.Steps.{distinct-options, ready-allowed, allowed-ready}
 use Rattle.agreement.proofs.RowsAscend.{ready-list}
 
@@ -102,5 +102,5 @@ runs Accepted fit rows sheet choices budget a =
     let (F, O) = fit rows sheet a in
     let (l, g) = run-goes rows sheet F O choices budget in
     let e : length l ≡ r .steps = omega (arith, g .2) in
-    let b = start-begins (program rows) (rowCount rows) F in
+    let b = begins-at-start (program rows) (rowCount rows) F in
     (l, record { beginning = start (program rows); begins = b; order = g .0 }, record { beginning = start (program rows); begins = b; picked = g .1 }, e, omega (arith, g .3), ending Accepted rows sheet budget (length l) r e (g .4))

@@ -27,7 +27,7 @@ use Rattle.agreement.proofs.Steps.{ready-allowed}
 use Rattle.agreement.proofs.Reached.{order-more}
 use Rattle.agreement.proofs.TableFit.{fit}
 use Rattle.agreement.proofs.Separate.{table-inv}
-use Rattle.agreement.proofs.Beginning.{start-begins}
+use Rattle.agreement.proofs.Beginning.{begins-at-start}
 use Rattle.offers.specs.Held.{KeptReadings}
 use Rattle.machine.specs.Held.{Holds}
 use Rattle.taking.specs.Stands.{StandsAt}
@@ -52,7 +52,7 @@ module _ (rows : List ℤ) (ok : check rows ≡ none) (sheet : Sheet) (readings 
       let e : budget ≡ budget - 0 = omega arith in
       record {
         state = start (program rows);
-        stands = record { kept = k; labels = []; order = record { beginning = start (program rows); begins = start-begins (program rows) (rowCount rows) (fit rows ok); order = halt }; holds = h };
+        stands = record { kept = k; labels = []; order = record { beginning = start (program rows); begins = begins-at-start (program rows) (rowCount rows) (fit rows ok); order = halt }; holds = h };
         goes = ap (λ (m : ℕ). go (program rows) sheet m 0 choices (start (program rows))) e;
       }
 
