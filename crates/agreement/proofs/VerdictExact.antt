@@ -8,7 +8,6 @@ use lib.IntN.{ℤ}
 use Rattle.meaning.specs.TableBytes.{numbersFault}
 use Rattle.meaning.specs.Refusals.{Refusal, Stage}
 use Rattle.meaning.specs.Stages.{rowStages}
-use Rattle.meaning.specs.Answers.{check}
 use Rattle.meaning.specs.PrintedForms.{Each, each-none, each-more}
 use Rattle.meaning.specs.Faults.{WellPlaced, Placed, OneTree}
 use Rattle.meaning.proofs.OneTreeLaw.{one-tree}

@@ -17,7 +17,7 @@ use Rattle.meaning.specs.Sheet.{sheetFault, readings}
 use Rattle.meaning.specs.Buffers.{Buffers}
 use Rattle.meaning.specs.Run.{run}
 use Rattle.meaning.specs.Refusals.{Refusal, Stage, either, firstFault}
-use Rattle.meaning.specs.Stages.{Limits, limits, Table, Call, bufferFault, budgetFault, rowStages, tableStages, callStages}
+use Rattle.meaning.specs.Stages.{limits, Table, Call, bufferFault, budgetFault, rowStages, tableStages, callStages}
 use Rattle.meaning.specs.Answers.{check, checkBytes, verdictOf, Result, ran, unless, runOf, Task, onRows, onBytes, result, resultOfBytes, replyOf, reply, replyToBytes}
 use Rattle.meaning.specs.PrintedForms.{Each, each-none, each-more}
 use Rattle.meaning.specs.Faults.{LowestWrong, Finds, WellFormed, WellPlaced, WithinLimits, FormStage, TreeStage, LimitStage}
