@@ -276,7 +276,7 @@ bytes-call-refused table sheet choices budget b number place e =
 
 -- Numbers and places ----------------------------------------------------------------------------------------------------------------
 
-table-known : {rows : List ℤ} {number place : ℕ} → TableRefusal rows number place → (2 ≤ number) × (number ≤ 9) × (place ≤ 1026)
+pub table-known : {rows : List ℤ} {number place : ℕ} → TableRefusal rows number place → (2 ≤ number) × (number ≤ 9) × (place ≤ 1026)
 table-known (malformed-line h) = (omega arith, omega arith, omega arith)
 table-known (rows-not-whole h) = (omega arith, omega arith, omega arith)
 table-known (misformed-row (h, w)) = (omega arith, omega arith, omega arith)

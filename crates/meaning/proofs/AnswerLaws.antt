@@ -17,8 +17,8 @@ use Rattle.meaning.specs.Sheet.{sheetFault, readings}
 use Rattle.meaning.specs.Buffers.{Buffers}
 use Rattle.meaning.specs.Run.{run}
 use Rattle.meaning.specs.Refusals.{Refusal, Stage, either, firstFault}
-use Rattle.meaning.specs.Stages.{limits, Table, Call, bufferFault, budgetFault, rowStages, tableStages, callStages}
-use Rattle.meaning.specs.Answers.{check, checkBytes, verdictOf, Result, ran, unless, runOf, Task, onRows, onBytes, result, resultOfBytes, replyOf, reply, replyToBytes}
+use Rattle.meaning.specs.Stages.{Limits, limits, Call, onTable, bufferFault, budgetFault, lentStages, rowStages, tableStages, callStages}
+use Rattle.meaning.specs.Answers.{tableFault, check, checkBytes, verdictOf, Result, ran, unless, runOf, resultOf, Task, onRows, onBytes, result, resultOfBytes, replyOf, reply, replyToBytes}
 use Rattle.meaning.specs.PrintedForms.{Each, each-none, each-more}
 use Rattle.meaning.specs.Faults.{LowestWrong, Finds, WellFormed, WellPlaced, WithinLimits, FormStage, TreeStage, LimitStage}
 use Rattle.meaning.proofs.FaultLaws.{form-stage, limit-stage}
@@ -61,21 +61,25 @@ pub check-bytes : (table : List ℕ) → checkBytes table ≡ either (bytesFault
 unfolding checkBytes check firstFault
 check-bytes table = refl
 
--- a call with nothing lent: the table's stages, then the others
-call-stages : (c : Call) → unless (firstFault (map (λ (s : Stage Table). λ d. s (d .table)) tableStages ++ callStages limits) c) (ran (runOf c))
-    ≡ unless (firstFault tableStages (c .table)) (unless (firstFault (callStages limits) c) (ran (runOf c)))
-call-stages c =
-    ap (λ (o : Option Refusal). unless o (ran (runOf c))) (first-of-both c (map (λ (s : Stage Table). λ d. s (d .table)) tableStages) (callStages limits))
-    ∙ unless-either (firstFault (map (λ (s : Stage Table). λ d. s (d .table)) tableStages) c) (firstFault (callStages limits) c) (ran (runOf c))
-    ∙ ap (λ (o : Option Refusal). unless o (unless (firstFault (callStages limits) c) (ran (runOf c)))) (first-in-part (λ (d : Call). d .table) c tableStages)
+-- the result of a call, part by part: the lent buffers, the table, what else is given, or else the run
+pub call-stages : (l : Limits) (c : Call)
+    → resultOf l c ≡ unless (firstFault lentStages c) (unless (tableFault (c .table)) (unless (firstFault (callStages l) c) (ran (runOf c))))
+call-stages l c =
+    parts lentStages (map onTable tableStages ++ callStages l) (ran (runOf c))
+    ∙ ap (unless (firstFault lentStages c)) (parts (map onTable tableStages) (callStages l) (ran (runOf c)))
+    ∙ ap (λ (o : Option Refusal). unless (firstFault lentStages c) (unless o (unless (firstFault (callStages l) c) (ran (runOf c))))) (first-in-part (λ (d : Call). d .table) c tableStages)
+  where
+    parts : (ss ts : List (Stage Call)) (r : Result) → unless (firstFault (ss ++ ts) c) r ≡ unless (firstFault ss c) (unless (firstFault ts c) r)
+    parts ss ts r = ap (λ (o : Option Refusal). unless o r) (first-of-both c ss ts) ∙ unless-either (firstFault ss c) (firstFault ts c) r
 
 -- the result of a task: the refusal of the table, then of the sheet, then of the budget, or else the run
 pub result-stages : (t : Task) → result t ≡ unless (check (t .rows)) (unless (sheetFault (t .rows) (t .sheet)) (unless (budgetFault maxBudget (t .budget)) (ran (run (t .rows) (readings (t .rows) (t .sheet)) (t .choices) (t .budget)))))
 unfolding result check firstFault
 result-stages t =
-    call-stages (onRows t none)
-    ∙ ap (unless (check (t .rows))) (unless-either (sheetFault (t .rows) (t .sheet)) (either (budgetFault maxBudget (t .budget)) none) (ran (runOf (onRows t none))))
-    ∙ ap (λ (o : Option Refusal). unless (check (t .rows)) (unless (sheetFault (t .rows) (t .sheet)) (unless o (ran (runOf (onRows t none)))))) (or-nothing (budgetFault maxBudget (t .budget)))
+    let r = ran (runOf (onRows t none)) in
+    call-stages limits (onRows t none)
+    ∙ ap (unless (check (t .rows))) (unless-either (sheetFault (t .rows) (t .sheet)) (either (budgetFault maxBudget (t .budget)) none) r)
+    ∙ ap (λ (o : Option Refusal). unless (check (t .rows)) (unless (sheetFault (t .rows) (t .sheet)) (unless o r))) (or-nothing (budgetFault maxBudget (t .budget)))
 
 -- of a task whose table is bytes: the refusal of the bytes, or else the result of the task with their rows
 pub result-of-bytes : (table sheet choices : List ℕ) (budget : ℕ)

@@ -40,19 +40,23 @@ pub record Call : Type 0 where
   pub choices : List ℕ
   pub budget : ℕ
 
--- a stage that looks at the lent buffers of a call
-abbrev pub inLent : Stage Buffers → Option Buffers → Option Refusal
+-- a stage that looks at the lent buffers, if there are any
+abbrev pub inLent : Stage Buffers → Stage (Option Buffers)
 inLent stage none = none
 inLent stage (some b) = stage b
 
--- one that looks at bytes
+-- one that looks at the bytes of a table, if it is bytes
 abbrev pub inBytes : Stage (List ℕ) → Stage Table
 inBytes stage (ofNumbers rows) = none
 inBytes stage (ofBytes table) = stage table
 
--- one that looks at rows
+-- one that looks at its rows
 abbrev pub inRows : Stage (List ℤ) → Stage Table
 inRows stage t = stage (rowsIn t)
+
+-- one that looks at the table of a call
+abbrev pub onTable : Stage Table → Stage Call
+onTable stage c = stage (c .table)
 
 -- 1: "a lent buffer is too short"
 unfoldable pub bufferFault : Stage Buffers
@@ -62,14 +66,14 @@ bufferFault b = ifElse (tooShort b) (some (1, 0)) none
 unfoldable pub budgetFault : ℕ → Stage ℕ
 budgetFault limit budget = ifElse (ltb limit budget) (some (11, 0)) none
 
--- the lent buffers
-abbrev pub lentStages : List (Stage Buffers)
+-- The lent buffers
+abbrev pub lentStages : List (Stage Call)
 lentStages =
     -- 1, place 0: "a lent buffer is too short"
-    bufferFault
+    (λ c. inLent bufferFault (c .lent))
     ∷ []
 
--- what is given as a table
+-- What is given as a table
 abbrev pub inputStages : List (Stage Table)
 inputStages =
     -- 2, "line, 0 if too long": "table bytes not as above"; 3, 1,024: "more rows (in bytes, line 1,026 exists)"
@@ -78,7 +82,7 @@ inputStages =
     ∷ inRows numbersFault
     ∷ []
 
--- its rows
+-- Its rows
 abbrev pub rowStages : List (Stage (List ℤ))
 rowStages =
     -- 4, "lowest row at fault": "unknown kind, late declaration, operator or value out of range, a name that is no declaration ..."
@@ -91,11 +95,11 @@ rowStages =
     ∷ usageFault
     ∷ []
 
--- what the verdict on a table looks at
+-- The table: what the verdict looks at
 abbrev pub tableStages : List (Stage Table)
 tableStages = inputStages ++ map inRows rowStages
 
--- what else is given with an accepted table
+-- What else is given, beside an accepted table
 abbrev pub callStages : Limits → List (Stage Call)
 callStages l =
     -- 10, "line, 0 if too long": "readings not as above"
@@ -104,6 +108,6 @@ callStages l =
     ∷ (λ c. budgetFault (l .budget) (c .budget))
     ∷ []
 
--- all of them
+-- All of them
 abbrev pub stages : Limits → List (Stage Call)
-stages l = map (λ (s : Stage Buffers). λ c. inLent s (c .lent)) lentStages ++ (map (λ (s : Stage Table). λ c. s (c .table)) tableStages ++ callStages l)
+stages l = lentStages ++ (map onTable tableStages ++ callStages l)

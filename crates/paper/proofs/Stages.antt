@@ -29,7 +29,7 @@ use Rattle.machine.proofs.HeldLaws.{states-are}
 use Rattle.machine.proofs.LentLists.{lent-at}
 use Rattle.lending.specs.declared.Done.{Done}
 use Rattle.lending.specs.Replies.{replyIn}
-use Rattle.tasks.proofs.Stages.{task-run}
+use Rattle.entries.proofs.Stages.{task-run}
 use Rattle.printing.specs.declared.Parts.{Parts}
 use Rattle.printing.specs.Decoding.{tableRows, resultIn}
 use Rattle.printing.specs.Splitting.{Splits}
