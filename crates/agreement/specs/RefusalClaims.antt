@@ -14,8 +14,8 @@ use Rattle.meaning.specs.Answers.{Task, check, checkBytes, reply, replyToBytes}
 
 module _ (rows : List ℤ) where
   -- a row of a table of at most 1,024
-  abbrev pub IsRow : ℕ → Type 0
-  IsRow r = (r < rowCount rows) × (rowCount rows ≤ maxRows)
+  abbrev pub RowWithin : ℕ → Type 0
+  RowWithin r = (r < rowCount rows) × (rowCount rows ≤ maxRows)
 
   -- a refusal of the table: its number and its place
   pub data TableRefusal : ℕ → ℕ → Type 0 where
@@ -24,13 +24,13 @@ module _ (rows : List ℤ) where
     -- 3, "1,024" and "whole rows, 1,024 at most"
     rows-not-whole : {count : ℕ} → count ≤ maxRows → TableRefusal 3 count
     -- 4, "lowest row at fault"
-    misformed-row : {r : ℕ} → IsRow r → TableRefusal 4 r
+    misformed-row : {r : ℕ} → RowWithin r → TableRefusal 4 r
     -- 5, "lowest row at fault, or the count of rows if there is no root"
     misplaced-row : {r : ℕ} → r ≤ rowCount rows → rowCount rows ≤ maxRows → TableRefusal 5 r
     -- 6, "declaration that passes a limit"
-    passing-declaration : {r : ℕ} → r < declarations rows → IsRow r → TableRefusal 6 r
+    passing-declaration : {r : ℕ} → r < declarations rows → RowWithin r → TableRefusal 6 r
     -- 7, 8, 9, "lowest PAR with a clash of that sort"
-    clashing-par : {number r : ℕ} → 7 ≤ number → number ≤ 9 → kindAt rows r ≡ 31 → IsRow r → TableRefusal number r
+    clashing-par : {number r : ℕ} → 7 ≤ number → number ≤ 9 → kindAt rows r ≡ 31 → RowWithin r → TableRefusal number r
 
   -- a refusal of a call
   pub data OneOfEleven : ℕ → ℕ → Type 0 where

@@ -7,7 +7,7 @@ use lib.IntN.{ℤ}
 use lib.Dec.{ltb}
 use Rattle.meaning.specs.Limits.{maxBudget}
 use Rattle.meaning.specs.Basics.{ifElse}
-use Rattle.meaning.specs.Refusals.{Refusal, Stage}
+use Rattle.meaning.specs.Refusals.{Stage}
 use Rattle.meaning.specs.TableBytes.{bytesFault, rowsOf, numbersFault}
 use Rattle.meaning.specs.Verdict.{formFault, treeFault, limitFault}
 use Rattle.meaning.specs.Usage.{usageFault}

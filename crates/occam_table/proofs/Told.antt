@@ -12,11 +12,10 @@ use Rattle.meaning.specs.declared.Outcome.{Outcome}
 use Rattle.meaning.specs.declared.Outcome.the-variants.{Ended, Stuck, Broken, Spent}
 use Rattle.meaning.specs.declared.Answer.{Answer}
 use Rattle.meaning.specs.declared.Answer.the-variants.{Refused, Ran}
-use Rattle.meaning.specs.declared.Verdict.{Verdict}
 use Rattle.meaning.specs.declared.Verdict.the-variants.{Accepted, Rejected}
 use Rattle.agreement.specs.RefusalClaims.{TableRefusal, OneOfEleven}
 use Rattle.agreement.proofs.RefusalPlaces.{rows-refused, bytes-refused, rows-call-refused, bytes-call-refused, table-known, numbers-known}
-use Rattle.occam_table.specs.Packing.{outcomeNumber, verdictNumber, answerNumber}
+use Rattle.occam_table.specs.Packing.{outcomeNumber}
 use Rattle.occam_table.specs.PackingClaims.{PossibleAnswer, PossibleVerdict, AnswersTold, VerdictsTold, CallsPossible, ChecksPossible}
 use Rattle.occam_table.proofs.Outcomes.{outcome-some, outcome-small}
 
