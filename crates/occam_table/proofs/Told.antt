@@ -2,7 +2,8 @@
 use mathlib.Core.Path.{_≡_, refl, ap₂}
 use mathlib.Core.List.{List}
 use mathlib.Core.Option.{Option, none, some}
-use Prim.Native.Nat.{ℕ}
+use Prim.Native.Nat.{ℕ, _+_, _*_, _≤_, _<_}
+use native.Mathlib.Decide.{decLt}
 use native.Mathlib.Omega.{arith}
 use lib.IntN.{ℤ}
 use Rattle.meaning.specs.Refusals.{Refusal}
@@ -38,6 +39,15 @@ outcomes-told Spent Stuck e = absurd (omega arith)
 outcomes-told Spent Broken e = absurd (omega arith)
 outcomes-told Spent Spent e = refl
 
+-- the steps, and so the outcome's number
+parts-told : (a b k l : ℕ) → a ≤ 4 → b ≤ 4 → 256 * a + 65536 * k ≡ 256 * b + 65536 * l → (a ≡ b) × (k ≡ l)
+parts-told a b k l small little e = go (decLt k l) (decLt l k)
+  where
+    go : Dec (k < l) → Dec (l < k) → (a ≡ b) × (k ≡ l)
+    go (yes h) d = absurd (omega arith)
+    go (no h) (yes g) = absurd (omega arith)
+    go (no h) (no g) = let same : k ≡ l = omega arith in (omega arith, same)
+
 pub answers-told : AnswersTold
 answers-told (Refused n p) (Refused m q) h k e =
     let (_, small) = h in let (_, little) = k in
@@ -49,8 +59,8 @@ answers-told (Ran o k) (Refused n p) u h e =
     let (low, small) = h in let a = outcome-some o in let b = outcome-small o in
     absurd (omega arith)
 answers-told (Ran o k) (Ran p l) u v e =
-    let a = outcome-small o in let b = outcome-small p in
-    ap₂ Ran (outcomes-told o p (omega arith)) (omega arith)
+    let (outcome, steps) = parts-told (outcomeNumber o) (outcomeNumber p) k l (outcome-small o) (outcome-small p) e in
+    ap₂ Ran (outcomes-told o p outcome) steps
 
 pub verdicts-told : VerdictsTold
 verdicts-told Accepted Accepted h k e = refl
