@@ -77,3 +77,4 @@ pub mod OrdersCoherent
 pub mod Answered
 pub mod Calls
 pub mod Claims
+pub mod RefusalPlaces

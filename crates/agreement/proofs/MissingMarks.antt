@@ -1,6 +1,7 @@
 -- Marks and stored numbers stand for cells: the lent buffers give back the cells, and the number stored for an unset cell is never looked at.
 use mathlib.Core.Path.{_≡_, refl, sym, ap, ap₂, _∙_}
 use mathlib.Core.Logic.{_≢_}
+use mathlib.Core.Bool.{Bool, true, false}
 use mathlib.Core.Option.{none, some}
 use mathlib.Core.List.{List, [], _∷_, _++_, map}
 use Prim.Native.Nat.{ℕ, zero, suc, _<_, _≤_}
@@ -8,15 +9,18 @@ use native.Mathlib.Nat.{suc-inj, suc-ne-zero}
 use native.Mathlib.Omega.{arith}
 use lib.IntN.{ℤ}
 use lib.ListN.{length, getD, take, drop, replicate, length-append, length-replicate, List·getD-map}
+use lib.Dec.{eqb}
 use lib.Seq.{length-take-le, take-at, take-take, getD-take}
+use borrow.Author.Tests.{eqb-false}
+use Rattle.meaning.specs.Basics.{ifElse}
 use Rattle.meaning.specs.Limits.{maxCells}
 use Rattle.meaning.specs.Values.{value}
 use Rattle.meaning.specs.State.{Message, State}
 use Rattle.meaning.specs.Intent.{intent}
 use Rattle.meaning.specs.Ready.{ready, after}
 use Rattle.meaning.specs.Run.{go}
-use Rattle.meaning.specs.Buffers.{sized, lent, mark, numberIn, encode}
-use Rattle.agreement.specs.MissingClaims.{decodedCell, decoded, EncodedCells, EncodedDecodes, StoredZeroUnseen, stateWith, SameAnswers}
+use Rattle.meaning.specs.Buffers.{sized, lent, mark, numberIn, cellOf, decoded, encode}
+use Rattle.agreement.specs.MissingClaims.{EncodedCells, EncodedDecodes, StoredZeroUnseen, stateWith, SameAnswers}
 
 module _ {A B : Type 0} (f : A → B) (d : A) where
   -- a function of each element, of a list that is cut
@@ -70,8 +74,8 @@ pub encoded-cells : EncodedCells
 unfolding encode
 encoded-cells rows s b i h = (lent-at mark none maxCells i (s .store .cells) (b .marks) h, lent-at numberIn none maxCells i (s .store .cells) (b .cells) h)
 
--- marks and numbers of cells stand for the cells
-decoded-cells : (l : List Message) → decoded (map mark l) (map numberIn l) ≡ l
+-- numbers and marks of cells stand for the cells
+decoded-cells : (l : List Message) → decoded (map numberIn l) (map mark l) ≡ l
 decoded-cells [] = refl
 decoded-cells (none ∷ l) = ap (λ (r : List Message). none ∷ r) (decoded-cells l)
 decoded-cells (some z ∷ l) = ap (λ (r : List Message). some z ∷ r) (decoded-cells l)
@@ -80,20 +84,23 @@ decoded-cells (some z ∷ l) = ap (λ (r : List Message). some z ∷ r) (decoded
 pub encoded-decodes : EncodedDecodes
 unfolding encode
 encoded-decodes rows s b = (
-  ap₂ decoded (lent-front mark none maxCells (s .store .cells) (b .marks)) (lent-front numberIn none maxCells (s .store .cells) (b .cells)) ∙ decoded-cells (sized maxCells none (s .store .cells)),
-  λ h. ap₂ decoded (lent-list mark none maxCells (s .store .cells) (b .marks) h) (lent-list numberIn none maxCells (s .store .cells) (b .cells) h) ∙ decoded-cells (s .store .cells),
+  ap₂ decoded (lent-front numberIn none maxCells (s .store .cells) (b .cells)) (lent-front mark none maxCells (s .store .cells) (b .marks)) ∙ decoded-cells (sized maxCells none (s .store .cells)),
+  λ h. ap₂ decoded (lent-list numberIn none maxCells (s .store .cells) (b .cells) h) (lent-list mark none maxCells (s .store .cells) (b .marks) h) ∙ decoded-cells (s .store .cells),
 )
 
-same-cell : (m : ℕ) (z y : ℤ) → (m ≢ 0 → z ≡ y) → decodedCell m z ≡ decodedCell m y
-same-cell zero z y h = refl
-same-cell (suc m) z y h = ap {B = Message} some (h (suc-ne-zero m))
+same-cell : (m : ℕ) (z y : ℤ) → (m ≢ 0 → z ≡ y) → cellOf z m ≡ cellOf y m
+same-cell m z y h = go (eqb m 0) refl
+  where
+    go : (t : Bool) → eqb m 0 ≡ t → ifElse t none (some z) ≡ ifElse t none (some y)
+    go true e = refl
+    go false e = ap {B = Message} some (h (eqb-false m 0 e))
 
 -- numbers that are equal where the mark is not 0 stand for the same cells
 pub stored-zero-unseen : StoredZeroUnseen
-stored-zero-unseen [] v w h = refl
-stored-zero-unseen (m ∷ ms) [] [] h = refl
-stored-zero-unseen (m ∷ ms) [] (y ∷ w) h = absurd (suc-ne-zero (length w) (sym (h .0)))
-stored-zero-unseen (m ∷ ms) (z ∷ v) [] h = absurd (suc-ne-zero (length v) (h .0))
+stored-zero-unseen ms [] [] h = refl
+stored-zero-unseen ms [] (y ∷ w) h = absurd (suc-ne-zero (length w) (sym (h .0)))
+stored-zero-unseen ms (z ∷ v) [] h = absurd (suc-ne-zero (length v) (h .0))
+stored-zero-unseen [] (z ∷ v) (y ∷ w) h = refl
 stored-zero-unseen (m ∷ ms) (z ∷ v) (y ∷ w) h =
     ap₂ (λ (c : Message) (r : List Message). c ∷ r) (same-cell m z y (h .1 0)) (stored-zero-unseen ms v w (suc-inj (h .0), λ i. h .1 (suc i)))
 

@@ -14,7 +14,6 @@ pub mod ReadLaws
 pub mod ReferenceCounts
 pub mod RefusalExamples
 pub mod RowLaws
-pub mod RunnerExamples
 pub mod RunnerLaws
 pub mod ScanLaws
 pub mod SheetLaws

@@ -3,7 +3,8 @@
 pub mod Basics
 pub mod Texts
 pub mod Limits
--- The table: numbers and lines, refusals 2 and 3, rows, kinds, refusals 4, 5 and 6, the tree
+-- The table: refusals, numbers and lines, refusals 2 and 3, rows, kinds, refusals 4, 5 and 6, the tree
+pub mod Refusals
 pub mod Numerals
 pub mod Lines
 pub mod TableBytes
@@ -28,9 +29,10 @@ pub mod Settle
 pub mod Intent
 pub mod Ready
 pub mod Run
--- Readings and results: refusal 10, the lent buffers, the whole answer
+-- Readings and results: refusal 10, the lent buffers, the stages of a call, the whole answer
 pub mod Sheet
 pub mod Buffers
+pub mod Stages
 pub mod Answers
 -- A run on paper
 pub mod Printing
