@@ -76,3 +76,10 @@ pub mod OrdersCoherent
 pub mod Answered
 pub mod Calls
 pub mod Claims
+pub mod AsDeclared
+pub mod HostOutputs
+pub mod GivenLists
+pub mod TableLimits
+pub mod BuffersHold
+pub mod BuffersExact
+pub mod DecodedStates

@@ -25,3 +25,4 @@ pub mod Marked
 pub mod LowestLaws
 pub mod HigherRows
 pub mod FirstLine
+pub mod LentLaws

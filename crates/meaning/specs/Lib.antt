@@ -22,9 +22,10 @@ pub mod State
 pub mod Intent
 pub mod Ready
 pub mod Run
--- Readings and results: refusal 10, the lent buffers, the whole answer
+-- Readings and results: refusal 10, the lent buffers, results read back, the whole answer
 pub mod Sheet
 pub mod Buffers
+pub mod Decode
 pub mod Answers
 -- A run on paper
 pub mod Printing
