@@ -15,7 +15,7 @@ use Rattle.meaning.specs.Intent.{entry}
 use Rattle.meaning.specs.Buffers.{Buffers}
 use Rattle.meaning.specs.PrintedForms.{Each, each-none, each-more}
 use Rattle.meaning.proofs.LentLaws.{entry-at}
-use Rattle.agreement.specs.BufferClaims.{AsDeclared, HoldsAt, Untouched, ToHost, outputNumber, stripBegins, listOf, BuffersHold, EncodeHolds}
+use Rattle.agreement.specs.BufferClaims.{AsDeclared, HoldsAt, UntouchedPast, ToHost, outputNumber, stripBegins, listOf, BuffersHold, EncodeHolds}
 use Rattle.agreement.proofs.AsDeclared.{reached-as-declared}
 use Rattle.agreement.proofs.HostOutputs.{sink-is, output-row, output-of}
 use Rattle.agreement.proofs.OrdersCoherent.{orders-coherent}
@@ -35,7 +35,7 @@ module _ {A : Type 0} where
   Both l m i = (v : A) × HoldsAt l i v × HoldsAt m i v
 
   -- buffers that hold the same below the limit, and past it what was there
-  same-buffer : (limit : ℕ) (old l m : List A) → Untouched limit old l → Untouched limit old m → ((i : ℕ) → i < limit → Both l m i) → l ≡ m
+  same-buffer : (limit : ℕ) (old l m : List A) → UntouchedPast limit old l → UntouchedPast limit old m → ((i : ℕ) → i < limit → Both l m i) → l ≡ m
   same-buffer limit old l m u w h = entries-equal l m (λ i. go i (decLt i limit))
     where
       go : (i : ℕ) → Dec (i < limit) → entry l i ≡ entry m i

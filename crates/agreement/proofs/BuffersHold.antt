@@ -15,7 +15,7 @@ use Rattle.meaning.specs.State.{Message, State}
 use Rattle.meaning.specs.Intent.{entry}
 use Rattle.meaning.specs.Buffers.{Buffers, tooShort, lent, mark, numberIn, capacities, strips, encode}
 use Rattle.meaning.proofs.LentLaws.{entry-is, lent-holds, lent-past, lent-length}
-use Rattle.agreement.specs.BufferClaims.{LongEnough, TooShortExactly, AsDeclared, HoldsAt, Untouched, ToHost, outputNumber, stripBegins, listOf, BuffersHold}
+use Rattle.agreement.specs.BufferClaims.{LongEnough, TooShortExactly, AsDeclared, HoldsAt, UntouchedPast, ToHost, outputNumber, stripBegins, listOf, BuffersHold}
 use Rattle.agreement.proofs.HostOutputs.{output-count, capacity-total, numbered-at}
 use Rattle.agreement.proofs.GivenLists.{strip-number, strips-length}
 use Rattle.agreement.proofs.TableLimits.{Limited}
@@ -51,7 +51,7 @@ too-short-exactly b = (to, from)
 
 -- Held -----------------------------------------------------------------------------------------------------------------------------
 
-lent-untouched : {A : Type 0} (n : ℕ) (d : A) (xs old : List A) → n ≤ length old → Untouched n old (lent n d xs old)
+lent-untouched : {A : Type 0} (n : ℕ) (d : A) (xs old : List A) → n ≤ length old → UntouchedPast n old (lent n d xs old)
 lent-untouched n d xs old h =
     record {
       past-limit = λ i l. let e : n + (i - n) ≡ i = omega arith in subst (λ (k : ℕ). entry (lent n d xs old) k ≡ entry old k) e (lent-past d n (i - n) xs old);

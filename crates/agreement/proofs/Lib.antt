@@ -83,3 +83,5 @@ pub mod TableLimits
 pub mod BuffersHold
 pub mod BuffersExact
 pub mod DecodedStates
+pub mod CallsOnBytes
+pub mod ResultsRead

@@ -7,6 +7,8 @@ use mathlib.Core.List.{List, []}
 use Prim.Native.Nat.{ℕ, _+_, _<_, _≤_}
 use lib.IntN.{ℤ, pos}
 use lib.ListN.{length, getD}
+use Rattle.meaning.specs.declared.Outcome.{Outcome}
+use Rattle.meaning.specs.declared.Answer.the-variants.{Ran}
 use Rattle.meaning.specs.Limits.{maxRows, maxCells, maxPorts, maxCapacity}
 use Rattle.meaning.specs.Rows.{rowCount, declarations}
 use Rattle.meaning.specs.Declarations.{sumBelow, hasRole, portsAt, capacityAt, totalCells, totalPorts}
@@ -15,8 +17,9 @@ use Rattle.meaning.specs.Intent.{Sheet, entry}
 use Rattle.meaning.specs.Buffers.{Buffers, tooShort, encode}
 use Rattle.meaning.specs.Decode.{decode}
 use Rattle.meaning.specs.PrintedForms.{Each}
-use Rattle.meaning.specs.Answers.{check}
+use Rattle.meaning.specs.Answers.{Task, check, reply, replyToBytes}
 use Rattle.agreement.specs.Statements.{Reached}
+use Rattle.agreement.specs.CallClaims.{Call, taskOfBytes, RanAs}
 
 -- "Each lent buffer must be as long as its limit above"
 pub record LongEnough (b : Buffers) : Type 0 where
@@ -54,7 +57,7 @@ abbrev pub HoldsAt : {A : Type 0} → List A → ℕ → A → Type 0
 HoldsAt l i v = entry l i ≡ some v
 
 -- "what is past the limit is untouched", and the buffer is as long as it was
-pub record Untouched {A : Type 0} (limit : ℕ) (before after : List A) : Type 0 where
+pub record UntouchedPast {A : Type 0} (limit : ℕ) (before after : List A) : Type 0 where
   pub past-limit : (i : ℕ) → limit ≤ i → entry after i ≡ entry before i
   pub as-long : length after ≡ length before
 
@@ -92,12 +95,12 @@ pub record BuffersHold (rows : List ℤ) (s : State) (before after : Buffers) : 
   pub unused-number : (i : ℕ) → stripBegins rows (declarations rows) ≤ i → i < maxCapacity → HoldsAt (after .numbers) i (pos 0)
   pub count : (r : ℕ) → ToHost rows r → HoldsAt (after .counts) (outputNumber rows r) (length (listOf rows r s))
   pub unused-count : (c : ℕ) → totalPorts 2 rows ≤ c → c < maxPorts → HoldsAt (after .counts) c 0
-  pub cells-past : Untouched maxCells (before .cells) (after .cells)
-  pub marks-past : Untouched maxCells (before .marks) (after .marks)
-  pub states-past : Untouched maxRows (before .states) (after .states)
-  pub places-past : Untouched maxPorts (before .places) (after .places)
-  pub numbers-past : Untouched maxCapacity (before .numbers) (after .numbers)
-  pub counts-past : Untouched maxPorts (before .counts) (after .counts)
+  pub cells-past : UntouchedPast maxCells (before .cells) (after .cells)
+  pub marks-past : UntouchedPast maxCells (before .marks) (after .marks)
+  pub states-past : UntouchedPast maxRows (before .states) (after .states)
+  pub places-past : UntouchedPast maxPorts (before .places) (after .places)
+  pub numbers-past : UntouchedPast maxCapacity (before .numbers) (after .numbers)
+  pub counts-past : UntouchedPast maxPorts (before .counts) (after .counts)
 
 -- what `encode` leaves of a reached state holds it so, and nothing else does
 abbrev pub EncodeHolds : Type 0
@@ -114,3 +117,13 @@ DecodedState = (rows : List ℤ) (sheet : Sheet) (s : State) → check rows ≡ 
 abbrev pub EqualBuffers : Type 0
 EqualBuffers = (rows : List ℤ) (sheet other : Sheet) (s t : State) → check rows ≡ none → Reached rows sheet s → Reached rows other t
     → (b c : Buffers) → encode rows s b ≡ encode rows t c → s ≡ t
+
+-- a call that ran has left the state that its order comes to, and that state comes back
+abbrev pub LeavesState : Call → Task → Type 0
+LeavesState call t = (b : Buffers) (outcome : Outcome) (steps : ℕ) → call b .answer ≡ Ran outcome steps
+    → (run : RanAs t b (call b) outcome steps) × BuffersHold (t .rows) (run .end) b (call b .buffers) × (decode (t .rows) (call b .buffers) ≡ run .end)
+
+-- on rows, and on a table's bytes
+abbrev pub ResultsReadBack : Type 0
+ResultsReadBack = ((t : Task) → LeavesState (reply t) t)
+    × ((table sheet choices : List ℕ) (budget : ℕ) → LeavesState (replyToBytes table sheet choices budget) (taskOfBytes table sheet choices budget))
