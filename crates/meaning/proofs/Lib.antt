@@ -26,3 +26,7 @@ pub mod LowestLaws
 pub mod HigherRows
 pub mod FirstLine
 pub mod LentLaws
+pub mod LineIsLaws
+pub mod LineFaults
+pub mod BytesRefused
+pub mod SheetRefused

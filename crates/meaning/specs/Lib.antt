@@ -33,6 +33,7 @@ pub mod Runner
 pub mod Marked
 -- The same as statements, with no test and no order of looking
 pub mod PrintedForms
+pub mod ByteClaims
 pub mod Faults
 pub mod Clash
 pub mod SettlingRules
