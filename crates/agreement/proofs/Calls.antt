@@ -146,9 +146,9 @@ set-or-not (some z) = (λ h. (refl, refl), λ e. absurd (omega arith))
 pub missing-answered : MissingAnswered
 missing-answered t b o n e =
     let a = run-answered t b o n e in
-    (a .labels, (a .end, a .order, a .chosen, a .steps-taken, a .left, cell a))
+    (a, cell a)
   where
-    cell : (a : RanAs t b o n) (i : ℕ) → i < maxCells
+    cell : (a : RanAs t b (reply t b) o n) (i : ℕ) → i < maxCells
         → let m = getD (reply t b .buffers .marks) i 0 in
         let z = getD (reply t b .buffers .cells) i (pos 0) in
         (m ≢ 0 → (m ≡ 1) × HandedTo (t .rows) (t .sheet) (a .labels) i z) × (m ≡ 0 → z ≡ pos 0)
@@ -161,7 +161,7 @@ missing-answered t b o n e =
           λ k. q ∙ unset (sym p ∙ k),
         )
       where
-        handed : (a : RanAs t b o n) (i : ℕ) (z : ℤ) → cellOf (a .end) i ≡ some z → HandedTo (t .rows) (t .sheet) (a .labels) i z
+        handed : (a : RanAs t b (reply t b) o n) (i : ℕ) (z : ℤ) → cellOf (a .end) i ≡ some z → HandedTo (t .rows) (t .sheet) (a .labels) i z
         handed a i z c =
             let (before, (x, (later, (u, (parts, order, handed))))) = set-in-order (t .rows) (readings (t .rows) (t .sheet)) (a .labels) (a .end) (a .order) i z c in
             record { before = before; label = x; later = later; at = u; parts = parts; order = order; handed = handed }

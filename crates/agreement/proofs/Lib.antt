@@ -78,3 +78,12 @@ pub mod Answered
 pub mod Calls
 pub mod Claims
 pub mod RefusalPlaces
+pub mod AsDeclared
+pub mod HostOutputs
+pub mod GivenLists
+pub mod TableLimits
+pub mod BuffersHold
+pub mod BuffersExact
+pub mod DecodedStates
+pub mod CallsOnBytes
+pub mod ResultsRead

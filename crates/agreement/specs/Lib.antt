@@ -6,3 +6,4 @@ pub mod VerdictClaims
 pub mod Coherence
 pub mod CallClaims
 pub mod RefusalClaims
+pub mod BufferClaims

@@ -24,3 +24,8 @@ pub mod Marked
 pub mod LowestLaws
 pub mod HigherRows
 pub mod FirstLine
+pub mod LentLaws
+pub mod LineIsLaws
+pub mod LineFaults
+pub mod BytesRefused
+pub mod SheetRefused
