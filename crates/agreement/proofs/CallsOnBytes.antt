@@ -9,14 +9,16 @@ use Rattle.meaning.specs.declared.Outcome.{Outcome}
 use Rattle.meaning.specs.declared.Answer.the-variants.{Refused, Ran}
 use Rattle.meaning.specs.TableBytes.{Refusal, bytesFault, rowsOf}
 use Rattle.meaning.specs.Buffers.{Buffers, tooShort}
-use Rattle.meaning.specs.Answers.{bufferFault, Reply, reply, replyToBytes}
+use Rattle.meaning.specs.Stages.{bufferFault}
+use Rattle.meaning.specs.Answers.{Reply, reply, replyToBytes}
+use Rattle.meaning.proofs.AnswerLaws.{reply-stages, reply-to-bytes}
 use Rattle.agreement.specs.CallClaims.{taskOfBytes, ShortRefused, RefusedUntouchedBytes, RunAnsweredBytes, RanUnrefused, OrderAnsweredBytes, RanAs, HandedCells, MissingAnsweredBytes}
 use Rattle.agreement.proofs.Calls.{refused-untouched, bytes-as-rows, run-answered, order-answered, missing-answered}
 
 -- a buffer that is too short is the first fault, on rows and on bytes
 pub short-refused : ShortRefused
-unfolding reply replyToBytes bufferFault
-short-refused = (λ t b e. rw e, λ table sheet choices budget b e. rw e)
+unfolding bufferFault
+short-refused = (λ t b e. rw (reply-stages t b, e), λ table sheet choices budget b e. rw (reply-to-bytes table sheet choices budget b, e))
 
 no-run : (f : Refusal) (o : Outcome) (n : ℕ) → Refused (f .0) (f .1) ≡ Ran o n → ⊥
 no-run f o n e = let z : _≡_ {A = ℕ} 0 1 = cc in omega arith
