@@ -52,6 +52,8 @@ pub mod FewReady
 pub mod Choosable
 pub mod Demands
 pub mod UsageRows
+pub mod UsageLists
+pub mod UsageReferences
 pub mod UsageTree
 pub mod UsageParts
 pub mod UsageWithin

@@ -8,7 +8,7 @@ use lib.IntN.{ℤ}
 use Rattle.meaning.specs.declared.Node.{Node}
 use Rattle.meaning.specs.declared.Node.the-variants.{Literal, Element, Monadic, Dyadic, Stop, Skip, Assignment, Input, Output, Seq, Par, If, While, Alt, Member, Choice, Option as Alternative, Guard, Other}
 use Rattle.meaning.specs.Rows.{rowCount, nodeAt}
-use Rattle.meaning.specs.Faults.{of-a, of-b, Refers}
+use Rattle.meaning.specs.References.{of-a, of-b, Refers}
 use Rattle.meaning.specs.Tree.{Action, Process, node, Members, Part, noPart, partOf, partAt, orStop, actionOf, rowsIn}
 use Rattle.meaning.specs.State.{program, processAt, whole}
 use Rattle.meaning.specs.Answers.{check}

@@ -4,7 +4,7 @@ use mathlib.Core.Logic.{_≢_, _⊎_, inl, inr}
 use mathlib.Core.Bool.{Bool, true, false, _&&_}
 use mathlib.Core.Option.{none, some, Option·some-ne-none}
 use mathlib.Core.List.{List, [], _∷_}
-use Prim.Native.Nat.{ℕ, _<_, _≤_, _%_}
+use Prim.Native.Nat.{ℕ, suc, _<_, _≤_, _%_}
 use native.Mathlib.Omega.{arith}
 use native.Mathlib.Decide.{decLt}
 use lib.IntN.{ℤ, pos}
@@ -16,7 +16,8 @@ use Rattle.meaning.specs.declared.Node.the-variants.{Literal, Element, Monadic,
 use Rattle.meaning.specs.Rows.{ifElse, rowCount, naturalOf, kindAt, declarations, nodeAt}
 use Rattle.meaning.specs.TableBytes.{Refusal, numbersFault}
 use Rattle.meaning.specs.Kinds.{Field, unused, value, within, elements, capacity, variable, channel, reference, link, Shape, shape, shapeOf, shapes, shapeIn, expression, process}
-use Rattle.meaning.specs.Faults.{Place, of-a, of-b, fieldOf, numberOf, IsTarget, RefersBy, Leads, Refers, Once, Placed, WellPlaced}
+use Rattle.meaning.specs.References.{Place, of-a, of-b, fieldOf, numberOf, IsTarget, RefersBy, Refers}
+use Rattle.meaning.specs.Faults.{Leads, Once, Placed, WellPlaced}
 use Rattle.meaning.proofs.AnswerLaws.{RightRows}
 use Rattle.meaning.proofs.OneTreeLaw.{declared, declares-only}
 use Rattle.meaning.proofs.ReferenceCounts.{bounds}
@@ -107,6 +108,40 @@ module _ (rows : List ℤ) where
       (if-else (Fields r) (eqb k 43) (λ e. tt)
       tt)))))))))))))))))
 
+  undeclared : (r : ℕ) → 2 < kindAt rows r → declarations rows ≤ r
+  undeclared r g = go (decLt r (declarations rows))
+    where
+      go : Dec (r < declarations rows) → declarations rows ≤ r
+      go (yes l) = absurd (either (declared rows r l))
+        where
+          either : (kindAt rows r ≡ 1) ⊎ (kindAt rows r ≡ 2) → ⊥
+          either (inl e) = omega arith
+          either (inr e) = omega arith
+      go (no l) = omega arith
+
+  -- of rows that stage 5 passes, and that are not too many
+  module _ (few : rowCount rows ≤ 1024) (placed : (r : ℕ) → r < suc (rowCount rows) → WellPlaced rows r) where
+    -- a row after the declarations is placed as the stage 5 asks
+    pub row-placed : (r : ℕ) → declarations rows ≤ r → r < rowCount rows → Placed rows r
+    unfolding WellPlaced
+    row-placed r d l = placed r (omega arith) .1 (d, l)
+
+    -- a field leads to where it may
+    pub row-leads : (r k : ℕ) (s : Shape) → r < rowCount rows → Shaped r k s → (p : Place) → Leads rows r (fieldOf s p) (numberOf rows r p)
+    unfolding Placed
+    row-leads r k s l h p = row-placed r (undeclared r (rw (h .0) (h .1))) l .0 s (rw (h .0) (h .2)) p
+
+    pub to-row : (r b : ℕ) (f : Field) (z : ℤ) → Leading f → Leads rows r f z → naturalOf z ≡ b → b < rowCount rows → RefersBy rows r f z b
+    unfolding Leads RefersBy
+    to-row r b (reference ks) z u h e l = let i : h .0 ≡ b = sym (ap naturalOf (h .1)) ∙ e in (h .1 ∙ ap pos i, subst (IsTarget rows r ks) i (h .2))
+    to-row r b (link ks) z u (inl n) e l = absurd (let i : 4294967295 ≡ b = sym (ap naturalOf n) ∙ e in omega (arith, few))
+    to-row r b (link ks) z u (inr h) e l = let i : h .0 ≡ b = sym (ap naturalOf (h .1)) ∙ e in (h .1 ∙ ap pos i, subst (IsTarget rows r ks) i (h .2))
+
+    -- so where a field may refer to a row and holds one, it does refer to it
+    pub row-refers : (r k b : ℕ) (s : Shape) (p : Place) → r < rowCount rows → Shaped r k s → Leading (fieldOf s p) → Holding r p b → b < rowCount rows → Refers rows r p b
+    unfolding Refers
+    row-refers r k b s p l h u e m = (s, rw (h .0) (h .2), to-row r b (fieldOf s p) (numberOf rows r p) u (row-leads r k s l h p) e m)
+
   module _ (A : RightRows rows) where
     pub few-rows : rowCount rows ≤ 1024
     unfolding numbersFault
@@ -117,37 +152,14 @@ module _ (rows : List ℤ) where
         go true false e f h = absurd (Option·some-ne-none f h)
         go false t e f h = absurd (Option·some-ne-none f h)
 
-    -- a row after the declarations is placed as the stage 5 asks
     pub placed-at : (r : ℕ) → declarations rows ≤ r → r < rowCount rows → Placed rows r
-    unfolding WellPlaced
-    placed-at r d l = A .2 r (omega arith) .1 (d, l)
+    placed-at = row-placed few-rows (A .2)
 
-    undeclared : (r : ℕ) → 2 < kindAt rows r → declarations rows ≤ r
-    undeclared r g = go (decLt r (declarations rows))
-      where
-        go : Dec (r < declarations rows) → declarations rows ≤ r
-        go (yes l) = absurd (either (declared rows r l))
-          where
-            either : (kindAt rows r ≡ 1) ⊎ (kindAt rows r ≡ 2) → ⊥
-            either (inl e) = omega arith
-            either (inr e) = omega arith
-        go (no l) = omega arith
-
-    -- a field leads to where it may
     pub leads-at : (r k : ℕ) (s : Shape) → r < rowCount rows → Shaped r k s → (p : Place) → Leads rows r (fieldOf s p) (numberOf rows r p)
-    unfolding Placed
-    leads-at r k s l h p = placed-at r (undeclared r (rw (h .0) (h .1))) l .0 s (rw (h .0) (h .2)) p
+    leads-at = row-leads few-rows (A .2)
 
-    to-row : (r b : ℕ) (f : Field) (z : ℤ) → Leading f → Leads rows r f z → naturalOf z ≡ b → b < rowCount rows → RefersBy rows r f z b
-    unfolding Leads RefersBy
-    to-row r b (reference ks) z u h e l = let i : h .0 ≡ b = sym (ap naturalOf (h .1)) ∙ e in (h .1 ∙ ap pos i, subst (IsTarget rows r ks) i (h .2))
-    to-row r b (link ks) z u (inl n) e l = absurd (let i : 4294967295 ≡ b = sym (ap naturalOf n) ∙ e in omega (arith, few-rows))
-    to-row r b (link ks) z u (inr h) e l = let i : h .0 ≡ b = sym (ap naturalOf (h .1)) ∙ e in (h .1 ∙ ap pos i, subst (IsTarget rows r ks) i (h .2))
-
-    -- so where a field may refer to a row and holds one, it does refer to it
     pub refers-to : (r k b : ℕ) (s : Shape) (p : Place) → r < rowCount rows → Shaped r k s → Leading (fieldOf s p) → Holding r p b → b < rowCount rows → Refers rows r p b
-    unfolding Refers
-    refers-to r k b s p l h u e m = (s, rw (h .0) (h .2), to-row r b (fieldOf s p) (numberOf rows r p) u (leads-at r k s l h p) e m)
+    refers-to = row-refers few-rows (A .2)
 
     pub refers-up : (r c : ℕ) (p : Place) → Refers rows r p c → (r < c) × (c < rowCount rows)
     unfolding Refers

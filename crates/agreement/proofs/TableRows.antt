@@ -10,7 +10,7 @@ use Rattle.meaning.specs.declared.Node.{Node}
 use Rattle.meaning.specs.declared.Node.the-variants.{Literal, Element, Monadic, Dyadic, Stop, Skip, Assignment, Input, Output, Seq, Par, If, While, Alt, Member, Choice, Option as Alternative, Guard, Other}
 use Rattle.meaning.specs.Rows.{rowCount, nodeAt}
 use Rattle.meaning.specs.Kinds.{Shape}
-use Rattle.meaning.specs.Faults.{Place, of-a, of-b, fieldOf, Refers}
+use Rattle.meaning.specs.References.{Place, of-a, of-b, fieldOf, Refers}
 use Rattle.meaning.specs.Tree.{Action, stop, skip, sequence, parallel, assign, receive, send, conditional, loop, alternation, Process, node, Members, empty, Part, noPart, andMember, receiveOf, partOf, partAt, rowsIn, rowsBeneath}
 use Rattle.meaning.specs.Declarations.{variableAt, sinkAt}
 use Rattle.meaning.proofs.AnswerLaws.{RightRows}

@@ -14,7 +14,8 @@ use Rattle.meaning.specs.declared.Node.the-variants.{Literal, Element, Monadic,
 use Rattle.meaning.specs.Rows.{ifElse, rowCount, naturalOf, naturalAt, kindAt, declares, leading, declarations, root, nodeAt}
 use Rattle.meaning.specs.Kinds.{Field, reference, Shape, processes}
 use Rattle.meaning.specs.PrintedForms.{Each, each-none, each-more}
-use Rattle.meaning.specs.Faults.{Place, of-a, of-b, fieldOf, numberOf, Leads, Placed, WellPlaced}
+use Rattle.meaning.specs.References.{Place, of-a, of-b, fieldOf, numberOf}
+use Rattle.meaning.specs.Faults.{Leads, Placed, WellPlaced}
 use Rattle.meaning.specs.Tree.{IfChoice, AltOption, Action, Process, node, Members, empty, Part, noPart, andMember, partOf, partAt, actionOf, membersIn, rowOf}
 use Rattle.meaning.proofs.AnswerLaws.{RightRows}
 use Rattle.agreement.proofs.Commute.{Child, eldest, younger}

@@ -14,7 +14,8 @@ use Rattle.meaning.specs.declared.Node.{Node}
 use Rattle.meaning.specs.declared.Node.the-variants.{Literal, Element, Monadic, Dyadic, Stop, Skip, Assignment, Input, Output, Seq, Par, If, While, Alt, Member, Choice, Option as Alternative, Guard, Other}
 use Rattle.meaning.specs.Rows.{ifElse, naturalOf, rowCount, fieldAt, naturalAt, kindAt, declarations, nodeAt}
 use Rattle.meaning.specs.Kinds.{Shape, shapes, shapeIn, shapeOf, expressions, processes}
-use Rattle.meaning.specs.Faults.{Holds, IsOf, WellFormed, IsTarget, Leads, Place, of-a, of-b, of-c, fieldOf, numberOf, Placed, WellPlaced}
+use Rattle.meaning.specs.References.{IsOf, IsTarget, Place, of-a, of-b, of-c, fieldOf, numberOf}
+use Rattle.meaning.specs.Faults.{Holds, WellFormed, Leads, Placed, WellPlaced}
 use Rattle.meaning.proofs.OneTreeLaw.{declared}
 
 -- a row's kind with its fields, from its numbers

@@ -11,7 +11,8 @@ use Rattle.meaning.specs.Tree.{partAt}
 use Rattle.meaning.specs.TableBytes.{Refusal}
 use Rattle.meaning.specs.Verdict.{limitFault}
 use Rattle.meaning.specs.Values.{value}
-use Rattle.meaning.specs.Faults.{LowestWrong, WithinLimits, LimitStage}
+use Rattle.meaning.specs.Faults.{WithinLimits}
+use Rattle.meaning.specs.StageClaims.{LimitStage}
 use Rattle.meaning.specs.declared.Value.the-variants.{Missing}
 use Rattle.meaning.proofs.FaultLaws.{limit-stage}
 use Rattle.leaves.specs.Leaves.{valueAt}

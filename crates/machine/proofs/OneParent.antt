@@ -15,7 +15,8 @@ use Rattle.meaning.specs.declared.Node.the-variants.{Literal, Element, Monadic,
 use Rattle.meaning.specs.Basics.{among, lowest, Lowest}
 use Rattle.meaning.specs.Rows.{rowCount, nodeAt, declarations, root}
 use Rattle.meaning.specs.Kinds.{Shape}
-use Rattle.meaning.specs.Faults.{of-a, of-b, fieldOf, Refers, Placed}
+use Rattle.meaning.specs.References.{of-a, of-b, fieldOf, Refers}
+use Rattle.meaning.specs.Faults.{Placed}
 use Rattle.meaning.specs.Tree.{Process, Members, empty, also, Part, noPart, andMember, partOf, partAt, orStop, rowOf, membersIn}
 use Rattle.meaning.specs.Settle.{statesOf}
 use Rattle.meaning.specs.State.{Program, program, processAt}

@@ -10,9 +10,14 @@ pub mod TableBytes
 pub mod Rows
 pub mod Kinds
 pub mod Declarations
+pub mod References
+pub mod Faults
 pub mod Verdict
+pub mod StageClaims
 pub mod Tree
+pub mod TreeClaims
 -- Usage in a PAR: refusals 7, 8 and 9
+pub mod Clash
 pub mod Usage
 -- Values
 pub mod Values
@@ -32,8 +37,6 @@ pub mod Runner
 pub mod Marked
 -- The same as statements, with no test and no order of looking
 pub mod PrintedForms
-pub mod Faults
-pub mod Clash
 pub mod SettlingRules
 pub mod Step
 pub mod Order

@@ -13,7 +13,8 @@ use borrow.Author.Tests.{eq-eqb, ne-eqb}
 use Rattle.meaning.specs.Rows.{ifElse, rowCount, declarations}
 use Rattle.meaning.specs.Basics.{any}
 use Rattle.meaning.specs.Verdict.{limitFault}
-use Rattle.meaning.specs.Faults.{WithinLimits, LimitStage}
+use Rattle.meaning.specs.Faults.{WithinLimits}
+use Rattle.meaning.specs.StageClaims.{LimitStage}
 use Rattle.meaning.specs.Tree.{Action, stop, skip, sequence, parallel, assign, receive, send, conditional, loop, alternation, Process, node, Members, partAt}
 use Rattle.meaning.specs.Usage.{gather, gatherAll, cellClash, inputClash, outputClash, pairs, clashes, usageFault}
 use Rattle.meaning.proofs.FaultLaws.{limit-stage}
