@@ -67,6 +67,7 @@ pub mod UsageFirst
 pub mod VerdictStages
 pub mod UsageExact
 pub mod VerdictExact
+pub mod TreeRows
 pub mod RowsAscend
 pub mod Elements
 pub mod RunTakesOrder
@@ -75,6 +76,8 @@ pub mod KnownStates
 pub mod DataKept
 pub mod OrdersSettle
 pub mod OrdersCoherent
+pub mod TreeExact
+pub mod TreeIdle
 pub mod Answered
 pub mod Calls
 pub mod Claims

@@ -1,7 +1,7 @@
 -- In an accepted table: where the fields of a row lead, that a row is referred to once, and that what two fields lead to has no row in common.
 use mathlib.Core.Path.{_≡_, refl, sym, ap, subst, _∙_}
 use mathlib.Core.Logic.{_≢_, _⊎_, inl, inr}
-use mathlib.Core.Bool.{Bool, true, false, _&&_}
+use mathlib.Core.Bool.{Bool, true, false, not, _&&_}
 use mathlib.Core.Option.{none, some, Option·some-ne-none}
 use mathlib.Core.List.{List, [], _∷_}
 use Prim.Native.Nat.{ℕ, suc, _<_, _≤_, _%_}
@@ -16,7 +16,7 @@ use Rattle.meaning.specs.declared.Node.the-variants.{Literal, Element, Monadic,
 use Rattle.meaning.specs.Rows.{ifElse, rowCount, naturalOf, kindAt, declarations, nodeAt}
 use Rattle.meaning.specs.TableBytes.{Refusal, numbersFault}
 use Rattle.meaning.specs.Kinds.{Field, unused, value, within, elements, capacity, variable, channel, reference, link, Shape, shape, shapeOf, shapes, shapeIn, expression, process}
-use Rattle.meaning.specs.References.{Place, of-a, of-b, fieldOf, numberOf, IsTarget, RefersBy, Refers}
+use Rattle.meaning.specs.References.{Place, of-a, of-b, of-c, fieldOf, numberOf, IsTarget, RefersBy, Refers}
 use Rattle.meaning.specs.Faults.{Leads, Once, Placed, WellPlaced}
 use Rattle.meaning.proofs.AnswerLaws.{RightRows}
 use Rattle.meaning.proofs.OneTreeLaw.{declared, declares-only}
@@ -49,6 +49,12 @@ Leading variable = ⊥
 Leading (channel roles) = ⊥
 Leading (reference kinds) = Unit {0}
 Leading (link kinds) = Unit {0}
+
+-- a reference that is not a guard's: neither field c of an option nor field b of a guard
+abbrev pub unguarded : ℕ → Place → Bool
+unguarded k of-a = true
+unguarded k of-b = not (eqb k 43)
+unguarded k of-c = not (eqb k 42)
 
 if-else : (P : Node → Type 0) {x y : Node} (t : Bool) → (t ≡ true → P x) → P y → P (ifElse t x y)
 if-else P true f h = f refl
@@ -182,22 +188,22 @@ module _ (rows : List ℤ) where
             (e ∙ sym g, f ∙ sym j)
         go (no l) (no m) = absurd (placed-at c (omega arith) (b .1) .2 (omega arith) r p h)
 
-    -- row c itself, and the rows beneath it
+    -- row c itself, and the rows beneath it but for those of guards
     pub data Desc (c : ℕ) : ℕ → Type 0 where
       self : Desc c c
-      down : {y x : ℕ} (p : Place) → Desc c y → Refers rows y p x → Desc c x
+      down : {y x : ℕ} (p : Place) → Desc c y → Refers rows y p x → unguarded (kindAt rows y) p ≡ true → Desc c x
 
     pub desc-le : {c x : ℕ} → Desc c x → c ≤ x
     desc-le {c} self = omega arith
-    desc-le (down {y} {x} p h r) = let l = desc-le h in let u = refers-up y x p r in omega arith
+    desc-le (down {y} {x} p h r u) = let l = desc-le h in let u = refers-up y x p r in omega arith
 
-    pub desc-from : {r c x : ℕ} (p : Place) → Refers rows r p c → Desc c x → Desc r x
-    desc-from p e self = down p self e
-    desc-from p e (down o h r) = down o (desc-from p e h) r
+    pub desc-from : {r c x : ℕ} (p : Place) → Refers rows r p c → unguarded (kindAt rows r) p ≡ true → Desc c x → Desc r x
+    desc-from p e u self = down p self e u
+    desc-from p e u (down o h r v) = down o (desc-from p e u h) r v
 
     -- two rows that one row refers to have nothing beneath in common
     pub parted : (r : ℕ) {c c′ x : ℕ} (p o : Place) → Refers rows r p c → Refers rows r o c′ → c ≢ c′ → Desc c x → Desc c′ x → ⊥
     parted r p o e e′ ne self self = ne refl
-    parted r {c} {c′} p o e e′ ne self (down {y} i h q) = let l = desc-le h in let s = once r y c p i e q .0 in let u = refers-up r c′ o e′ in omega arith
-    parted r {c} {c′} p o e e′ ne (down {y} i h q) self = let l = desc-le h in let s = once r y c′ o i e′ q .0 in let u = refers-up r c p e in omega arith
-    parted r {c′} p o e e′ ne (down {y} {x} i h q) (down {y = z} j h′ q′) = parted r p o e e′ ne h (rw (once y z x i j q q′ .0) h′)
+    parted r {c} {c′} p o e e′ ne self (down {y} i h q v) = let l = desc-le h in let s = once r y c p i e q .0 in let u = refers-up r c′ o e′ in omega arith
+    parted r {c} {c′} p o e e′ ne (down {y} i h q v) self = let l = desc-le h in let s = once r y c′ o i e′ q .0 in let u = refers-up r c p e in omega arith
+    parted r {c′} p o e e′ ne (down {y} {x} i h q v) (down {y = z} j h′ q′ v′) = parted r p o e e′ ne h (rw (once y z x i j q q′ .0) h′)

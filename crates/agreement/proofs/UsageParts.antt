@@ -6,14 +6,13 @@ use mathlib.Core.List.{List, [], _∷_, List·Memᴰ, List·Memᴰ·not-nil, Lis
 use mathlib.Core.Option.{some}
 use Prim.Native.Nat.{ℕ, _<_}
 use lib.IntN.{ℤ}
-use lib.Dec.{ltb}
 use borrow.Author.Tests.{lt-ltb}
 use Rattle.meaning.specs.declared.Node.{Node}
 use Rattle.meaning.specs.declared.Node.the-variants.{Literal, Element, Monadic, Dyadic, Stop, Skip, Assignment, Input, Output, Seq, Par, If, While, Alt, Member, Choice, Option as Alternative, Guard, Other}
 use Rattle.meaning.specs.Rows.{ifElse, rowCount, fieldAt, naturalAt, kindAt, nodeAt}
 use Rattle.meaning.specs.Declarations.{variableAt, sourceAt, sinkAt}
 use Rattle.meaning.specs.Tree.{monadic, dyadic, sequence, parallel, assign, receive, send, conditional, loop, alternation, node, empty, Receive, Part, noPart, andMember, ofExpr, ofElement, ofProcess, ofGuarded, ofGuardRow, ofLink, partOf, partAt}
-use Rattle.meaning.specs.TreeClaims.{higherPart}
+use Rattle.meaning.specs.PartClaims.{higherPart}
 use Rattle.meaning.proofs.PartLaws.{part-unfolds}
 use Rattle.agreement.proofs.UsageRows.{nodeOf, node-of-kind, Fits}
 use Rattle.agreement.proofs.UsageLists.{references, one, two, three, m0, m1, m2}

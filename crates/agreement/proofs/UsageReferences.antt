@@ -7,11 +7,10 @@ use Prim.Native.Nat.{ℕ, suc, _≤_, _<_}
 use native.Mathlib.Decide.{decLt}
 use native.Mathlib.Omega.{arith}
 use lib.IntN.{ℤ, pos}
-use Rattle.meaning.specs.declared.Node.{Node}
 use Rattle.meaning.specs.declared.Node.the-variants.{Par, Member}
 use Rattle.meaning.specs.Rows.{naturalOf, rowCount, fieldAt, naturalAt, kindAt, declarations, nodeAt}
 use Rattle.meaning.specs.Kinds.{Shape, shapes, shapeIn, shapeOf}
-use Rattle.meaning.specs.References.{Place, of-a, of-b, of-c, fieldOf, numberOf, IsOf, RefersBy, Refers}
+use Rattle.meaning.specs.References.{Place, of-a, of-b, of-c, fieldOf, numberOf, RefersBy, Refers}
 use Rattle.meaning.specs.Faults.{Leads, WellFormed, Placed, WellPlaced}
 use Rattle.meaning.proofs.KindLaws.{by-shape}
 use Rattle.meaning.proofs.OneTreeLaw.{declared, refers-by}
@@ -58,28 +57,67 @@ module _ (rows : List ℤ) where
         let za = fieldAt rows r 1 in
         let zb = fieldAt rows r 2 in
         let zc = fieldAt rows r 3 in
-        by-shape Listed
-        ((never, never, never),
-        ((never, never, never),
-        ((never, never, never),
-        ((never, λ h. at0 zb (h .0), never),
-        ((never, λ h. at0 zb (h .0), never),
-        ((never, λ h. at0 zb (h .0), λ h. at1 zc (h .0)),
-        ((never, never, never),
-        ((never, never, never),
-        ((never, λ h. at0 zb (h .0), λ h. at1 zc (h .0)),
-        ((never, λ h. at0 zb (h .0), λ h. at1 zc (h .0)),
-        ((never, λ h. at0 zb (h .0), λ h. at1 zc (h .0)),
-        ((λ h. at0 za (h .0), never, never),
-        ((λ h. at0 za (h .0), never, never),
-        ((λ h. at0 za (h .0), never, never),
-        ((λ h. at0 za (h .0), λ h. at1 zb (h .0), never),
-        ((λ h. at0 za (h .0), never, never),
-        ((λ h. at0 za (h .0), λ h. at1 zb (h .0), never),
-        ((λ h. at0 za (h .0), λ h. at1 zb (h .0), λ h. at2 zc (h .0)),
-        ((λ h. at0 za (h .0), λ h. at1 zb (h .0), λ h. at2 zc (h .0)),
-        ((λ h. at0 za (h .0), λ h. at1 zb (h .0), never),
-        tt))))))))))))))))))))
+        by-shape Listed (
+          (never, never, never),
+          (
+            (never, never, never),
+            (
+              (never, never, never),
+              (
+                (never, λ h. at0 zb (h .0), never),
+                (
+                  (never, λ h. at0 zb (h .0), never),
+                  (
+                    (never, λ h. at0 zb (h .0), λ h. at1 zc (h .0)),
+                    (
+                      (never, never, never),
+                      (
+                        (never, never, never),
+                        (
+                          (never, λ h. at0 zb (h .0), λ h. at1 zc (h .0)),
+                          (
+                            (never, λ h. at0 zb (h .0), λ h. at1 zc (h .0)),
+                            (
+                              (never, λ h. at0 zb (h .0), λ h. at1 zc (h .0)),
+                              (
+                                (λ h. at0 za (h .0), never, never),
+                                (
+                                  (λ h. at0 za (h .0), never, never),
+                                  (
+                                    (λ h. at0 za (h .0), never, never),
+                                    (
+                                      (λ h. at0 za (h .0), λ h. at1 zb (h .0), never),
+                                      (
+                                        (λ h. at0 za (h .0), never, never),
+                                        (
+                                          (λ h. at0 za (h .0), λ h. at1 zb (h .0), never),
+                                          (
+                                            (λ h. at0 za (h .0), λ h. at1 zb (h .0), λ h. at2 zc (h .0)),
+                                            (
+                                              (λ h. at0 za (h .0), λ h. at1 zb (h .0), λ h. at2 zc (h .0)),
+                                              (
+                                                (λ h. at0 za (h .0), λ h. at1 zb (h .0), never),
+                                                tt,
+                                              ),
+                                            ),
+                                          ),
+                                        ),
+                                      ),
+                                    ),
+                                  ),
+                                ),
+                              ),
+                            ),
+                          ),
+                        ),
+                      ),
+                    ),
+                  ),
+                ),
+              ),
+            ),
+          ),
+        )
 
     pub refers-listed : (p : Place) → Refers rows r p t → List·Memᴰ t (references (nodeAt rows r))
     unfolding Refers
@@ -132,28 +170,67 @@ module _ (rows : List ℤ) where
       each-referred : (k : ℕ) (s : Shape) → shapeOf k ≡ some s → Referred k s
       unfolding shapes
       each-referred =
-          by-shape Referred
-          (λ h. nothing _,
-          (λ h. nothing _,
-          (λ h. nothing _,
-          (λ h. one _ _ (by _ of-b tt h),
-          (λ h. one _ _ (by _ of-b tt h),
-          (λ h. two _ _ _ (by _ of-b tt h) (by _ of-c tt h),
-          (λ h. nothing _,
-          (λ h. nothing _,
-          (λ h. two _ _ _ (by _ of-b tt h) (by _ of-c tt h),
-          (λ h. two _ _ _ (by _ of-b tt h) (by _ of-c tt h),
-          (λ h. two _ _ _ (by _ of-b tt h) (by _ of-c tt h),
-          (λ h. one _ _ (by _ of-a tt h),
-          (λ h. one _ _ (by _ of-a tt h),
-          (λ h. one _ _ (by _ of-a tt h),
-          (λ h. two _ _ _ (by _ of-a tt h) (by _ of-b tt h),
-          (λ h. one _ _ (by _ of-a tt h),
-          (λ h. two _ _ _ (by _ of-a tt h) (by _ of-b tt h),
-          (λ h. three _ _ _ _ (by _ of-a tt h) (by _ of-b tt h) (by _ of-c tt h),
-          (λ h. three _ _ _ _ (by _ of-a tt h) (by _ of-b tt h) (by _ of-c tt h),
-          (λ h. two _ _ _ (by _ of-a tt h) (by _ of-b tt h),
-          tt))))))))))))))))))))
+          by-shape Referred (
+            λ h. nothing _,
+            (
+              λ h. nothing _,
+              (
+                λ h. nothing _,
+                (
+                  λ h. one _ _ (by _ of-b tt h),
+                  (
+                    λ h. one _ _ (by _ of-b tt h),
+                    (
+                      λ h. two _ _ _ (by _ of-b tt h) (by _ of-c tt h),
+                      (
+                        λ h. nothing _,
+                        (
+                          λ h. nothing _,
+                          (
+                            λ h. two _ _ _ (by _ of-b tt h) (by _ of-c tt h),
+                            (
+                              λ h. two _ _ _ (by _ of-b tt h) (by _ of-c tt h),
+                              (
+                                λ h. two _ _ _ (by _ of-b tt h) (by _ of-c tt h),
+                                (
+                                  λ h. one _ _ (by _ of-a tt h),
+                                  (
+                                    λ h. one _ _ (by _ of-a tt h),
+                                    (
+                                      λ h. one _ _ (by _ of-a tt h),
+                                      (
+                                        λ h. two _ _ _ (by _ of-a tt h) (by _ of-b tt h),
+                                        (
+                                          λ h. one _ _ (by _ of-a tt h),
+                                          (
+                                            λ h. two _ _ _ (by _ of-a tt h) (by _ of-b tt h),
+                                            (
+                                              λ h. three _ _ _ _ (by _ of-a tt h) (by _ of-b tt h) (by _ of-c tt h),
+                                              (
+                                                λ h. three _ _ _ _ (by _ of-a tt h) (by _ of-b tt h) (by _ of-c tt h),
+                                                (
+                                                  λ h. two _ _ _ (by _ of-a tt h) (by _ of-b tt h),
+                                                  tt,
+                                                ),
+                                              ),
+                                            ),
+                                          ),
+                                        ),
+                                      ),
+                                    ),
+                                  ),
+                                ),
+                              ),
+                            ),
+                          ),
+                        ),
+                      ),
+                    ),
+                  ),
+                ),
+              ),
+            ),
+          )
 
       pub listed-refers : (c : ℕ) → List·Memᴰ c (references (nodeAt rows r)) → c < rowCount rows → (p : Place) × Refers rows r p c
       unfolding Refers WellFormed Placed

@@ -4,4 +4,5 @@ pub mod NotEmptyClaims
 pub mod SettlingClaims
 pub mod VerdictClaims
 pub mod Coherence
+pub mod TreeClaims
 pub mod CallClaims

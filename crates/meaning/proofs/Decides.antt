@@ -13,7 +13,6 @@ use borrow.Author.Tests.{ltb-true, ltb-false, leb-true, leb-false, eqb-true, eqb
 use Rattle.meaning.specs.Basics.{eqZ, inside, any, lowest, Lowest}
 use Rattle.meaning.proofs.LowestLaws.{lowest-is}
 
-
 -- a test is true where a statement holds, and false where it does not
 pub data Decides (A : Type 0) : Bool → Type 0 where
   holding : A → Decides A true

@@ -1,8 +1,7 @@
 -- What stands at a row, by its kind and fields, from what stands at higher rows.
-use Prim.Native.Nat.{ℕ}
 use Rattle.meaning.specs.Rows.{rowCount, nodeAt}
 use Rattle.meaning.specs.Tree.{noPart, partOf, partAt}
-use Rattle.meaning.specs.TreeClaims.{PartUnfolds}
+use Rattle.meaning.specs.PartClaims.{PartUnfolds}
 use Rattle.meaning.proofs.HigherRows.{atRow-at, atRow-past}
 
 pub part-unfolds : PartUnfolds

@@ -15,7 +15,7 @@ pub mod Faults
 pub mod Verdict
 pub mod StageClaims
 pub mod Tree
-pub mod TreeClaims
+pub mod PartClaims
 -- Usage in a PAR: refusals 7, 8 and 9
 pub mod Clash
 pub mod Usage
