@@ -3,7 +3,7 @@
 pub mod Basics
 pub mod Texts
 pub mod Limits
--- The table: numbers and lines, refusals 2 and 3, rows, kinds, refusals 4, 5 and 6, the tree
+-- The table: numbers and lines, refusals 2 and 3, rows, kinds, references; refusals 4, 5 and 6 as statements and then as tests; the tree
 pub mod Numerals
 pub mod Lines
 pub mod TableBytes
@@ -16,7 +16,7 @@ pub mod Verdict
 pub mod StageClaims
 pub mod Tree
 pub mod PartClaims
--- Usage in a PAR: refusals 7, 8 and 9
+-- Usage in a PAR: refusals 7, 8 and 9 as relations and then as tests
 pub mod Clash
 pub mod Usage
 -- Values
