@@ -56,7 +56,8 @@ unguarded k of-a = true
 unguarded k of-b = not (eqb k 43)
 unguarded k of-c = not (eqb k 42)
 
-if-else : (P : Node → Type 0) {x y : Node} (t : Bool) → (t ≡ true → P x) → P y → P (ifElse t x y)
+-- the node that a test chooses
+pub if-else : (P : Node → Type 0) {x y : Node} (t : Bool) → (t ≡ true → P x) → P y → P (ifElse t x y)
 if-else P true f h = f refl
 if-else P false f h = h
 

@@ -17,7 +17,7 @@ use Rattle.meaning.specs.Faults.{Placed}
 use Rattle.meaning.specs.Tree.{Action, Process, node, Members, rowOf, membersIn, partAt, orStop, rowsIn, rowsBeneath}
 use Rattle.meaning.specs.State.{program, processAt, whole}
 use Rattle.meaning.proofs.AnswerLaws.{RightRows, accepted}
-use Rattle.meaning.proofs.KindLaws.{by-shape}
+use Rattle.meaning.proofs.KindLaws.{none-left, and-then, by-shape}
 use Rattle.meaning.proofs.OneTreeLaw.{declared, refers-by}
 use Rattle.agreement.specs.TreeClaims.{IsProcess, OfGuard, of-option, of-guard, BeneathInTree, RowsOfTree}
 use Rattle.agreement.proofs.TableTree.{process-is, stands, SubO}
@@ -26,28 +26,22 @@ use Rattle.agreement.proofs.TableStarts.{is-process, root-below, root-p
 use Rattle.agreement.proofs.TableFit.{whole-is}
 use Rattle.agreement.proofs.TableReferences.{unguarded, placed-at, refers-up, once, Desc, self, down}
 use Rattle.agreement.proofs.TableRows.{SoundO, rowsOf, down-at, sound-at}
+use Rattle.agreement.proofs.UsageReferences.{never}
 use Rattle.agreement.proofs.UsageParts.{of-each}
 use Rattle.agreement.proofs.Frame.{row-in}
 use Rattle.agreement.proofs.VerdictExact.{one-tree-of-rows}
 use Rattle.agreement.proofs.TreeRows.{process-kind, of-process, up-all}
 
-never : {A : Type 0} → ⊥ → A
-never h = absurd h
+not-false : (t : Bool) → not t ≡ false → t ≡ true
+not-false true e = refl
+not-false false e = sym e
 
 module _ (rows : List ℤ) where
   -- a reference that is a guard's goes to a row of a guard
   guarded : (q b : ℕ) (p : Place) → Refers rows q p b → unguarded (kindAt rows q) p ≡ false → OfGuard rows b
   guarded q b of-a h e = absurd (false≢true (sym e))
-  guarded q b of-b h e = of-guard q (eqb-true (kindAt rows q) 43 (flip (eqb (kindAt rows q) 43) e)) h
-    where
-      flip : (t : Bool) → not t ≡ false → t ≡ true
-      flip true e = refl
-      flip false e = sym e
-  guarded q b of-c h e = of-option q (eqb-true (kindAt rows q) 42 (flip (eqb (kindAt rows q) 42) e)) h
-    where
-      flip : (t : Bool) → not t ≡ false → t ≡ true
-      flip true e = refl
-      flip false e = sym e
+  guarded q b of-b h e = of-guard q (eqb-true (kindAt rows q) 43 (not-false (eqb (kindAt rows q) 43) e)) h
+  guarded q b of-c h e = of-option q (eqb-true (kindAt rows q) 42 (not-false (eqb (kindAt rows q) 42) e)) h
 
   -- the kinds of the rows of guards
   guard-kinds : (b : ℕ) → OfGuard rows b → List·Memᴰ (kindAt rows b) (21 ∷ 23 ∷ 43 ∷ [])
@@ -84,67 +78,28 @@ module _ (rows : List ℤ) where
     each-upper : (k : ℕ) (s : Shape) → shapeOf k ≡ some s → EachUpper k s
     unfolding shapes RefersBy
     each-upper =
-        by-shape EachUpper (
-          (never, never, never),
-          (
-            (never, never, never),
-            (
-              (never, never, never),
-              (
-                (never, λ h u. absurd (expression-low (h .1 .2)), never),
-                (
-                  (never, λ h u. absurd (expression-low (h .1 .2)), never),
-                  (
-                    (never, λ h u. absurd (expression-low (h .1 .2)), λ h u. absurd (expression-low (h .1 .2))),
-                    (
-                      (never, never, never),
-                      (
-                        (never, never, never),
-                        (
-                          (never, λ h u. absurd (expression-low (h .1 .2)), λ h u. absurd (expression-low (h .1 .2))),
-                          (
-                            (never, λ h u. absurd (expression-low (h .1 .2)), λ h u. absurd (element-low (h .1 .2))),
-                            (
-                              (never, λ h u. absurd (expression-low (h .1 .2)), λ h u. absurd (expression-low (h .1 .2))),
-                              (
-                                (λ h u. (omega arith, omega arith), never, never),
-                                (
-                                  (λ h u. (omega arith, omega arith), never, never),
-                                  (
-                                    (λ h u. (omega arith, omega arith), never, never),
-                                    (
-                                      (λ h u. (omega arith, omega arith), λ h u. (omega arith, omega arith), never),
-                                      (
-                                        (λ h u. (omega arith, omega arith), never, never),
-                                        (
-                                          (λ h u. (omega arith, omega arith), λ h u. (omega arith, omega arith), never),
-                                          (
-                                            (λ h u. (omega arith, omega arith), λ h u. (omega arith, omega arith), λ h u. (omega arith, omega arith)),
-                                            (
-                                              (λ h u. (omega arith, omega arith), λ h u. (omega arith, omega arith), λ h u. absurd (false≢true u)),
-                                              (
-                                                (λ h u. absurd (expression-low (h .1 .2)), λ h u. absurd (false≢true u), never),
-                                                tt,
-                                              ),
-                                            ),
-                                          ),
-                                        ),
-                                      ),
-                                    ),
-                                  ),
-                                ),
-                              ),
-                            ),
-                          ),
-                        ),
-                      ),
-                    ),
-                  ),
-                ),
-              ),
-            ),
-          ),
-        )
+        by-shape EachUpper
+        (and-then (never, never, never)
+        (and-then (never, never, never)
+        (and-then (never, never, never)
+        (and-then (never, λ h u. absurd (expression-low (h .1 .2)), never)
+        (and-then (never, λ h u. absurd (expression-low (h .1 .2)), never)
+        (and-then (never, λ h u. absurd (expression-low (h .1 .2)), λ h u. absurd (expression-low (h .1 .2)))
+        (and-then (never, never, never)
+        (and-then (never, never, never)
+        (and-then (never, λ h u. absurd (expression-low (h .1 .2)), λ h u. absurd (expression-low (h .1 .2)))
+        (and-then (never, λ h u. absurd (expression-low (h .1 .2)), λ h u. absurd (element-low (h .1 .2)))
+        (and-then (never, λ h u. absurd (expression-low (h .1 .2)), λ h u. absurd (expression-low (h .1 .2)))
+        (and-then (λ h u. (omega arith, omega arith), never, never)
+        (and-then (λ h u. (omega arith, omega arith), never, never)
+        (and-then (λ h u. (omega arith, omega arith), never, never)
+        (and-then (λ h u. (omega arith, omega arith), λ h u. (omega arith, omega arith), never)
+        (and-then (λ h u. (omega arith, omega arith), never, never)
+        (and-then (λ h u. (omega arith, omega arith), λ h u. (omega arith, omega arith), never)
+        (and-then (λ h u. (omega arith, omega arith), λ h u. (omega arith, omega arith), λ h u. (omega arith, omega arith))
+        (and-then (λ h u. (omega arith, omega arith), λ h u. (omega arith, omega arith), λ h u. absurd (false≢true u))
+        (and-then (λ h u. absurd (expression-low (h .1 .2)), λ h u. absurd (false≢true u), never)
+        none-left))))))))))))))))))))
 
     upper : (p : Place) → Refers rows q p b → unguarded (kindAt rows q) p ≡ true → Upper (kindAt rows q)
     unfolding Refers

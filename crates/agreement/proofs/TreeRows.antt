@@ -15,7 +15,7 @@ use Rattle.meaning.specs.References.{Place, of-a, of-b, of-c, fieldOf, numberOf
 use Rattle.meaning.specs.Faults.{WellFormed}
 use Rattle.meaning.specs.Tree.{Process, Members, empty, Part, andMember, partOf, partAt, rowsIn, rowsBeneath}
 use Rattle.meaning.proofs.AnswerLaws.{RightRows}
-use Rattle.meaning.proofs.KindLaws.{by-shape}
+use Rattle.meaning.proofs.KindLaws.{none-left, and-then, by-shape}
 use Rattle.meaning.proofs.PartLaws.{part-unfolds}
 use Rattle.meaning.proofs.Decides.{Decides, holding, failing}
 use Rattle.meaning.proofs.ReferenceCounts.{decides-among}
@@ -23,6 +23,7 @@ use Rattle.agreement.specs.TreeClaims.{IsProcess}
 use Rattle.agreement.proofs.TableReferences.{unguarded, few-rows, refers-up, Desc, self, down}
 use Rattle.agreement.proofs.TableRows.{rowsOf}
 use Rattle.agreement.proofs.UsageRows.{Fits, fits, node-of-kind}
+use Rattle.agreement.proofs.UsageReferences.{never}
 use Rattle.agreement.proofs.UsageParts.{OfEach, partBy, part-is, part-by-kind}
 
 -- a row is among those of a part: of its process, or of its members
@@ -37,9 +38,6 @@ first-in x (some p) ms m = Memᴰ·append-left (rowsBeneath ms) m
 later-in : (x : ℕ) (o : Option Process) (ms : Members) → List·Memᴰ x (rowsBeneath ms) → List·Memᴰ x (rowsBeneath (andMember o ms))
 later-in x none ms m = m
 later-in x (some p) ms m = Memᴰ·append-right (rowsIn p) m
-
-never : {A : Type 0} → ⊥ → A
-never h = absurd h
 
 is-among : (k : ℕ) (ks : List ℕ) → among k ks ≡ true → List·Memᴰ k ks
 is-among k ks e = go (decides-among k ks) e
@@ -66,61 +64,37 @@ module _ (rows : List ℤ) (A : RightRows rows) where
       other : (k : ℕ) → none ≡ some p → List·Memᴰ k processes
       other k h = absurd (Option·none-ne-some p h)
 
+      each : (k : ℕ) (s : Shape) → shapeOf k ≡ some s → Kind k s
+      each =
+          by-shape Kind
+          (and-then (other 1)
+          (and-then (other 2)
+          (and-then (other 10)
+          (and-then (other 11)
+          (and-then (other 12)
+          (and-then (other 13)
+          (and-then (λ h. is-among 20 processes refl)
+          (and-then (λ h. is-among 21 processes refl)
+          (and-then (λ h. is-among 22 processes refl)
+          (and-then (λ h. is-among 23 processes refl)
+          (and-then (λ h. is-among 24 processes refl)
+          (and-then (λ h. is-among 30 processes refl)
+          (and-then (λ h. is-among 31 processes refl)
+          (and-then (λ h. is-among 32 processes refl)
+          (and-then (λ h. is-among 33 processes refl)
+          (and-then (λ h. is-among 34 processes refl)
+          (and-then (other 40)
+          (and-then (other 41)
+          (and-then (other 42)
+          (and-then (other 43)
+          none-left))))))))))))))))))))
+
       go : Dec (r < rowCount rows) → (r < rowCount rows) × IsProcess rows r
       go (no l) = absurd (Option·none-ne-some p (sym (ap (λ (x : Part). x .process) (part-unfolds rows r .1 (omega arith))) ∙ e))
       go (yes l) =
           let w = A .1 r l .1 in (
             l,
-            by-shape Kind (
-              other 1,
-              (
-                other 2,
-                (
-                  other 10,
-                  (
-                    other 11,
-                    (
-                      other 12,
-                      (
-                        other 13,
-                        (
-                          λ h. is-among 20 processes refl,
-                          (
-                            λ h. is-among 21 processes refl,
-                            (
-                              λ h. is-among 22 processes refl,
-                              (
-                                λ h. is-among 23 processes refl,
-                                (
-                                  λ h. is-among 24 processes refl,
-                                  (
-                                    λ h. is-among 30 processes refl,
-                                    (
-                                      λ h. is-among 31 processes refl,
-                                      (
-                                        λ h. is-among 32 processes refl,
-                                        (
-                                          λ h. is-among 33 processes refl,
-                                          (
-                                            λ h. is-among 34 processes refl,
-                                            (other 40, (other 41, (other 42, (other 43, tt)))),
-                                          ),
-                                        ),
-                                      ),
-                                    ),
-                                  ),
-                                ),
-                              ),
-                            ),
-                          ),
-                        ),
-                      ),
-                    ),
-                  ),
-                ),
-              ),
-            )
-                (kindAt rows r) (w .0) (w .1)
+            each (kindAt rows r) (w .0) (w .1)
                 (sym (ap (λ (x : Part). x .process) (part-is rows r l (each-fits r l) ∙ ap (partOf rows r (partAt rows)) (node-of-kind rows r (kindAt rows r) refl))) ∙ e),
           )
 
@@ -182,83 +156,28 @@ module _ (rows : List ℤ) (A : RightRows rows) where
         let zb = fieldAt rows q 2 in
         let a = partAt rows (naturalAt rows q 1) in
         let b = partAt rows (naturalAt rows q 2) in
-        by-shape EachUp (
-          (never, never, never),
-          (
-            (never, never, never),
-            (
-              (never, never, never),
-              (
-                (never, λ h u i. absurd (of-expression (h .1) i), never),
-                (
-                  (never, λ h u i. absurd (of-expression (h .1) i), never),
-                  (
-                    (never, λ h u i. absurd (of-expression (h .1) i), λ h u i. absurd (of-expression (h .1) i)),
-                    (
-                      (never, never, never),
-                      (
-                        (never, never, never),
-                        (
-                          (never, λ h u i. absurd (of-expression (h .1) i), λ h u i. absurd (of-expression (h .1) i)),
-                          (
-                            (never, λ h u i. absurd (of-expression (h .1) i), λ h u i. absurd (of-element (h .1) i)),
-                            (
-                              (never, λ h u i. absurd (of-expression (h .1) i), λ h u i. absurd (of-expression (h .1) i)),
-                              (
-                                (λ h u i. inl (List·Memᴰ·tail (members-up za (h .0) (of-members (h .1) i))), never, never),
-                                (
-                                  (λ h u i. inl (List·Memᴰ·tail (members-up za (h .0) (of-members (h .1) i))), never, never),
-                                  (
-                                    (λ h u i. inl (List·Memᴰ·tail (members-up za (h .0) (of-choices (h .1) i))), never, never),
-                                    (
-                                      (
-                                        λ h u i. absurd (of-expression (h .1) i),
-                                        λ h u i. inl (List·Memᴰ·tail (first-in x (b .process) empty (process-up zb (h .0) (of-process (h .1 .1) (h .1 .2) i)))),
-                                        never,
-                                      ),
-                                      (
-                                        (λ h u i. inl (List·Memᴰ·tail (members-up za (h .0) (of-options (h .1) i))), never, never),
-                                        (
-                                          (
-                                            λ h u i. inr (first-in x (a .process) (b .members) (process-up za (h .0) (of-process (h .1 .1) (h .1 .2) i))),
-                                            λ h u i. inr (later-in x (a .process) (b .members) (members-up zb (h .0) (of-members (h .1) i))),
-                                            never,
-                                          ),
-                                          (
-                                            (
-                                              λ h u i. inr (first-in x (a .process) (b .members) (process-up za (h .0) (of-process (h .1 .1) (h .1 .2) i))),
-                                              λ h u i. inr (later-in x (a .process) (b .members) (members-up zb (h .0) (of-choices (h .1) i))),
-                                              λ h u i. absurd (of-expression (h .1) i),
-                                            ),
-                                            (
-                                              (
-                                                λ h u i. inr (first-in x (a .process) (b .members) (process-up za (h .0) (of-process (h .1 .1) (h .1 .2) i))),
-                                                λ h u i. inr (later-in x (a .process) (b .members) (members-up zb (h .0) (of-options (h .1) i))),
-                                                λ h u i. absurd (false≢true u),
-                                              ),
-                                              (
-                                                (λ h u i. absurd (of-expression (h .1) i), λ h u i. absurd (false≢true u), never),
-                                                tt,
-                                              ),
-                                            ),
-                                          ),
-                                        ),
-                                      ),
-                                    ),
-                                  ),
-                                ),
-                              ),
-                            ),
-                          ),
-                        ),
-                      ),
-                    ),
-                  ),
-                ),
-              ),
-            ),
-          ),
-        )
+        by-shape EachUp
+        (and-then (never, never, never)
+        (and-then (never, never, never)
+        (and-then (never, never, never)
+        (and-then (never, λ h u i. absurd (of-expression (h .1) i), never)
+        (and-then (never, λ h u i. absurd (of-expression (h .1) i), never)
+        (and-then (never, λ h u i. absurd (of-expression (h .1) i), λ h u i. absurd (of-expression (h .1) i))
+        (and-then (never, never, never)
+        (and-then (never, never, never)
+        (and-then (never, λ h u i. absurd (of-expression (h .1) i), λ h u i. absurd (of-expression (h .1) i))
+        (and-then (never, λ h u i. absurd (of-expression (h .1) i), λ h u i. absurd (of-element (h .1) i))
+        (and-then (never, λ h u i. absurd (of-expression (h .1) i), λ h u i. absurd (of-expression (h .1) i))
+        (and-then (λ h u i. inl (List·Memᴰ·tail (members-up za (h .0) (of-members (h .1) i))), never, never)
+        (and-then (λ h u i. inl (List·Memᴰ·tail (members-up za (h .0) (of-members (h .1) i))), never, never)
+        (and-then (λ h u i. inl (List·Memᴰ·tail (members-up za (h .0) (of-choices (h .1) i))), never, never)
+        (and-then (λ h u i. absurd (of-expression (h .1) i), λ h u i. inl (List·Memᴰ·tail (first-in x (b .process) empty (process-up zb (h .0) (of-process (h .1 .1) (h .1 .2) i)))), never)
+        (and-then (λ h u i. inl (List·Memᴰ·tail (members-up za (h .0) (of-options (h .1) i))), never, never)
+        (and-then (λ h u i. inr (first-in x (a .process) (b .members) (process-up za (h .0) (of-process (h .1 .1) (h .1 .2) i))), λ h u i. inr (later-in x (a .process) (b .members) (members-up zb (h .0) (of-members (h .1) i))), never)
+        (and-then (λ h u i. inr (first-in x (a .process) (b .members) (process-up za (h .0) (of-process (h .1 .1) (h .1 .2) i))), λ h u i. inr (later-in x (a .process) (b .members) (members-up zb (h .0) (of-choices (h .1) i))), λ h u i. absurd (of-expression (h .1) i))
+        (and-then (λ h u i. inr (first-in x (a .process) (b .members) (process-up za (h .0) (of-process (h .1 .1) (h .1 .2) i))), λ h u i. inr (later-in x (a .process) (b .members) (members-up zb (h .0) (of-options (h .1) i))), λ h u i. absurd (false≢true u))
+        (and-then (λ h u i. absurd (of-expression (h .1) i), λ h u i. absurd (false≢true u), never)
+        none-left))))))))))))))))))))
 
     up : (p : Place) → Refers rows q p c → unguarded (kindAt rows q) p ≡ true → In x (partAt rows c) → In x (partAt rows q)
     unfolding Refers

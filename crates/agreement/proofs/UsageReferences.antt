@@ -12,7 +12,7 @@ use Rattle.meaning.specs.Rows.{naturalOf, rowCount, fieldAt, naturalAt, kindAt,
 use Rattle.meaning.specs.Kinds.{Shape, shapes, shapeIn, shapeOf}
 use Rattle.meaning.specs.References.{Place, of-a, of-b, of-c, fieldOf, numberOf, RefersBy, Refers}
 use Rattle.meaning.specs.Faults.{Leads, WellFormed, Placed, WellPlaced}
-use Rattle.meaning.proofs.KindLaws.{by-shape}
+use Rattle.meaning.proofs.KindLaws.{none-left, and-then, by-shape}
 use Rattle.meaning.proofs.OneTreeLaw.{declared, refers-by}
 use Rattle.agreement.specs.VerdictClaims.{Passed}
 use Rattle.agreement.proofs.VerdictStages.{whole-passes, form-passes, tree-passes}
@@ -20,7 +20,8 @@ use Rattle.agreement.proofs.TableReferences.{members-shape, member-shap
 use Rattle.agreement.proofs.UsageRows.{nodeOf, node-of-kind, Fits, fits}
 use Rattle.agreement.proofs.UsageLists.{references, one, two, three}
 
-never : {A : Type 0} → ⊥ → A
+-- of a field that refers to no row
+pub never : {A : Type 0} → ⊥ → A
 never h = absurd h
 
 nothing : (P : ℕ → Type 0) (c : ℕ) → List·Memᴰ c [] → P c
@@ -57,67 +58,28 @@ module _ (rows : List ℤ) where
         let za = fieldAt rows r 1 in
         let zb = fieldAt rows r 2 in
         let zc = fieldAt rows r 3 in
-        by-shape Listed (
-          (never, never, never),
-          (
-            (never, never, never),
-            (
-              (never, never, never),
-              (
-                (never, λ h. at0 zb (h .0), never),
-                (
-                  (never, λ h. at0 zb (h .0), never),
-                  (
-                    (never, λ h. at0 zb (h .0), λ h. at1 zc (h .0)),
-                    (
-                      (never, never, never),
-                      (
-                        (never, never, never),
-                        (
-                          (never, λ h. at0 zb (h .0), λ h. at1 zc (h .0)),
-                          (
-                            (never, λ h. at0 zb (h .0), λ h. at1 zc (h .0)),
-                            (
-                              (never, λ h. at0 zb (h .0), λ h. at1 zc (h .0)),
-                              (
-                                (λ h. at0 za (h .0), never, never),
-                                (
-                                  (λ h. at0 za (h .0), never, never),
-                                  (
-                                    (λ h. at0 za (h .0), never, never),
-                                    (
-                                      (λ h. at0 za (h .0), λ h. at1 zb (h .0), never),
-                                      (
-                                        (λ h. at0 za (h .0), never, never),
-                                        (
-                                          (λ h. at0 za (h .0), λ h. at1 zb (h .0), never),
-                                          (
-                                            (λ h. at0 za (h .0), λ h. at1 zb (h .0), λ h. at2 zc (h .0)),
-                                            (
-                                              (λ h. at0 za (h .0), λ h. at1 zb (h .0), λ h. at2 zc (h .0)),
-                                              (
-                                                (λ h. at0 za (h .0), λ h. at1 zb (h .0), never),
-                                                tt,
-                                              ),
-                                            ),
-                                          ),
-                                        ),
-                                      ),
-                                    ),
-                                  ),
-                                ),
-                              ),
-                            ),
-                          ),
-                        ),
-                      ),
-                    ),
-                  ),
-                ),
-              ),
-            ),
-          ),
-        )
+        by-shape Listed
+        (and-then (never, never, never)
+        (and-then (never, never, never)
+        (and-then (never, never, never)
+        (and-then (never, λ h. at0 zb (h .0), never)
+        (and-then (never, λ h. at0 zb (h .0), never)
+        (and-then (never, λ h. at0 zb (h .0), λ h. at1 zc (h .0))
+        (and-then (never, never, never)
+        (and-then (never, never, never)
+        (and-then (never, λ h. at0 zb (h .0), λ h. at1 zc (h .0))
+        (and-then (never, λ h. at0 zb (h .0), λ h. at1 zc (h .0))
+        (and-then (never, λ h. at0 zb (h .0), λ h. at1 zc (h .0))
+        (and-then (λ h. at0 za (h .0), never, never)
+        (and-then (λ h. at0 za (h .0), never, never)
+        (and-then (λ h. at0 za (h .0), never, never)
+        (and-then (λ h. at0 za (h .0), λ h. at1 zb (h .0), never)
+        (and-then (λ h. at0 za (h .0), never, never)
+        (and-then (λ h. at0 za (h .0), λ h. at1 zb (h .0), never)
+        (and-then (λ h. at0 za (h .0), λ h. at1 zb (h .0), λ h. at2 zc (h .0))
+        (and-then (λ h. at0 za (h .0), λ h. at1 zb (h .0), λ h. at2 zc (h .0))
+        (and-then (λ h. at0 za (h .0), λ h. at1 zb (h .0), never)
+        none-left))))))))))))))))))))
 
     pub refers-listed : (p : Place) → Refers rows r p t → List·Memᴰ t (references (nodeAt rows r))
     unfolding Refers
@@ -170,67 +132,28 @@ module _ (rows : List ℤ) where
       each-referred : (k : ℕ) (s : Shape) → shapeOf k ≡ some s → Referred k s
       unfolding shapes
       each-referred =
-          by-shape Referred (
-            λ h. nothing _,
-            (
-              λ h. nothing _,
-              (
-                λ h. nothing _,
-                (
-                  λ h. one _ _ (by _ of-b tt h),
-                  (
-                    λ h. one _ _ (by _ of-b tt h),
-                    (
-                      λ h. two _ _ _ (by _ of-b tt h) (by _ of-c tt h),
-                      (
-                        λ h. nothing _,
-                        (
-                          λ h. nothing _,
-                          (
-                            λ h. two _ _ _ (by _ of-b tt h) (by _ of-c tt h),
-                            (
-                              λ h. two _ _ _ (by _ of-b tt h) (by _ of-c tt h),
-                              (
-                                λ h. two _ _ _ (by _ of-b tt h) (by _ of-c tt h),
-                                (
-                                  λ h. one _ _ (by _ of-a tt h),
-                                  (
-                                    λ h. one _ _ (by _ of-a tt h),
-                                    (
-                                      λ h. one _ _ (by _ of-a tt h),
-                                      (
-                                        λ h. two _ _ _ (by _ of-a tt h) (by _ of-b tt h),
-                                        (
-                                          λ h. one _ _ (by _ of-a tt h),
-                                          (
-                                            λ h. two _ _ _ (by _ of-a tt h) (by _ of-b tt h),
-                                            (
-                                              λ h. three _ _ _ _ (by _ of-a tt h) (by _ of-b tt h) (by _ of-c tt h),
-                                              (
-                                                λ h. three _ _ _ _ (by _ of-a tt h) (by _ of-b tt h) (by _ of-c tt h),
-                                                (
-                                                  λ h. two _ _ _ (by _ of-a tt h) (by _ of-b tt h),
-                                                  tt,
-                                                ),
-                                              ),
-                                            ),
-                                          ),
-                                        ),
-                                      ),
-                                    ),
-                                  ),
-                                ),
-                              ),
-                            ),
-                          ),
-                        ),
-                      ),
-                    ),
-                  ),
-                ),
-              ),
-            ),
-          )
+          by-shape Referred
+          (and-then (λ h. nothing _)
+          (and-then (λ h. nothing _)
+          (and-then (λ h. nothing _)
+          (and-then (λ h. one _ _ (by _ of-b tt h))
+          (and-then (λ h. one _ _ (by _ of-b tt h))
+          (and-then (λ h. two _ _ _ (by _ of-b tt h) (by _ of-c tt h))
+          (and-then (λ h. nothing _)
+          (and-then (λ h. nothing _)
+          (and-then (λ h. two _ _ _ (by _ of-b tt h) (by _ of-c tt h))
+          (and-then (λ h. two _ _ _ (by _ of-b tt h) (by _ of-c tt h))
+          (and-then (λ h. two _ _ _ (by _ of-b tt h) (by _ of-c tt h))
+          (and-then (λ h. one _ _ (by _ of-a tt h))
+          (and-then (λ h. one _ _ (by _ of-a tt h))
+          (and-then (λ h. one _ _ (by _ of-a tt h))
+          (and-then (λ h. two _ _ _ (by _ of-a tt h) (by _ of-b tt h))
+          (and-then (λ h. one _ _ (by _ of-a tt h))
+          (and-then (λ h. two _ _ _ (by _ of-a tt h) (by _ of-b tt h))
+          (and-then (λ h. three _ _ _ _ (by _ of-a tt h) (by _ of-b tt h) (by _ of-c tt h))
+          (and-then (λ h. three _ _ _ _ (by _ of-a tt h) (by _ of-b tt h) (by _ of-c tt h))
+          (and-then (λ h. two _ _ _ (by _ of-a tt h) (by _ of-b tt h))
+          none-left))))))))))))))))))))
 
       pub listed-refers : (c : ℕ) → List·Memᴰ c (references (nodeAt rows r)) → c < rowCount rows → (p : Place) × Refers rows r p c
       unfolding Refers WellFormed Placed

@@ -9,21 +9,21 @@ use borrow.Author.Tests.{eqb-true}
 use Rattle.meaning.specs.Basics.{ifElse}
 use Rattle.meaning.specs.Kinds.{Shape, shapes, shapeIn, shapeOf}
 
-module _ (P : ℕ → Shape → Type 0) where
-  -- of each shape of a list
-  abbrev pub EachShape : List Shape → Type 0
-  EachShape [] = Unit {0}
-  EachShape (s ∷ ss) = P (s .kind) s × EachShape ss
+-- of each shape of a list
+pub data EachShape (P : ℕ → Shape → Type 0) : List Shape → Type 0 where
+  none-left : EachShape P []
+  and-then : {s : Shape} {ss : List Shape} → P (s .kind) s → EachShape P ss → EachShape P (s ∷ ss)
 
-  in-shapes : (ss : List Shape) → EachShape ss → (k : ℕ) (s : Shape) → shapeIn ss k ≡ some s → P k s
+module _ (P : ℕ → Shape → Type 0) where
+  in-shapes : {ss : List Shape} → EachShape P ss → (k : ℕ) (s : Shape) → shapeIn ss k ≡ some s → P k s
   unfolding shapeIn
-  in-shapes [] h k s e = absurd (Option·none-ne-some s e)
-  in-shapes (u ∷ ss) h k s e = go (eqb k (u .kind)) refl e (in-shapes ss (h .1) k s)
+  in-shapes none-left k s e = absurd (Option·none-ne-some s e)
+  in-shapes (and-then {s = u} {ss} p h) k s e = go (eqb k (u .kind)) refl e (in-shapes h k s)
     where
       go : (t : Bool) → eqb k (u .kind) ≡ t → ifElse t (some u) (shapeIn ss k) ≡ some s → (shapeIn ss k ≡ some s → P k s) → P k s
-      go true f g later = subst₂ P (sym (eqb-true k (u .kind) f)) (Option·some-injective u s g) (h .0)
+      go true f g later = subst₂ P (sym (eqb-true k (u .kind) f)) (Option·some-injective u s g) p
       go false f g later = later g
 
-  pub by-shape : EachShape shapes → (k : ℕ) (s : Shape) → shapeOf k ≡ some s → P k s
+  pub by-shape : EachShape P shapes → (k : ℕ) (s : Shape) → shapeOf k ≡ some s → P k s
   unfolding shapeOf
-  by-shape h k s e = in-shapes shapes h k s e
+  by-shape h k s e = in-shapes h k s e
