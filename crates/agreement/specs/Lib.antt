@@ -4,6 +4,7 @@ pub mod NotEmptyClaims
 pub mod SettlingClaims
 pub mod VerdictClaims
 pub mod Coherence
+pub mod TreeClaims
 pub mod CallClaims
 pub mod RefusalClaims
 pub mod BufferClaims
