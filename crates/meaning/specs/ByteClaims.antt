@@ -7,6 +7,7 @@ use mathlib.Core.Option.{Option, none, some}
 use Prim.Native.Nat.{ℕ, zero, suc, _+_, _≤_, _<_}
 use lib.IntN.{ℤ, pos}
 use lib.ListN.{length}
+use Rattle.meaning.specs.Basics.{Lowest}
 use Rattle.meaning.specs.Limits.{maxRows, maxTable, maxSheet, maxLines}
 use Rattle.meaning.specs.Texts.{bytes, lineFeed}
 use Rattle.meaning.specs.Numerals.{printed}
@@ -27,7 +28,7 @@ pub data LineIs : List ℕ → ℕ → List ℕ → Type 0 where
 
 -- "the lowest faulty line is given"
 abbrev pub LowestLine : (ℕ → Type 0) → ℕ → Type 0
-LowestLine Fault n = Fault n × ((m : ℕ) → m < n → ¬ Fault m)
+LowestLine Fault n = Lowest Fault (suc n) (some n)
 
 -- The table's bytes -------------------------------------------------------------------------------------------------------------
 
