@@ -30,3 +30,4 @@ pub mod LineIsLaws
 pub mod LineFaults
 pub mod BytesRefused
 pub mod SheetRefused
+pub mod NumeralRules
