@@ -32,3 +32,4 @@ pub mod LineIsLaws
 pub mod LineFaults
 pub mod BytesRefused
 pub mod SheetRefused
+pub mod NumeralRules
