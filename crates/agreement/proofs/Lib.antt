@@ -76,3 +76,4 @@ pub mod OrdersCoherent
 pub mod Answered
 pub mod Calls
 pub mod Claims
+pub mod OperatorsExact

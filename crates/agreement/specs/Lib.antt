@@ -5,3 +5,5 @@ pub mod SettlingClaims
 pub mod VerdictClaims
 pub mod Coherence
 pub mod CallClaims
+pub mod ValueClaims
+pub mod ChoiceClaims

@@ -1,0 +1,137 @@
+-- Settling, steps and orders of one table at hand, told by tests that compute. All of it holds of the right definitions and of the wrong ones.
+use mathlib.Core.Path.{_≡_, refl, sym, ap, subst, _∙_}
+use mathlib.Core.Logic.{_≢_}
+use mathlib.Core.Bool.{Bool, true, false, not, _&&_, _||_, false≢true}
+use mathlib.Core.List.{List, [], _∷_, List·Memᴰ, List·Memᴰ·head, List·Memᴰ·tail}
+use Prim.Native.Nat.{ℕ, zero, suc, _+_, _<_}
+use native.Mathlib.Omega.{arith}
+use native.Mathlib.Decide.{ℕ-discrete}
+use lib.IntN.{ℤ, pos, negsuc}
+use lib.ListN.{getD}
+use lib.Dec.{eqb}
+use borrow.Author.Tests.{eqb-true, eq-eqb}
+use Rattle.meaning.specs.declared.Value.{Value}
+use Rattle.meaning.specs.declared.Value.the-variants.{Number, Missing}
+use Rattle.meaning.specs.Rows.{ifElse, rowCount, kindAt}
+use Rattle.meaning.specs.Tree.{Action, stop, skip, sequence, parallel, assign, receive, send, conditional, loop, alternation, Process, node, Members, empty, also}
+use Rattle.meaning.specs.State.{stateOf}
+use Rattle.meaning.specs.SettlingRules.{Among, first, later, All, no-more, and-then, Next, here, after, Inside, itself, beneath, Runs, Settles, skip-ends, seq-starts, par-starts, seq-ends, par-ends, if-ends, alt-ends, while-again, Final}
+use Rattle.agreement.specs.Statements.{NoAlt}
+
+-- both of two tests
+both-true : (a b : Bool) → a && b ≡ true → (a ≡ true) × (b ≡ true)
+both-true true b e = (refl, e)
+both-true false b e = absurd (false≢true e)
+
+-- a test passes at every process that stands in a process
+abbrev mutual
+  pub everywhere : (Action → ℕ → Members → Bool) → Process → Bool
+  everywhere f (node a r ms) = f a r ms && everyMember f ms
+
+  pub everyMember : (Action → ℕ → Members → Bool) → Members → Bool
+  everyMember f empty = true
+  everyMember f (also p ms) = everywhere f p && everyMember f ms
+
+module _ (f : Action → ℕ → Members → Bool) where
+  at-member : {q : Process} {ms : Members} → Among q ms → everyMember f ms ≡ true → everywhere f q ≡ true
+  at-member {q} (first {ms}) e = both-true (everywhere f q) (everyMember f ms) e .0
+  at-member (later {p} {ms} m) e = at-member m (both-true (everywhere f p) (everyMember f ms) e .1)
+
+  at-inside : {w q : Process} → Inside w q → everywhere f w ≡ true → everywhere f q ≡ true
+  at-inside itself e = e
+  at-inside (beneath {a} {r} {ms} i m) e = at-member m (both-true (f a r ms) (everyMember f ms) (at-inside i e) .1)
+
+  at-node : {w : Process} {a : Action} {r : ℕ} {ms : Members} → Inside w (node a r ms) → everywhere f w ≡ true → f a r ms ≡ true
+  at-node {a} {r} {ms} i e = both-true (f a r ms) (everyMember f ms) (at-inside i e) .0
+
+module _ (s : List ℕ) where
+  -- no member is in this state; every one is
+  abbrev pub noneIs : ℕ → Members → Bool
+  noneIs n empty = true
+  noneIs n (also p ms) = not (eqb (stateOf s p) n) && noneIs n ms
+
+  abbrev pub eachIs : ℕ → Members → Bool
+  eachIs n empty = true
+  eachIs n (also p ms) = eqb (stateOf s p) n && eachIs n ms
+
+  -- the first member that has not ended is not idle
+  abbrev pub atWork : Members → Bool
+  atWork empty = false
+  atWork (also p ms) = ifElse (eqb (stateOf s p) 2) (atWork ms) (not (eqb (stateOf s p) 0))
+
+  -- no rule of settling applies to a running process
+  abbrev pub calm : Action → Members → Bool
+  calm stop ms = true
+  calm skip ms = false
+  calm sequence ms = atWork ms
+  calm parallel ms = noneIs 0 ms && not (eachIs 2 ms)
+  calm (assign v e f) ms = true
+  calm (receive i) ms = true
+  calm (send c e f) ms = true
+  calm (conditional ts) ms = noneIs 2 ms
+  calm (loop e b) ms = noneIs 2 ms
+  calm (alternation bs) ms = noneIs 2 ms
+
+  abbrev pub settledHere : Action → ℕ → Members → Bool
+  settledHere a r ms = not (eqb (getD s r 0) 1) || calm a ms
+
+  -- what the tests say of the relations that the rules use
+  none-is : (n : ℕ) {q : Process} {ms : Members} → Among q ms → stateOf s q ≡ n → noneIs n ms ≡ true → ⊥
+  none-is n {q} (first {ms}) e t = false≢true (subst (λ (b : Bool). not b ≡ true) (eq-eqb (stateOf s q) n e) (both-true (not (eqb (stateOf s q) n)) (noneIs n ms) t .0))
+  none-is n {q} (later {p} {ms} m) e t = none-is n m e (both-true (not (eqb (stateOf s p) n)) (noneIs n ms) t .1)
+
+  each-is : (n : ℕ) {ms : Members} → All n s ms → eachIs n ms ≡ true
+  each-is n no-more = refl
+  each-is n (and-then {p} {ms} e l) = rw (eq-eqb (stateOf s p) n e) (each-is n l)
+
+  at-work-next : {q : Process} {ms : Members} → Next s q ms → stateOf s q ≡ 0 → atWork ms ≡ true → ⊥
+  at-work-next (here {ms}) e t = false≢true (rw e at t)
+  at-work-next (after {p} {ms} d h) e t = at-work-next h e (rw d at t)
+
+  at-work-all : {ms : Members} → All 2 s ms → atWork ms ≡ true → ⊥
+  at-work-all no-more t = false≢true t
+  at-work-all (and-then {p} {ms} d h) t = at-work-all h (rw d at t)
+
+  module _ (w : Process) (t : everywhere settledHere w ≡ true) where
+    -- a running process is calm
+    calm-here : {a : Action} {r : ℕ} {ms : Members} → Runs w s a r ms → calm a ms ≡ true
+    calm-here {a} {r} {ms} (i, e) = subst (λ (b : Bool). not b || calm a ms ≡ true) (eq-eqb (getD s r 0) 1 e) (at-node settledHere i t)
+
+    -- so no rule of settling applies
+    pub final-by-test : Final w s
+    final-by-test u (skip-ends x) = false≢true (calm-here x)
+    final-by-test u (seq-starts x n e) = at-work-next n e (calm-here x)
+    final-by-test u (par-starts {ms} x m e) = none-is 0 m e (both-true (noneIs 0 ms) (not (eachIs 2 ms)) (calm-here x) .0)
+    final-by-test u (seq-ends x a) = at-work-all a (calm-here x)
+    final-by-test u (par-ends {ms} x a) = false≢true (rw (each-is 2 a) at (both-true (noneIs 0 ms) (not (eachIs 2 ms)) (calm-here x) .1))
+    final-by-test u (if-ends x m e) = none-is 2 m e (calm-here x)
+    final-by-test u (alt-ends x m e) = none-is 2 m e (calm-here x)
+    final-by-test u (while-again x m e) = none-is 2 m e (calm-here x)
+
+-- no row of a table is of kind 34
+abbrev pub withoutAlt : List ℤ → ℕ → Bool
+withoutAlt rows zero = true
+withoutAlt rows (suc n) = not (eqb (kindAt rows n) 34) && withoutAlt rows n
+
+pub no-alt : (rows : List ℤ) → withoutAlt rows (rowCount rows) ≡ true → NoAlt rows
+no-alt rows t r h e = below (rowCount rows) t h
+  where
+    last : (n : ℕ) → not (eqb (kindAt rows n) 34) ≡ true → r < suc n → Dec (r ≡ n) → (r < n → ⊥) → ⊥
+    last n a h (yes q) k = false≢true (subst (λ (x : Bool). not x ≡ true) (eq-eqb (kindAt rows n) 34 (subst (λ (j : ℕ). kindAt rows j ≡ 34) q e)) a)
+    last n a h (no d) k = k (omega arith)
+
+    below : (n : ℕ) → withoutAlt rows n ≡ true → r < n → ⊥
+    below zero t h = omega arith
+    below (suc n) t h =
+        let (a, b) = both-true (not (eqb (kindAt rows n) 34)) (withoutAlt rows n) t in
+        last n a h (ℕ-discrete r n) (below n b)
+
+-- a number that tells values apart
+abbrev pub told : Value → ℕ
+told (Number (pos n)) = n
+told (Number (negsuc n)) = suc n
+told (Missing k) = 1000 + k
+
+-- a sheet for a table with no role 1 channel: one empty line
+abbrev pub emptySheet : List ℕ
+emptySheet = 10 ∷ []
