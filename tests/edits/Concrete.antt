@@ -3,19 +3,25 @@ use mathlib.Core.Path.{_≡_, refl, sym, ap, subst, _∙_}
 use mathlib.Core.Logic.{_≢_}
 use mathlib.Core.Bool.{Bool, true, false, not, _&&_, _||_, false≢true}
 use mathlib.Core.List.{List, [], _∷_, List·Memᴰ, List·Memᴰ·head, List·Memᴰ·tail}
+use mathlib.Core.Option.{none, some}
 use Prim.Native.Nat.{ℕ, zero, suc, _+_, _<_}
 use native.Mathlib.Omega.{arith}
 use native.Mathlib.Decide.{ℕ-discrete}
 use lib.IntN.{ℤ, pos, negsuc}
-use lib.ListN.{getD}
+use lib.ListN.{getD, replicate}
 use lib.Dec.{eqb}
-use borrow.Author.Tests.{eqb-true, eq-eqb}
+use borrow.Author.Tests.{eqb-true, eqb-false, eq-eqb}
 use Rattle.meaning.specs.declared.Value.{Value}
 use Rattle.meaning.specs.declared.Value.the-variants.{Number, Missing}
 use Rattle.meaning.specs.Rows.{ifElse, rowCount, kindAt}
-use Rattle.meaning.specs.Tree.{Action, stop, skip, sequence, parallel, assign, receive, send, conditional, loop, alternation, Process, node, Members, empty, also}
-use Rattle.meaning.specs.State.{stateOf}
-use Rattle.meaning.specs.SettlingRules.{Among, first, later, All, no-more, and-then, Next, here, after, Inside, itself, beneath, Runs, Settles, skip-ends, seq-starts, par-starts, seq-ends, par-ends, if-ends, alt-ends, while-again, Final}
+use Rattle.meaning.specs.Tree.{Action, stop, skip, sequence, parallel, assign, receive, send, conditional, loop, alternation, Process, node, Members, empty, also, actionOf}
+use Rattle.meaning.specs.State.{Message, State, Program, processAt, whole, stateOf, changeStates, writeAll, Effect}
+use Rattle.meaning.specs.Labels.{Label, own, pass, take, takeFrom}
+use Rattle.meaning.specs.Readings.{Sheet}
+use Rattle.meaning.specs.SettlingRules.{Among, first, later, All, no-more, and-then, Next, here, after, Inside, itself, beneath, Runs, Settles, skip-ends, seq-starts, par-starts, seq-ends, par-ends, if-ends, alt-ends, while-again, Settling, Final, SettlesTo}
+use Rattle.meaning.specs.Step.{Live, live, Allows, assignment, while-false, while-true, if-true, communication, host-read, host-write, alt-skip, alt-read, alt-communication, stopping, Step}
+use Rattle.meaning.specs.Order.{Rest}
+use Rattle.meaning.specs.Buffers.{Buffers}
 use Rattle.agreement.specs.Statements.{NoAlt}
 
 -- both of two tests
@@ -108,6 +114,43 @@ module _ (s : List ℕ) where
     final-by-test u (alt-ends x m e) = none-is 2 m e (calm-here x)
     final-by-test u (while-again x m e) = none-is 2 m e (calm-here x)
 
+-- all these rows are idle
+abbrev pub idleRows : List ℕ → List ℕ → Bool
+idleRows s [] = true
+idleRows s (r ∷ l) = eqb (getD s r 0) 0 && idleRows s l
+
+pub idle-by-test : (s l : List ℕ) → idleRows s l ≡ true → (b : ℕ) → List·Memᴰ b l → getD s b 0 ≡ 0
+idle-by-test s (r ∷ l) t b (List·Memᴰ·head e) = rw e (eqb-true (getD s r 0) 0 (both-true (eqb (getD s r 0) 0) (idleRows s l) t .0))
+idle-by-test s (r ∷ l) t b (List·Memᴰ·tail m) = idle-by-test s l (both-true (eqb (getD s r 0) 0) (idleRows s l) t .1) b m
+
+module _ (P : Program) where
+  -- row states that rules lead to, where none applies
+  pub settles : {s t : List ℕ} → Settling (whole P) s t → everywhere (settledHere t) (whole P) ≡ true → SettlesTo (whole P) s t
+  settles {t} h e = record { by-rules = h; final = final-by-test t (whole P) e }
+
+  module _ (sheet : Sheet) where
+    -- a step whose effect leaves a state
+    pub step : {s t : State} {x : Label} {e : Effect} → Allows P sheet s x e → Settling (whole P) (changeStates (e .changes) (s .states)) (t .states)
+        → everywhere (settledHere (t .states)) (whole P) ≡ true → t .store ≡ writeAll (e .writes) (s .store) → Step P sheet s x t
+    step {e} a h c d = record { does = e; allowed = a; leaves = record { settles = settles h c; stores = d } }
+
+    -- where no row is live no step is allowed
+    pub rests : (s : State) → ((r : ℕ) (a : Action) → ¬ Live P s r a) → Rest P sheet s
+    rests s n x t h = none-allowed (h .allowed)
+      where
+        none-allowed : {x : Label} {e : Effect} → Allows P sheet s x e → ⊥
+        none-allowed (assignment l i v) = n _ _ l
+        none-allowed (while-false l v) = n _ _ l
+        none-allowed (while-true l v) = n _ _ l
+        none-allowed (if-true l v) = n _ _ l
+        none-allowed (communication l m i o) = n _ _ l
+        none-allowed (host-read l i) = n _ _ l
+        none-allowed (host-write l h i v o c) = n _ _ l
+        none-allowed (alt-skip l c m h i) = n _ _ l
+        none-allowed (alt-read l c m h i o) = n _ _ l
+        none-allowed (alt-communication l c m k h i o p) = n _ _ l
+        none-allowed (stopping l k) = n _ _ l
+
 -- no row of a table is of kind 34
 abbrev pub withoutAlt : List ℤ → ℕ → Bool
 withoutAlt rows zero = true
@@ -126,12 +169,54 @@ no-alt rows t r h e = below (rowCount rows) t h
         let (a, b) = both-true (not (eqb (kindAt rows n) 34)) (withoutAlt rows n) t in
         last n a h (ℕ-discrete r n) (below n b)
 
--- a number that tells values apart
+-- numbers that tell apart: values
 abbrev pub told : Value → ℕ
 told (Number (pos n)) = n
 told (Number (negsuc n)) = suc n
 told (Missing k) = 1000 + k
 
+-- a cell or a message: 0 for none, 1 for a number
+abbrev pub stored : Message → ℕ
+stored none = 0
+stored (some z) = 1
+
+-- the sort of an action, and of a step; the row that a step is named by
+abbrev pub sortOf : Action → ℕ
+sortOf stop = 0
+sortOf skip = 1
+sortOf sequence = 2
+sortOf parallel = 3
+sortOf (assign v e f) = 4
+sortOf (receive i) = 5
+sortOf (send c e f) = 6
+sortOf (conditional ts) = 7
+sortOf (loop e b) = 8
+sortOf (alternation bs) = 9
+
+abbrev pub stepSort : Label → ℕ
+stepSort (own r) = 0
+stepSort (pass i o) = 1
+stepSort (take r j) = 2
+stepSort (takeFrom r j o) = 3
+
+abbrev pub rowIn : Label → ℕ
+rowIn (own r) = r
+rowIn (pass i o) = i
+rowIn (take r j) = r
+rowIn (takeFrom r j o) = r
+
+pub other-step : {x y : Label} → eqb (stepSort x) (stepSort y) ≡ false → x ≡ y → ⊥
+other-step {x} {y} t e = eqb-false (stepSort x) (stepSort y) t (ap stepSort e)
+
+-- row r is named, and there is another action at that row
+pub other-action : (P : Program) (s : State) (r : ℕ) {q : ℕ} {a : Action} → Live P s q a → q ≡ r → eqb (sortOf (actionOf (processAt P r))) (sortOf a) ≡ false → ⊥
+other-action P s r {q} {a} (live e u k) n t = eqb-false (sortOf (actionOf (processAt P r))) (sortOf a) t (ap (λ (p : ℕ). sortOf (actionOf (processAt P p))) (sym n) ∙ ap (λ (p : Process). sortOf (actionOf p)) e)
+
 -- a sheet for a table with no role 1 channel: one empty line
 abbrev pub emptySheet : List ℕ
 emptySheet = 10 ∷ []
+
+-- six lent buffers, each as long as its limit
+abbrev pub lentBuffers : Buffers
+lentBuffers =
+    record { cells = replicate 256 (pos 0); marks = replicate 256 0; states = replicate 1024 0; places = replicate 8 0; numbers = replicate 1024 (pos 0); counts = replicate 8 0 }
