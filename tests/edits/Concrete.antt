@@ -11,6 +11,9 @@ use lib.IntN.{ℤ, pos, negsuc}
 use lib.ListN.{getD, replicate}
 use lib.Dec.{eqb}
 use borrow.Author.Tests.{eqb-true, eqb-false, eq-eqb}
+use Rattle.meaning.specs.declared.Answer.{Answer}
+use Rattle.meaning.specs.declared.Answer.the-variants.{Refused, Ran}
+use Rattle.meaning.specs.declared.Outcome.the-variants.{Ended, Stuck, Broken, Spent}
 use Rattle.meaning.specs.declared.Value.{Value}
 use Rattle.meaning.specs.declared.Value.the-variants.{Number, Missing}
 use Rattle.meaning.specs.Rows.{ifElse, rowCount, kindAt}
@@ -123,6 +126,16 @@ pub idle-by-test : (s l : List ℕ) → idleRows s l ≡ true → (b : ℕ) → 
 idle-by-test s (r ∷ l) t b (List·Memᴰ·head e) = rw e (eqb-true (getD s r 0) 0 (both-true (eqb (getD s r 0) 0) (idleRows s l) t .0))
 idle-by-test s (r ∷ l) t b (List·Memᴰ·tail m) = idle-by-test s l (both-true (eqb (getD s r 0) 0) (idleRows s l) t .1) b m
 
+-- no row is running
+abbrev pub noneRunning : List ℕ → Bool
+noneRunning [] = true
+noneRunning (x ∷ s) = not (eqb x 1) && noneRunning s
+
+pub none-running : (s : List ℕ) → noneRunning s ≡ true → (r : ℕ) → getD s r 0 ≡ 1 → ⊥
+none-running [] t r e = let d : _≡_ {A = ℕ} 0 1 = e in omega arith
+none-running (x ∷ s) t zero e = false≢true (subst (λ (b : Bool). not b ≡ true) (eq-eqb x 1 e) (both-true (not (eqb x 1)) (noneRunning s) t .0))
+none-running (x ∷ s) t (suc r) e = none-running s (both-true (not (eqb x 1)) (noneRunning s) t .1) r e
+
 module _ (P : Program) where
   -- row states that rules lead to, where none applies
   pub settles : {s t : List ℕ} → Settling (whole P) s t → everywhere (settledHere t) (whole P) ≡ true → SettlesTo (whole P) s t
@@ -180,6 +193,14 @@ abbrev pub stored : Message → ℕ
 stored none = 0
 stored (some z) = 1
 
+-- answers: 0 for a refusal, then the outcomes
+abbrev pub outcomeNumber : Answer → ℕ
+outcomeNumber (Refused number place) = 0
+outcomeNumber (Ran Ended steps) = 1
+outcomeNumber (Ran Stuck steps) = 2
+outcomeNumber (Ran Broken steps) = 3
+outcomeNumber (Ran Spent steps) = 4
+
 -- the sort of an action, and of a step; the row that a step is named by
 abbrev pub sortOf : Action → ℕ
 sortOf stop = 0
@@ -208,9 +229,15 @@ rowIn (takeFrom r j o) = r
 pub other-step : {x y : Label} → eqb (stepSort x) (stepSort y) ≡ false → x ≡ y → ⊥
 other-step {x} {y} t e = eqb-false (stepSort x) (stepSort y) t (ap stepSort e)
 
--- row r is named, and there is another action at that row
+pub other-sort : (a b : Action) → eqb (sortOf a) (sortOf b) ≡ false → a ≡ b → ⊥
+other-sort a b t e = eqb-false (sortOf a) (sortOf b) t (ap sortOf e)
+
+-- the action of a live row is the one that stands there
+pub action-at : (P : Program) (s : State) (r : ℕ) {q : ℕ} {a : Action} → Live P s q a → q ≡ r → actionOf (processAt P r) ≡ a
+action-at P s r (live e u k) n = ap (λ (p : ℕ). actionOf (processAt P p)) (sym n) ∙ ap actionOf e
+
 pub other-action : (P : Program) (s : State) (r : ℕ) {q : ℕ} {a : Action} → Live P s q a → q ≡ r → eqb (sortOf (actionOf (processAt P r))) (sortOf a) ≡ false → ⊥
-other-action P s r {q} {a} (live e u k) n t = eqb-false (sortOf (actionOf (processAt P r))) (sortOf a) t (ap (λ (p : ℕ). sortOf (actionOf (processAt P p))) (sym n) ∙ ap (λ (p : Process). sortOf (actionOf p)) e)
+other-action P s r {q} {a} l n t = other-sort (actionOf (processAt P r)) a t (action-at P s r l n)
 
 -- a sheet for a table with no role 1 channel: one empty line
 abbrev pub emptySheet : List ℕ
