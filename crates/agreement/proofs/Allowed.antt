@@ -16,10 +16,10 @@ use Rattle.meaning.specs.Rows.{ifElse}
 use Rattle.meaning.specs.Declarations.{Variable, Channel}
 use Rattle.meaning.specs.Tree.{Expr, Receive, IfChoice, AltOption, Action, stop, skip, sequence, parallel, assign, receive, send, conditional, loop, alternation, Process, node, actionOf, membersIn, rowsBeneath}
 use Rattle.meaning.specs.Values.{isTrue, value, index}
-use Rattle.meaning.specs.State.{Message, State, Program, processAt, Write, writeCell, writePlace, writeOutput, Effect, settled}
+use Rattle.meaning.specs.State.{Message, State, Program, processAt, Write, writeCell, writePlace, writeOutput, Effect}
 use Rattle.meaning.specs.Intent.{Sheet, entry, Offer, openOffer, inputOffer, Intent, waits, moves, inputsFrom, outputsTo, selects, assigning, testing, choosing, hosting, sending, Reception, lacks, later, reads, fromElement, reading, receiving, inputting, Looked, fails, offers, adding, admitting, opening, guarding, selecting, reception, receptionIf, tests, looks, intent}
 use Rattle.meaning.specs.Ready.{Label, own, pass, take, takeFrom, allIdle, live, intentAt, ownEffect, meeting, meetEffect, passEffect, takeEffect, takeFromEffect, optionRow, offerEffectAt, offerEffect, effectOf}
-use Rattle.meaning.specs.Step.{channelOf, targetOf, Holds, holds, refuted, LacksIn, channel-lacks, target-lacks, FirstTrue, LacksTest, boolean-lacks, input-lacks, Complete, closed, open-skip, open-input, LacksOption, AllComplete, no-more, and-then, assign-subscript, assign-value, input-subscript, output-subscript, output-value, while-test, if-test, alt-guard, Inner, inner, Host, host, Sends, sends, Live, becomes, effect, Step, assignment, while-false, while-true, if-true, communication, host-read, host-write, alt-skip, alt-read, alt-communication, stopping}
+use Rattle.meaning.specs.Step.{channelOf, targetOf, Holds, holds, refuted, LacksIn, channel-lacks, target-lacks, FirstTrue, LacksTest, boolean-lacks, input-lacks, Complete, closed, open-skip, open-input, LacksOption, AllComplete, no-more, and-then, assign-subscript, assign-value, input-subscript, output-subscript, output-value, while-test, if-test, alt-guard, Inner, inner, Host, host, Sends, sends, Live, becomes, effect, Allows, assignment, while-false, while-true, if-true, communication, host-read, host-write, alt-skip, alt-read, alt-communication, stopping}
 
 is-true : (t : Bool) → t ≡ true → T t
 is-true true e = tt
@@ -31,7 +31,7 @@ module _ (P : Program) (sheet : Sheet) (s : State) where
 
   -- row r may become v, with these writes, as a step of its own
   abbrev Own : ℕ → ℕ → ℕ → List Write → Type 0
-  Own r x v ws = Step P sheet s (own r) (settled P (effect (becomes r x v ∷ []) ws) s)
+  Own r x v ws = Allows P sheet s (own r) (effect (becomes r x v ∷ []) ws)
 
   -- an offer that a branch of l makes
   data OfferOf (l : List AltOption) : Offer → Type 0 where
@@ -226,9 +226,9 @@ module _ (P : Program) (sheet : Sheet) (s : State) where
       go true e = sound r (actionOf (processAt P r)) (live-is r e)
       go false e = tt
 
-  -- a step to the state that an effect leaves, where the effect is e
+  -- a rule allows the step with effect e
   abbrev To : Label → Effect → Type 0
-  To x e = Step P sheet s x (settled P e s)
+  To x e = Allows P sheet s x e
 
   to : (x : Label) (e f : Effect) → _≡_ {A = Option Effect} (some f) (some e) → To x f → To x e
   to x e f q h = subst (λ (g : Effect). To x g) (Option·some-injective f e q) h
@@ -293,7 +293,7 @@ module _ (P : Program) (sheet : Sheet) (s : State) where
   take-allowed x j e f r (selects os) h k q = offer-allowed x e j (h .0) f (k (h .0) (h .1) (h .2)) os (h .3) q
 
   -- what a ready step does is allowed by a rule
-  pub allowed : (x : Label) (e : Effect) → effectOf x (intentAt P sheet s) ≡ some e → Step P sheet s x (settled P e s)
+  pub allowed : (x : Label) (e : Effect) → effectOf x (intentAt P sheet s) ≡ some e → Allows P sheet s x e
   allowed (own r) e q = own-allowed r e (intentAt P sheet s r) (wanted r) q
   allowed (pass i o) e q = pass-allowed i o e (intentAt P sheet s i) (intentAt P sheet s o) (wanted i) (wanted o) q
   allowed (take r j) e q = take-allowed (take r j) j e (takeEffect r) r (intentAt P sheet s r) (wanted r) (one-take r j e) q

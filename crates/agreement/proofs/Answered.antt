@@ -22,6 +22,7 @@ use Rattle.meaning.specs.Order.{OrderOf, RestOf, outcomeOf}
 use Rattle.meaning.specs.Accepted.{Accepted}
 use Rattle.agreement.specs.Statements.{NoAlt, OneRest, CallsAnswer, Demand3, Demand3Bytes}
 use Rattle.agreement.proofs.TableFit.{fit}
+use Rattle.agreement.proofs.TableOptions.{option-rows}
 use Rattle.agreement.proofs.OneRest.{agreement}
 
 pub buffers-suffice : (b : Buffers) → tooShort b ≡ false → bufferFault b ≡ none
@@ -57,14 +58,14 @@ module _ (rows : List ℤ) (sheet : List ℕ) (accepted : check rows ≡ none) (
   module _ (w : NoAlt rows) (l : List Label) (s : State) (o : OrderOf rows (readings rows sheet) l s) (r : RestOf rows (readings rows sheet) s) where
     agreed : OneRest rows (readings rows sheet) l s
     agreed k t q =
-        let (n, z) = agreement Accepted (λ rows sheet a. fit rows (a .0)) rows (readings rows sheet) (accepted, (sheet, (read, refl))) w l s o r .0 k t q in
+        let (n, z) = agreement Accepted (λ rows sheet a. (fit rows (a .0), option-rows rows (a .0))) rows (readings rows sheet) (accepted, (sheet, (read, refl))) w l s o r .0 k t q in
         (n, λ y. (z y .0, z y .1, ap (outcomeOf rows) (z y .1)))
 
     -- a call that answers as its run does
     answers : (call : List ℕ → ℕ → Buffers → Reply) → ((choices : List ℕ) (budget : ℕ) (b : Buffers) → tooShort b ≡ false → budget ≤ maxBudget → call choices budget b ≡ replyOf rows b (ran (ending choices budget)))
         → CallsAnswer call rows l s
     answers call h choices budget b e m =
-        let (enough, less) = agreement Accepted (λ rows sheet a. fit rows (a .0)) rows (readings rows sheet) (accepted, (sheet, (read, refl))) w l s o r .1 choices budget in (
+        let (enough, less) = agreement Accepted (λ rows sheet a. (fit rows (a .0), option-rows rows (a .0))) rows (readings rows sheet) (accepted, (sheet, (read, refl))) w l s o r .1 choices budget in (
           λ k. h choices budget b e m ∙ ap (λ (z : R.Result). replyOf rows b (ran z)) (enough k),
           λ k. ap (λ (z : Reply). z .answer) (h choices budget b e m) ∙ (let (p, q) = less k in rw (p, q)),
         )

@@ -109,7 +109,7 @@ run-answered t b o n e =
     let (u, outcome, steps, left) = ran-call t b o n e in
     let sheet = readings (t .rows) (t .sheet) in
     let q = run (t .rows) sheet (t .choices) (t .budget) in
-    let (l, order, picked, long, within, rest, ended, spent) = run-takes-order (t .rows) sheet (t .choices) (t .budget) in
+    let (l, order, picked, long, within, rest, ended, spent) = run-takes-order (t .rows) (u .accepted) sheet (t .choices) (t .budget) in
     record {
       buffers-long = u .long;
       table-accepted = u .accepted;

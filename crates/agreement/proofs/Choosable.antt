@@ -1,5 +1,5 @@
 -- Every order is some run's: for each of its steps there is a choice below 65,536 that picks it.
-use mathlib.Core.Path.{_≡_, refl, sym, ap, _∙_}
+use mathlib.Core.Path.{_≡_, refl, sym, ap, subst, _∙_}
 use mathlib.Core.List.{List, [], _∷_, List·Memᴰ, List·Memᴰ·head, List·Memᴰ·tail, List·Memᴰ·not-nil}
 use Prim.Native.Nat.{ℕ, suc, _+_, _<_, _≤_}
 use native.Mathlib.Omega.{arith}
@@ -11,14 +11,17 @@ use Rattle.meaning.specs.State.{State, program}
 use Rattle.meaning.specs.Intent.{Sheet}
 use Rattle.meaning.specs.Ready.{Label, ready, after}
 use Rattle.meaning.specs.Run.{chosenStep, goFrom, go, run}
-use Rattle.meaning.specs.Order.{Order, halt, then, Chosen, none-left, chosen}
+use Rattle.meaning.specs.Settle.{start}
+use Rattle.meaning.specs.Step.{Step}
+use Rattle.meaning.specs.Order.{Order, halt, then, ReadyList, Chosen, none-left, chosen}
 use Rattle.agreement.proofs.Claims.{Choosable}
 use Rattle.agreement.proofs.Steps.{distinct-options, allowed-ready, offers-rise}
 use Rattle.agreement.proofs.Fit.{Fit}
 use Rattle.agreement.proofs.OptionRows.{OptionRows}
 use Rattle.agreement.proofs.Working.{Inv}
 use Rattle.agreement.proofs.Invariant.{step-inv, start-inv}
-use Rattle.agreement.proofs.Separate.{processes-length}
+use Rattle.agreement.proofs.Beginning.{begins-at-start, begins-start}
+use Rattle.agreement.proofs.RowsAscend.{ready-list}
 use Rattle.agreement.proofs.FewReady.{few-ready}
 
 -- where a step stands in a list
@@ -38,7 +41,7 @@ module _ (rows : List ℤ) (sheet : Sheet) (F : Fit (program rows) (rowCount row
   -- choices that pick an order from s to t, and what a run does with them after n steps
   abbrev Follows : State → List Label → State → List ℕ → Type 0
   Follows s l t choices =
-      ((c : ℕ) → List·Memᴰ c choices → c < 65536) × Chosen (program rows) sheet s choices l
+      ((c : ℕ) → List·Memᴰ c choices → c < 65536) × Chosen (program rows) sheet s choices l t
       × ((n : ℕ) → let r = goFrom (program rows) sheet (length l) n choices s (ready (program rows) sheet s) in (r .state ≡ t) × (r .steps ≡ n + length l))
 
   stops : (s : State) (n : ℕ) (choices : List ℕ) (l : List Label) → let r = goFrom (program rows) sheet 0 n choices s l in (r .state ≡ s) × (r .steps ≡ n + 0)
@@ -57,30 +60,32 @@ module _ (rows : List ℤ) (sheet : Sheet) (F : Fit (program rows) (rowCount row
 
   -- one more step in front
   step-first : (s : State) (x : Label) (t u : State) (l : List Label) (y : Label) (m : List Label) → ready (program rows) sheet s ≡ y ∷ m → (p : ℕ) → p < length (y ∷ m) → p < 65536 → getD (y ∷ m) p y ≡ x
-      → t ≡ after (program rows) sheet x s → (rest : List ℕ) → Follows t l u rest → Follows s (x ∷ l) u (p ∷ rest)
-  step-first s x t u l y m e p h g q z rest (b, c, f) =
+      → I s → Step (program rows) sheet s x t → t ≡ after (program rows) sheet x s → (rest : List ℕ) → Follows t l u rest → Follows s (x ∷ l) u (p ∷ rest)
+  step-first s x t u l y m e p h g q i w z rest (b, c, f) =
       let k = picks p rest x y m h q in
       let v : after (program rows) sheet (chosenStep (p ∷ rest) y m) s ≡ t = ap (λ (w : Label). after (program rows) sheet w s) k ∙ sym z in
-      let first : Chosen (program rows) sheet s (p ∷ rest) (chosenStep (p ∷ rest) y m ∷ l) = chosen {choices = p ∷ rest} {l = l} e (rw v c) in (
+      let all : ReadyList (program rows) sheet s (y ∷ m) = subst (λ (j : List Label). ReadyList (program rows) sheet s j) e (ready-list rows sheet F O s i) in
+      let first : Chosen (program rows) sheet s (p ∷ rest) (chosenStep (p ∷ rest) y m ∷ l) u
+      = chosen {choices = p ∷ rest} {l = l} all (subst (λ (j : Label). Step (program rows) sheet s j t) (sym k) w) c in (
         below p rest g b,
         rw k at first,
         λ n. rw (e, go-on (length l) n (p ∷ rest) s y m, v) (f (suc n) .0, f (suc n) .1 ∙ omega arith),
       )
 
   -- by the place of the step among the ready ones
-  by-list : (s : State) (x : Label) (t u : State) (l r : List Label) → ready (program rows) sheet s ≡ r → length r ≤ rowCount rows → List·Memᴰ x r → t ≡ after (program rows) sheet x s → (rest : List ℕ) → Follows t l u rest
+  by-list : (s : State) (x : Label) (t u : State) (l r : List Label) → ready (program rows) sheet s ≡ r → length r ≤ rowCount rows → List·Memᴰ x r → I s → Step (program rows) sheet s x t → t ≡ after (program rows) sheet x s → (rest : List ℕ) → Follows t l u rest
       → (choices : List ℕ) × Follows s (x ∷ l) u choices
-  by-list s x t u l [] e k m z rest f = absurd (List·Memᴰ·not-nil m)
-  by-list s x t u l (y ∷ r) e k m z rest f = let (p, h, q) = place x y (y ∷ r) m in (p ∷ rest, step-first s x t u l y r e p h (omega arith) q z rest f)
+  by-list s x t u l [] e k m i w z rest f = absurd (List·Memᴰ·not-nil m)
+  by-list s x t u l (y ∷ r) e k m i w z rest f = let (p, h, q) = place x y (y ∷ r) m in (p ∷ rest, step-first s x t u l y r e p h (omega arith) q i w z rest f)
 
   pub follows : {s t : State} {l : List Label} → I s → Order (program rows) sheet s l t → (choices : List ℕ) × Follows s l t choices
   follows {s} i halt = ([], (λ c m. absurd (List·Memᴰ·not-nil m), none-left, λ n. stops s n [] (ready (program rows) sheet s)))
   follows i (then {s} {t} {u} {x} {l} h o) =
-      let (a, z) = allowed-ready rows sheet s (i .size) x t h in
+      let (a, z) = allowed-ready rows sheet F s i x t h in
       let j = step-inv (program rows) (rowCount rows) F sheet (distinct-options rows sheet) s x t i h in
       let few : length (ready (program rows) sheet s) ≤ rowCount rows = few-ready (program rows) (rowCount rows) F sheet s i O (offers-rise rows sheet s) in
       let (rest, f) = follows j o in
-      by-list s x t u l (ready (program rows) sheet s) refl few a z rest f
+      by-list s x t u l (ready (program rows) sheet s) refl few a i h z rest f
 
 -- the claim of `Order`: every step that is allowed can be chosen
 pub choosable : (Accepted : List ℤ → Sheet → Type 0)
@@ -88,5 +93,6 @@ pub choosable : (Accepted : List ℤ → Sheet → Type 0)
 unfolding run go
 choosable Accepted fit rows sheet l s a o =
     let (F, O, k) = fit rows sheet a in
-    let (choices, (b, c, f)) = follows rows sheet F O k (start-inv (program rows) (rowCount rows) F sheet (processes-length rows)) o in
-    (choices, b, c, f 0 .0, f 0 .1 ∙ omega arith)
+    let q = begins-start (program rows) (rowCount rows) F (o .beginning) (o .begins) in
+    let (choices, (b, c, f)) = follows rows sheet F O k (start-inv (program rows) (rowCount rows) F sheet) (subst (λ (p : State). Order (program rows) sheet p l s) q (o .order)) in
+    (choices, b, record { beginning = start (program rows); begins = begins-at-start (program rows) (rowCount rows) F; picked = c }, f 0 .0, f 0 .1 ∙ omega arith)

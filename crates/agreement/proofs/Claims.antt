@@ -7,12 +7,12 @@ use lib.IntN.{ℤ}
 use lib.ListN.{length}
 use Rattle.meaning.specs.declared.Outcome.the-variants.{Spent}
 use Rattle.meaning.specs.Rows.{rowCount, kindAt}
-use Rattle.meaning.specs.State.{State, program, start}
+use Rattle.meaning.specs.State.{State, program}
 use Rattle.meaning.specs.Intent.{Sheet}
 use Rattle.meaning.specs.Ready.{Label, orderRow, ready, after}
 use Rattle.meaning.specs.Step.{Step}
 use Rattle.meaning.specs.Run.{Result, run}
-use Rattle.meaning.specs.Order.{OrderOf, RestOf, outcomeOf, Chosen}
+use Rattle.meaning.specs.Order.{OrderOf, ChosenOf, RestOf, outcomeOf}
 
 module _ (Accepted : List ℤ → Sheet → Type 0) where
   -- a step is in the list of ready steps exactly if a rule allows it; the state that it leaves is one
@@ -36,13 +36,13 @@ module _ (Accepted : List ℤ → Sheet → Type 0) where
   abbrev pub Runs : Type 0
   Runs = (rows : List ℤ) (sheet : Sheet) (choices : List ℕ) (budget : ℕ) → Accepted rows sheet
       → let r = run rows sheet choices budget in
-      (l : List Label) × OrderOf rows sheet l (r .state) × Chosen (program rows) sheet (start (program rows)) choices l
+      (l : List Label) × OrderOf rows sheet l (r .state) × ChosenOf rows sheet choices l (r .state)
       × (length l ≡ r .steps) × (r .steps ≤ budget) × Finish rows sheet budget r
 
   -- "Every step so allowed can be chosen": every order is some run's
   abbrev pub Choosable : Type 0
   Choosable = (rows : List ℤ) (sheet : Sheet) (l : List Label) (s : State) → Accepted rows sheet → OrderOf rows sheet l s
-      → (choices : List ℕ) × ((c : ℕ) → List·Memᴰ c choices → c < 65536) × Chosen (program rows) sheet (start (program rows)) choices l
+      → (choices : List ℕ) × ((c : ℕ) → List·Memᴰ c choices → c < 65536) × ChosenOf rows sheet choices l s
       × (run rows sheet choices (length l) .state ≡ s) × (run rows sheet choices (length l) .steps ≡ length l)
 
   -- "without ALT"

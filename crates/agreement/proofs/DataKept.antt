@@ -13,10 +13,10 @@ use Rattle.meaning.specs.declared.Node.the-variants.{Literal, Element, Monadic,
 use Rattle.meaning.specs.Rows.{ifElse, rowCount, nodeAt}
 use Rattle.meaning.specs.Declarations.{Channel, noChannel, sumBelow, elementsAt, portsAt, capacityAt, hasRole, channelAt, sinkAt}
 use Rattle.meaning.specs.Tree.{Expr, Action, stop, skip, sequence, parallel, assign, receive, send, conditional, loop, alternation, Process, Part, partOf, partAt, actionOf, orStop}
-use Rattle.meaning.specs.State.{Message, Store, State, program, processAt, Write, writeCell, writePlace, writeOutput, write, writeAll, Effect, settled}
+use Rattle.meaning.specs.State.{Message, Store, State, program, processAt, Write, writeCell, writePlace, writeOutput, write, writeAll, Effect}
 use Rattle.meaning.specs.Intent.{Sheet, entry}
 use Rattle.meaning.specs.Ready.{Label}
-use Rattle.meaning.specs.Step.{Live, live, host, Step, assignment, while-false, while-true, if-true, communication, host-read, host-write, alt-skip, alt-read, alt-communication, stopping}
+use Rattle.meaning.specs.Step.{Live, live, host, Allows, assignment, while-false, while-true, if-true, communication, host-read, host-write, alt-skip, alt-read, alt-communication, stopping}
 use Rattle.agreement.specs.Coherence.{RowState}
 use Rattle.agreement.proofs.KnownStates.{set-keeps, ChangesOk}
 use Rattle.agreement.proofs.TableTree.{above, part-at, part-past, process-is}
@@ -123,8 +123,8 @@ module _ (rows : List ℤ) (sheet : Sheet) where
   writes-bounded (w ∷ ws) x h b = writes-bounded ws (write w x) (h .1) (write-bounded w x (h .0) b)
 
   -- what a step does
-  abbrev pub EffectOk : State → State → Type 0
-  EffectOk s t = (e : Effect) × (t ≡ settled (program rows) e s) × ChangesOk (e .changes) × WritesOk (e .writes)
+  abbrev pub EffectOk : Effect → Type 0
+  EffectOk e = ChangesOk (e .changes) × WritesOk (e .writes)
 
   read-ok : (c n : ℕ) (v : Message) → entry (getD sheet c []) n ≡ some v → suc n ≤ length (getD sheet c [])
   read-ok c n v e = entry-below (getD sheet c []) n v e
@@ -138,15 +138,15 @@ module _ (rows : List ℤ) (sheet : Sheet) where
       let same = one-capacity rows i a k (sym (ap (λ (d : Channel). d .host) q) ∙ h) (sym (ap (λ (d : Channel). d .port) q) ∙ p) in
       omega (arith, length-append l (z ∷ []), same, ap (λ (d : Channel). d .capacity) q)
 
-  pub step-ok : (s : State) (x : Label) (t : State) → Step (program rows) sheet s x t → EffectOk s t
-  step-ok s x t (assignment g p q) = (_, refl, (RowState.ended, tt), (tt, tt))
-  step-ok s x t (while-false g h) = (_, refl, (RowState.ended, tt), tt)
-  step-ok s x t (while-true g h) = (_, refl, (RowState.running, tt), tt)
-  step-ok s x t (if-true g h) = (_, refl, (RowState.running, tt), tt)
-  step-ok s x t (communication g k h w) = (_, refl, (RowState.ended, (RowState.ended, tt)), (tt, tt))
-  step-ok s x t (host-read {n} {i} {v} g (host a b c d e)) = (_, refl, (RowState.ended, tt), (tt, (read-ok (i .channel .port) n v e, tt)))
-  step-ok s x t (host-write {r} {c} {e} {f} {z} {l} g h p q o m) = (_, refl, (RowState.ended, tt), (room-ok s r c e f g h l (some z) m, tt))
-  step-ok s x t (alt-skip g c m h q) = (_, refl, (RowState.running, tt), tt)
-  step-ok s x t (alt-read {n} {i} {v} g c m h q (host a b d f e)) = (_, refl, (RowState.running, tt), (tt, (read-ok (i .channel .port) n v e, tt)))
-  step-ok s x t (alt-communication g c m k h q w y) = (_, refl, (RowState.running, (RowState.ended, tt)), (tt, tt))
-  step-ok s x t (stopping {k} g h) = (_, refl, (RowState.stopped k, tt), tt)
+  pub step-ok : (s : State) (x : Label) (e : Effect) → Allows (program rows) sheet s x e → EffectOk e
+  step-ok s x t (assignment g p q) = ((RowState.ended, tt), (tt, tt))
+  step-ok s x t (while-false g h) = ((RowState.ended, tt), tt)
+  step-ok s x t (while-true g h) = ((RowState.running, tt), tt)
+  step-ok s x t (if-true g h) = ((RowState.running, tt), tt)
+  step-ok s x t (communication g k h w) = ((RowState.ended, (RowState.ended, tt)), (tt, tt))
+  step-ok s x t (host-read {n} {i} {v} g (host a b c d e)) = ((RowState.ended, tt), (tt, (read-ok (i .channel .port) n v e, tt)))
+  step-ok s x t (host-write {r} {c} {e} {f} {z} {l} g h p q o m) = ((RowState.ended, tt), (room-ok s r c e f g h l (some z) m, tt))
+  step-ok s x t (alt-skip g c m h q) = ((RowState.running, tt), tt)
+  step-ok s x t (alt-read {n} {i} {v} g c m h q (host a b d f e)) = ((RowState.running, tt), (tt, (read-ok (i .channel .port) n v e, tt)))
+  step-ok s x t (alt-communication g c m k h q w y) = ((RowState.running, (RowState.ended, tt)), (tt, tt))
+  step-ok s x t (stopping {k} g h) = ((RowState.stopped k, tt), tt)

@@ -1,24 +1,34 @@
 -- Demands 2 and 3 as `Statements` words them, with nothing left to assume.
-use mathlib.Core.Path.{sym, _∙_}
+use mathlib.Core.Path.{_≡_, sym, _∙_}
+use mathlib.Core.Option.{none}
 use native.Mathlib.Omega.{arith}
 use Rattle.meaning.specs.Accepted.{Accepted}
-use Rattle.agreement.specs.Statements.{ReadyExactly, EveryOrderChosen, OneStepDiamond, ListsGrow}
+use Rattle.meaning.specs.Answers.{check}
+use Rattle.agreement.specs.Statements.{ReadyExactly, AfterIsStep, EveryOrderChosen, OneStepDiamond, ListsGrow}
 use Rattle.agreement.proofs.Reached.{ready-steps}
+use Rattle.agreement.proofs.Steps.{ready-allowed, allowed-ready}
+use Rattle.agreement.proofs.Separate.{table-inv}
 use Rattle.agreement.proofs.TableFit.{fit, rows-limit}
 use Rattle.agreement.proofs.TableOptions.{option-rows}
 use Rattle.agreement.proofs.Choosable.{choosable}
 use Rattle.agreement.proofs.WithoutAlt
 use Rattle.agreement.proofs.OutputsGrow.{step-grows}
 use Rattle.meaning.specs.State.{program}
-pub use Rattle.agreement.proofs.RowsAscend.{rows-ascend}
+pub use Rattle.agreement.proofs.RowsAscend.{rows-ascend, ready-listed}
 pub use Rattle.agreement.proofs.Elements.{one-per-element}
 pub use Rattle.agreement.proofs.RunTakesOrder.{run-takes-order}
 pub use Rattle.agreement.proofs.Answered.{demand3, demand3-bytes}
 
 pub ready-exactly : ReadyExactly
-ready-exactly rows sheet s (l, o) x =
-    let (both, one) = ready-steps (λ rows sheet. Unit {0}) rows sheet l s tt o x in
+ready-exactly rows ok sheet s (l, o) x =
+    let (both, one) = ready-steps (λ rows sheet. check rows ≡ none) (λ rows sheet a. fit rows a) rows sheet l s ok o x in
     (both, λ t u h g. one t h ∙ sym (one u g))
+
+pub after-is-step : AfterIsStep
+after-is-step rows ok sheet s (l, o) x m =
+    let F = fit rows ok in
+    let i = table-inv rows sheet F l s o in
+    (ready-allowed rows sheet F s i x m, λ t h. allowed-ready rows sheet F s i x t h .1)
 
 pub every-order-chosen : EveryOrderChosen
 every-order-chosen rows sheet a l s o =

@@ -4,8 +4,9 @@ use mathlib.Core.Bool.{true}
 use mathlib.Core.Option.{Option, none, some}
 use mathlib.Core.List.{List, [], _∷_}
 use Prim.Native.Nat.{ℕ}
+use lib.ListN.{length}
 use Rattle.meaning.specs.Declarations.{Channel}
-use Rattle.meaning.specs.Tree.{IfChoice, AltOption, Receive, Action, stop, skip, sequence, parallel, assign, receive, send, conditional, loop, alternation, node, Members, actionOf}
+use Rattle.meaning.specs.Tree.{IfChoice, AltOption, Receive, Action, stop, skip, sequence, parallel, assign, receive, send, conditional, loop, alternation, node, Members, actionOf, rowOf}
 use Rattle.meaning.specs.Usage.{changes, uses, inputs, outputs}
 use Rattle.meaning.specs.State.{Program, processAt, whole}
 use Rattle.agreement.proofs.Frame.{Off}
@@ -69,6 +70,9 @@ pub record Apt (k j : Action) : Type 0 where
   pub out-out : Off (outputs k) (outputs j)
 
 pub record Fit (P : Program) (n : ℕ) : Type 0 where
+  -- there is a process for each row, and the whole process stands at the root
+  pub size : length (P .processes) ≡ n
+  pub at-root : rowOf (whole P) ≡ P .root
   -- the rows of the whole process are each another, and below n
   pub sound : Sound (whole P) n
   -- STOP, SKIP and actions have no members

@@ -1,24 +1,24 @@
 -- A step leaves as it was what every other row at work would do; so two ready steps with no row in common leave one another ready, and commute.
-use mathlib.Core.Path.{_≡_, refl, sym, ap, ap₂, _∙_}
+use mathlib.Core.Path.{_≡_, refl, sym, ap, _∙_}
 use mathlib.Core.Logic.{_≢_}
 use mathlib.Core.Option.{some}
 use mathlib.Core.List.{List, [], _∷_}
 use Prim.Native.Nat.{ℕ}
 use Rattle.meaning.specs.Tree.{Action, Process, node, actionOf}
-use Rattle.meaning.specs.State.{Store, State, Program, processAt, whole, Write, writeCell, writeAll, StateChange, Effect, settled}
+use Rattle.meaning.specs.State.{State, Program, processAt, whole, Write, writeCell, writeAll, StateChange, Effect}
+use Rattle.meaning.specs.Settle.{settled}
 use Rattle.meaning.specs.Intent.{Sheet, openOffer, inputOffer, Intent, intent}
 use Rattle.meaning.specs.Ready.{Label, effectOf, intentAt}
 use Rattle.meaning.specs.Step.{Step}
 use Rattle.agreement.proofs.Commute.{own, At}
 use Rattle.agreement.proofs.Parts.{Part, Differ, Cross, leap, leap-stays, leap-comm}
-use Rattle.agreement.proofs.Takeable.{takeable, DistinctOptions}
-use Rattle.agreement.proofs.Allowed.{allowed}
+use Rattle.agreement.proofs.Takeable.{DistinctOptions}
 use Rattle.agreement.proofs.Fit.{Apt, Fit}
 use Rattle.agreement.proofs.Near.{near}
 use Rattle.agreement.proofs.Proper.{AllOwned, offer-proper}
 use Rattle.agreement.proofs.Active.{RowOf, its, receiver, sender, chooser, selector, giver, offerAt-is, Active, acts-alone, passes-on, takes-open, takes-input, active, effect-same}
 use Rattle.agreement.proofs.Working.{acts, Inv, Works, works, works-at, works-proper, works-apart, frontier-does}
-use Rattle.agreement.proofs.Invariant.{partsOf, step-parts, settled-leaps}
+use Rattle.agreement.proofs.Invariant.{same-state, partsOf, step-parts, settled-leaps, keeps-inv, effect-step, step-effect}
 use Rattle.agreement.proofs.Writes.{AllBy, near-writes, writes-comm}
 
 -- two steps have no row in common
@@ -90,9 +90,6 @@ module _ (P : Program) (n : ℕ) (F : Fit P n) (sheet : Sheet) where
   unfolding settled
   store-of e s = refl
 
-  same-state : {s t : State} → s .states ≡ t .states → s .store ≡ t .store → s ≡ t
-  same-state e f = ap₂ (λ (a : List ℕ) (b : Store). record { states = a; store = b }) e f
-
   module _ (s : State) (i : Inv P n F sheet s) where
     actions-apart : (x y : Label) → RowsApart x y → (k j : Action) → Of s x k → Of s y j → Apt k j
     actions-apart x y d k j (r, h, (A, e)) (q, g, (B, f)) = rw (← e, ← f) (works-apart P n F sheet s r q i A B (d r q h g))
@@ -147,13 +144,13 @@ module _ (P : Program) (n : ℕ) (F : Fit P n) (sheet : Sheet) where
     meet x y t u e f qe qf ze zf d =
         let back : RowsApart y x = λ r q h g z. d q r g h (sym z) in (
           settled P f (settled P e s),
-          rw ze (allowed P sheet (settled P e s) y f (stays-ready x y e f qe qf d)),
-          rw (zf, one-state x y e f qe qf d) (allowed P sheet (settled P f s) x e (stays-ready y x f e qf qe back)),
+          rw ze (effect-step P n F sheet (settled P e s) (keeps-inv P n F sheet s i (A x y e f qe qf d)) y f (stays-ready x y e f qe qf d)),
+          rw (zf, one-state x y e f qe qf d) (effect-step P n F sheet (settled P f s) (keeps-inv P n F sheet s i (B x y e f qe qf d)) x e (stays-ready y x f e qf qe back)),
         )
 
     -- two steps with no row in common: each is allowed after the other, and they lead to one state
-    pub apart-diamond : DistinctOptions P sheet s → (x y : Label) (t u : State) → Step P sheet s x t → Step P sheet s y u → RowsApart x y → (v : State) × Step P sheet t y v × Step P sheet u x v
+    pub apart-diamond : ((s : State) → DistinctOptions P sheet s) → (x y : Label) (t u : State) → Step P sheet s x t → Step P sheet s y u → RowsApart x y → (v : State) × Step P sheet t y v × Step P sheet u x v
     apart-diamond D x y t u hx hy d =
-        let (e, (qe, ze)) = takeable P sheet s D x t hx in
-        let (f, (qf, zf)) = takeable P sheet s D y u hy in
+        let (e, qe, ze) = step-effect P n F sheet D s x t i hx in
+        let (f, qf, zf) = step-effect P n F sheet D s y u i hy in
         meet x y t u e f qe qf ze zf d

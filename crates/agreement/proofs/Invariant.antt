@@ -1,27 +1,32 @@
--- Every state that an order reaches is good for the whole process, has a state for each row, and leaves idle the rows that are no process of it.
-use mathlib.Core.Path.{_≡_, refl, sym, ap, _∙_}
+-- Every state that an order reaches is good for the whole process, has a state for each row, and leaves idle the rows that are no process of it;
+-- so what a step leaves after settling is what the machine's walk leaves.
+use mathlib.Core.Path.{_≡_, refl, sym, ap, ap₂, subst, _∙_}
 use mathlib.Core.Bool.{true, false}
+use mathlib.Core.Option.{some}
 use mathlib.Core.List.{List, [], _∷_, map, Memᴰ·cast}
 use Prim.Native.Nat.{ℕ, zero, suc}
-use lib.ListN.{length, getD, set, length-map}
+use lib.ListN.{length, getD, set, length-set, length-map}
 use lib.Seq.{getD-set-other}
 use Rattle.meaning.specs.Tree.{Process, rowsIn}
-use Rattle.meaning.specs.Settle.{settle}
-use Rattle.meaning.specs.State.{State, Program, whole, start, StateChange, changeState, changeStates, Effect, settled}
+use Rattle.meaning.specs.Settle.{settle, start, settled}
+use Rattle.meaning.specs.State.{Store, State, Program, whole, StateChange, changeState, changeStates, Effect}
 use Rattle.meaning.specs.Intent.{Sheet, openOffer, inputOffer}
-use Rattle.meaning.specs.Ready.{Label, intentAt}
-use Rattle.meaning.specs.Step.{Step}
+use Rattle.meaning.specs.Ready.{Label, intentAt, effectOf}
+use Rattle.meaning.specs.Step.{Leaves, Step}
 use Rattle.meaning.specs.Order.{Order, halt, then}
 use Rattle.agreement.proofs.Frame.{see-local, length-local, off-look}
 use Rattle.agreement.proofs.Again.{Out}
 use Rattle.agreement.proofs.Commute.{own, child, at-in}
-use Rattle.agreement.proofs.Reach.{idle, good-see, good-body}
-use Rattle.agreement.proofs.Parts.{Part, puts, Each, Pairwise, leap, leap-good, leap-length}
+use Rattle.agreement.proofs.Reach.{Good, idle, good-see, good-body}
+use Rattle.agreement.proofs.Parts.{Part, puts, Each, Pairwise, good-puts, leap, leap-good, leap-length}
+use Rattle.agreement.proofs.Allowed.{allowed}
 use Rattle.agreement.proofs.Takeable.{takeable, DistinctOptions}
 use Rattle.agreement.proofs.Fit.{Fit}
 use Rattle.agreement.proofs.Proper.{offer-proper}
 use Rattle.agreement.proofs.Active.{offerAt-is, Active, acts-alone, passes-on, takes-open, takes-input, active, input-output, output-selects}
 use Rattle.agreement.proofs.Working.{acts, Inv, works, works-at, works-proper}
+use Rattle.agreement.specs.SettlingClaims.{NormalForm}
+use Rattle.agreement.proofs.NormalForm.{normal-form}
 
 -- changes of row states, as stores at frontier rows
 abbrev pub partsOf : List StateChange → List Part
@@ -31,6 +36,13 @@ partsOf (m ∷ l) = record { b = m .by; x = m .at; v = m .become } ∷ partsOf l
 pub puts-changes : (l : List StateChange) (s : List ℕ) → puts (partsOf l) s ≡ changeStates l s
 puts-changes [] s = refl
 puts-changes (m ∷ l) s = puts-changes l (changeState m s)
+
+pub length-marks : (l : List StateChange) (s : List ℕ) → length (changeStates l s) ≡ length s
+length-marks [] s = refl
+length-marks (m ∷ l) s = length-marks l (changeState m s) ∙ length-set s (m .at) (m .become)
+
+pub same-state : {s t : State} → s .states ≡ t .states → s .store ≡ t .store → s ≡ t
+same-state e f = ap₂ (λ (a : List ℕ) (b : Store). record { states = a; store = b }) e f
 
 module _ (P : Program) (n : ℕ) (F : Fit P n) (sheet : Sheet) where
   -- the changes of a step are each made by a frontier row, and by different ones
@@ -76,17 +88,42 @@ module _ (P : Program) (n : ℕ) (F : Fit P n) (sheet : Sheet) where
             ∙ ap (λ (t : List ℕ). getD t y 0) (sym (puts-changes (e .changes) (s .states))) ∙ outside-puts y o l (s .states) (s .states) (h .0) ∙ i .outside y o;
       }
 
+  module _ (s : State) {x : Label} {e : Effect} (i : Inv P n F sheet s) (a : Active (intentAt P sheet s) x e) where
+    -- from the changes of a step the rules of settling lead to one state, where the walk goes
+    pub step-normal : NormalForm (whole P) (changeStates (e .changes) (s .states)) (settled P e s .states)
+    unfolding settled
+    step-normal =
+        let (each, pairs) = step-parts s i a in
+        let u = changeStates (e .changes) (s .states) in
+        let g : Good u (whole P)
+        = subst (λ (v : List ℕ). Good v (whole P)) (puts-changes (e .changes) (s .states)) (good-puts (whole P) n (F .sound) (partsOf (e .changes)) (s .states) (i .size) (i .good) each pairs) in
+        normal-form (whole P) n (F .sound) (F .plain) u (length-marks (e .changes) (s .states) ∙ i .size) g
+
+    -- so that is what the step leaves
+    pub leaves-settled : Leaves P s e (settled P e s)
+    unfolding settled
+    leaves-settled = record { settles = record { by-rules = step-normal .reached; final = step-normal .final }; stores = refl }
+
+    -- and nothing else
+    pub only-settled : (t : State) → Leaves P s e t → t ≡ settled P e s
+    unfolding settled
+    only-settled t h = same-state (step-normal .only (t .states) (h .settles .by-rules) (h .settles .final)) (h .stores)
+
+  -- a step that the machine can take is one that a rule allows
+  pub effect-step : (s : State) → Inv P n F sheet s → (x : Label) (e : Effect) → effectOf x (intentAt P sheet s) ≡ some e → Step P sheet s x (settled P e s)
+  effect-step s i x e q = record { does = e; allowed = allowed P sheet s x e q; leaves = leaves-settled s i (active (intentAt P sheet s) x e q) }
+
   zeros : (l : List Process) (y : ℕ) → getD (map {B = ℕ} (λ (p : Process). 0) l) y 0 ≡ 0
   zeros [] y = refl
   zeros (p ∷ l) zero = refl
   zeros (p ∷ l) (suc y) = zeros l y
 
   -- the start has it
-  pub start-inv : length (P .processes) ≡ n → Inv P n F sheet (start P)
+  pub start-inv : Inv P n F sheet (start P)
   unfolding start
-  start-inv e =
+  start-inv =
       let z = map {B = ℕ} (λ (p : Process). 0) (P .processes) in
-      let l : length z ≡ n = length-map {B = ℕ} (P .processes) (λ (p : Process). 0) ∙ e in
+      let l : length z ≡ n = length-map {B = ℕ} (P .processes) (λ (p : Process). 0) ∙ F .size in
       record {
         size = length-local (see-local (whole P) true) z ∙ l;
         good = good-see n (whole P) (good-body n (whole P) (F .sound)) (F .sound) true z l (idle (λ y m. zeros (P .processes) y));
@@ -94,17 +131,18 @@ module _ (P : Program) (n : ℕ) (F : Fit P n) (sheet : Sheet) where
       }
 
   module _ (D : (s : State) → DistinctOptions P sheet s) where
-    -- a step that a rule allows, as one that the machine takes
-    pub step-active : (s : State) (x : Label) (t : State) → Step P sheet s x t → (e : Effect) × Active (intentAt P sheet s) x e × (t ≡ settled P e s)
-    step-active s x t h = let (e, (q, z)) = takeable P sheet s (D s) x t h in (e, active (intentAt P sheet s) x e q, z)
+    -- a step that a rule allows is one that the machine takes
+    pub step-effect : (s : State) (x : Label) (t : State) → Inv P n F sheet s → Step P sheet s x t → (e : Effect) × (effectOf x (intentAt P sheet s) ≡ some e) × (t ≡ settled P e s)
+    step-effect s x t i h =
+        let q = takeable P sheet s (D s) x (h .does) (h .allowed) in
+        (h .does, q, only-settled s i (active (intentAt P sheet s) x (h .does) q) t (h .leaves))
+
+    pub step-active : (s : State) (x : Label) (t : State) → Inv P n F sheet s → Step P sheet s x t → (e : Effect) × Active (intentAt P sheet s) x e × (t ≡ settled P e s)
+    step-active s x t i h = let (e, q, z) = step-effect s x t i h in (e, active (intentAt P sheet s) x e q, z)
 
     pub step-inv : (s : State) (x : Label) (t : State) → Inv P n F sheet s → Step P sheet s x t → Inv P n F sheet t
-    step-inv s x t i h = let (e, a, z) = step-active s x t h in rw z (keeps-inv s i a)
+    step-inv s x t i h = let (e, a, z) = step-active s x t i h in rw z (keeps-inv s i a)
 
     pub order-inv : {s t : State} {l : List Label} → Inv P n F sheet s → Order P sheet s l t → Inv P n F sheet t
     order-inv i halt = i
     order-inv i (then {s} {t} {x} h o) = order-inv (step-inv s x t i h) o
-
-    -- so every state that an order reaches
-    pub reached-inv : length (P .processes) ≡ n → (l : List Label) (s : State) → Order P sheet (start P) l s → Inv P n F sheet s
-    reached-inv e l s o = order-inv (start-inv e) o

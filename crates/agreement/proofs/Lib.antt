@@ -27,6 +27,7 @@ pub mod RulesAbsorbed
 pub mod Working
 pub mod Active
 pub mod Invariant
+pub mod Beginning
 pub mod MissingMarks
 pub mod MissingPrinted
 pub mod NotEmpty

@@ -7,14 +7,17 @@ use Prim.Native.Nat.{ℕ, zero, suc}
 use lib.IntN.{ℤ}
 use lib.ListN.{getD, set, replicate}
 use lib.Seq.{getD-set-same}
-use Rattle.meaning.specs.State.{Message, State, Program, program, start, settled, Effect}
+use Rattle.meaning.specs.State.{Message, Store, State, Program, program, writeAll, Effect}
+use Rattle.meaning.specs.Settle.{settled}
 use Rattle.meaning.specs.Intent.{Sheet}
 use Rattle.meaning.specs.Ready.{Label}
-use Rattle.meaning.specs.Step.{sends, Host, Step, assignment, while-false, while-true, if-true, communication, host-read, host-write, alt-skip, alt-read, alt-communication, stopping}
-use Rattle.meaning.specs.Order.{Order, halt, then}
+use Rattle.meaning.specs.Step.{sends, Host, Allows, Step, assignment, while-false, while-true, if-true, communication, host-read, host-write, alt-skip, alt-read, alt-communication, stopping}
+use Rattle.meaning.specs.Order.{Begins, Order, halt, then, OrderOf}
 use Rattle.agreement.specs.MissingClaims.{cellOf, Delivers, by-assignment, by-communication, by-reading, by-option-reading, by-option-communication, ReadsAbsent, input-absent, option-absent, SetOnly, SetByNumber, OnlyAbsentUnsets, DeliveredHolds, AbsentUnsets, SetInOrder}
 use Rattle.agreement.proofs.Takeable.{takeable}
-use Rattle.agreement.proofs.Steps.{distinct-options}
+use Rattle.agreement.proofs.Steps.{distinct-options, allowed-step}
+use Rattle.agreement.proofs.Separate.{table-inv}
+use Rattle.agreement.proofs.TableFit.{fit}
 
 -- a store into one cell changes that cell or none, and past the end none
 stored-or-same : (l : List Message) (b a : ℕ) (m : Message) → (getD (set l b m) a none ≡ getD l a none) ⊎ ((b ≡ a) × (getD (set l b m) a none ≡ m))
@@ -46,20 +49,26 @@ module _ (P : Program) (sheet : Sheet) (s : State) (x : Label) where
       go (inl e) = inl e
       go (inr (e, h)) = inr (m, subst (λ (c : ℕ). Delivers P sheet s x c m) e d, h)
 
--- a step leaves every cell as it was, but for one to which it hands a message
+-- the writes of a step leave every cell as it was, but for one to which it hands a message
+writes-only : (P : Program) (sheet : Sheet) (s : State) (x : Label) (e : Effect) → Allows P sheet s x e → (a : ℕ)
+    → let c = getD (writeAll (e .writes) (s .store) .cells) a none in (c ≡ cellOf s a) ⊎ ((m : Message) × Delivers P sheet s x a m × (c ≡ m))
+writes-only P sheet s x e (assignment {r} {a = b} {z} g p q) a = handed P sheet s x b a (some z) (by-assignment g p q)
+writes-only P sheet s x e (while-false g h) a = inl refl
+writes-only P sheet s x e (while-true g h) a = inl refl
+writes-only P sheet s x e (if-true g h) a = inl refl
+writes-only P sheet s x e (communication {a = b} {m} g k h w) a = handed P sheet s x b a m (by-communication g k h w)
+writes-only P sheet s x e (host-read {a = b} {v} g h) a = handed P sheet s x b a v (by-reading g h)
+writes-only P sheet s x e (host-write g h p q o m) a = inl refl
+writes-only P sheet s x e (alt-skip g c m h q) a = inl refl
+writes-only P sheet s x e (alt-read {a = b} {v} g c m h q k) a = handed P sheet s x b a v (by-option-reading g c m h q k)
+writes-only P sheet s x e (alt-communication {a = b} {m = z} g c m k h q w y) a = handed P sheet s x b a z (by-option-communication g c m k h q w y)
+writes-only P sheet s x e (stopping g h) a = inl refl
+
+-- so does the step
 pub set-only : SetOnly
-unfolding settled
-set-only P sheet s x t (assignment {r} {a = b} {z} g p q) a = handed P sheet s x b a (some z) (by-assignment g p q)
-set-only P sheet s x t (while-false g h) a = inl refl
-set-only P sheet s x t (while-true g h) a = inl refl
-set-only P sheet s x t (if-true g h) a = inl refl
-set-only P sheet s x t (communication {a = b} {m} g k h w) a = handed P sheet s x b a m (by-communication g k h w)
-set-only P sheet s x t (host-read {a = b} {v} g h) a = handed P sheet s x b a v (by-reading g h)
-set-only P sheet s x t (host-write g h p q o m) a = inl refl
-set-only P sheet s x t (alt-skip g c m h q) a = inl refl
-set-only P sheet s x t (alt-read {a = b} {v} g c m h q k) a = handed P sheet s x b a v (by-option-reading g c m h q k)
-set-only P sheet s x t (alt-communication {a = b} {m = z} g c m k h q w y) a = handed P sheet s x b a z (by-option-communication g c m k h q w y)
-set-only P sheet s x t (stopping g h) a = inl refl
+set-only P sheet s x t h a =
+    subst (λ (y : Store). (getD (y .cells) a none ≡ cellOf s a) ⊎ ((m : Message) × Delivers P sheet s x a m × (getD (y .cells) a none ≡ m))) (sym (h .leaves .stores))
+    (writes-only P sheet s x (h .does) (h .allowed) a)
 
 -- a cell that holds a number after a step held it before, or was handed it
 pub set-by-number : SetByNumber
@@ -86,17 +95,14 @@ only-absent-unsets P sheet s x t h a e = go (set-only P sheet s x t h a)
     go (inr (m, d, q)) = inr (absent-delivery P sheet s x a m d (sym q ∙ e))
 
 module _ (rows : List ℤ) (sheet : Sheet) (s : State) where
-  -- a label's step leaves one state
-  pub one-state : (x : Label) (t u : State) → Step (program rows) sheet s x t → Step (program rows) sheet s x u → t ≡ u
-  one-state x t u h k =
-      let (e, (p, q)) = takeable (program rows) sheet s (distinct-options rows sheet s) x t h in
-      let (f, (v, w)) = takeable (program rows) sheet s (distinct-options rows sheet s) x u k in
-      q ∙ ap (λ (g : Effect). settled (program rows) g s) (Option·some-injective e f (sym p ∙ v)) ∙ sym w
+  -- a label's step has one effect
+  pub one-effect : (x : Label) (e f : Effect) → Allows (program rows) sheet s x e → Allows (program rows) sheet s x f → e ≡ f
+  one-effect x e f h k =
+      Option·some-injective e f (sym (takeable (program rows) sheet s (distinct-options rows sheet s) x e h) ∙ takeable (program rows) sheet s (distinct-options rows sheet s) x f k)
 
   -- a message is handed over by a step that stores it
   stores : (x : Label) (a : ℕ) (m : Message) → Delivers (program rows) sheet s x a m
-      → (t : State) × Step (program rows) sheet s x t × (t .store .cells ≡ set (s .store .cells) a m)
-  unfolding settled
+      → (e : Effect) × Allows (program rows) sheet s x e × (writeAll (e .writes) (s .store) .cells ≡ set (s .store .cells) a m)
   stores x a m (by-assignment g p q) = (_, assignment g p q, refl)
   stores x a m (by-communication g k h w) = (_, communication g k h w, refl)
   stores x a m (by-reading g h) = (_, host-read g h, refl)
@@ -109,8 +115,8 @@ module _ (rows : List ℤ) (sheet : Sheet) (s : State) where
 
   stored-at : (x : Label) (a : ℕ) (m : Message) (t : State) → Step (program rows) sheet s x t → Delivers (program rows) sheet s x a m → t .store .cells ≡ set (s .store .cells) a m
   stored-at x a m t h d =
-      let (u, k, e) = stores x a m d in
-      ap (λ (w : State). w .store .cells) (one-state x t u h k) ∙ e
+      let (e, k, q) = stores x a m d in
+      ap (λ (y : Store). y .cells) (h .leaves .stores) ∙ ap (λ (f : Effect). writeAll (f .writes) (s .store) .cells) (one-effect x (h .does) e (h .allowed) k) ∙ q
 
 -- a step that hands a message to a cell leaves that message in it
 pub delivered-holds : DeliveredHolds
@@ -121,14 +127,13 @@ delivered-holds rows sheet s x t h a m d l =
 pub absent-unsets : AbsentUnsets
 absent-unsets rows sheet s x a r =
     let d = delivery-of-absent rows sheet s x a r in (
-      let (t, h, e) = stores rows sheet s x a none d in (t, h),
+      λ ok (l, o). let (e, h, q) = stores rows sheet s x a none d in (settled (program rows) e s, allowed-step rows sheet (fit rows ok) s (table-inv rows sheet (fit rows ok) l s o) x e h),
       λ t h. ap (λ (c : List Message). getD c a none) (stored-at rows sheet s x a none t h d) ∙ none-stored (s .store .cells) a,
     )
 
--- at the start every cell is unset
-start-unset : (rows : List ℤ) (a : ℕ) → cellOf (start (program rows)) a ≡ none
-unfolding start
-start-unset rows a = go (program rows .cells) a
+-- in the beginning every cell is unset
+begins-unset : (P : Program) (s : State) → Begins P s → (a : ℕ) → cellOf s a ≡ none
+begins-unset P s b a = ap (λ (c : List Message). getD c a none) (b .unset) ∙ go (P .cells) a
   where
     go : (n a : ℕ) → _≡_ {A = Message} (getD (replicate n none) a none) none
     go zero a = refl
@@ -155,8 +160,10 @@ module _ (rows : List ℤ) (sheet : Sheet) (a : ℕ) (z : ℤ) where
 
 -- a number that a cell holds after an order was handed to it by one of its steps
 pub set-in-order : SetInOrder
-set-in-order rows sheet l s o a z e = go (handed-in rows sheet a z o e)
+set-in-order rows sheet l s o a z e = go (handed-in rows sheet a z (o .order) e)
   where
-    go : (cellOf (start (program rows)) a ≡ some z) ⊎ HandedIn rows sheet a z (start (program rows)) l → HandedIn rows sheet a z (start (program rows)) l
-    go (inl q) = absurd (Option·none-ne-some z (sym (start-unset rows a) ∙ q))
-    go (inr h) = h
+    go : (cellOf (o .beginning) a ≡ some z) ⊎ HandedIn rows sheet a z (o .beginning) l
+        → (before : List Label) × ((x : Label) × ((later : List Label) × ((u : State)
+        × ((l ≡ before ++ (x ∷ later)) × OrderOf rows sheet before u × Delivers (program rows) sheet u x a (some z)))))
+    go (inl q) = absurd (Option·none-ne-some z (sym (begins-unset (program rows) (o .beginning) (o .begins) a) ∙ q))
+    go (inr (before, (x, (later, (u, (q, k, d)))))) = (before, (x, (later, (u, (q, record { beginning = o .beginning; begins = o .begins; order = k }, d)))))

@@ -11,13 +11,16 @@ use lib.Dec.{eqb}
 use Rattle.meaning.specs.Rows.{ifElse}
 use Rattle.meaning.specs.Tree.{Action}
 use Rattle.meaning.specs.State.{State, Program, program, Effect}
+use Rattle.meaning.specs.Settle.{settled}
 use Rattle.meaning.specs.Intent.{Sheet, Offer, openOffer, inputOffer, Intent, waits, moves, inputsFrom, outputsTo, selects}
 use Rattle.meaning.specs.Ready.{Label, own, pass, take, takeFrom, intentAt, takeFromEffect, optionRow, offerEffectAt, offerEffect, passEffect, effectOf}
-use Rattle.meaning.specs.Step.{Lacks, Live, Step, stopping}
-use Rattle.agreement.specs.MissingClaims.{OfRow, OneReason, stopped, LackingOnlyStops}
+use Rattle.meaning.specs.Step.{Lacks, Live, Allows, Leaves, Step, stopping}
+use Rattle.agreement.specs.MissingClaims.{OfRow, OneReason, stopEffect, LackingOnlyStops}
 use Rattle.agreement.proofs.Takeable.{takeable, live-want, lacks-want}
-use Rattle.agreement.proofs.Steps.{distinct-options}
-use Rattle.agreement.proofs.MissingSteps.{one-state}
+use Rattle.agreement.proofs.Steps.{distinct-options, allowed-step}
+use Rattle.agreement.proofs.MissingSteps.{one-effect}
+use Rattle.agreement.proofs.Separate.{table-inv}
+use Rattle.agreement.proofs.TableFit.{fit}
 
 -- what a row becomes by its own step
 becomesState : Intent → ℕ
@@ -80,12 +83,15 @@ module _ (rows : List ℤ) (sheet : Sheet) (s : State) (r reason : ℕ) (a : Act
   own-step z (takeFrom q j o) e p (inl h) = absurd (Option·none-ne-some e (rw (h, z) at p))
   own-step z (takeFrom q j o) e p (inr h) = absurd (nothing-taken-from q j (intentAt P sheet s q) (intentAt P sheet s r) e z (rw h at p))
 
-  only-stops : Live P s r a → Lacks (s .store .cells) a reason → (x : Label) (t : State) → Step P sheet s x t → OfRow r x → (x ≡ own r) × (t ≡ stopped P s r reason)
+  only-stops : Live P s r a → Lacks (s .store .cells) a reason → (x : Label) (t : State) → Step P sheet s x t → OfRow r x → (x ≡ own r) × Leaves P s (stopEffect r reason) t
   only-stops g h x t k o =
-      let (e, (p, q)) = takeable P sheet s (distinct-options rows sheet s) x t k in
-      let z = own-step (would-stop g h) x e p o in
-      (z, one-state rows sheet s (own r) t (stopped P s r reason) (subst (λ (y : Label). Step P sheet s y t) z k) (stopping g h))
+      let z = own-step (would-stop g h) x (k .does) (takeable P sheet s (distinct-options rows sheet s) x (k .does) (k .allowed)) o in
+      let e = one-effect rows sheet s (own r) (k .does) (stopEffect r reason) (subst (λ (y : Label). Allows P sheet s y (k .does)) z (k .allowed)) (stopping g h) in
+      (z, subst (λ (f : Effect). Leaves P s f t) e (k .leaves))
 
 -- a running row that lacks a value has one step, the stop
 pub lacking-only-stops : LackingOnlyStops
-lacking-only-stops rows sheet s r reason a g h = (stopping g h, only-stops rows sheet s r reason a g h)
+lacking-only-stops rows sheet s r reason a g h = (
+  λ ok (l, o). (settled (program rows) (stopEffect r reason) s, allowed-step rows sheet (fit rows ok) s (table-inv rows sheet (fit rows ok) l s o) (own r) (stopEffect r reason) (stopping g h)),
+  only-stops rows sheet s r reason a g h,
+)

@@ -8,7 +8,7 @@ use lib.ListN.{length, getD, set, length-set}
 use lib.Seq.{getD-set-other, getD-set-same}
 use Rattle.meaning.specs.Tree.{Action, skip, sequence, parallel, conditional, loop, alternation, Process, node, Members, empty, also, rowOf, rowsIn, rowsBeneath}
 use Rattle.meaning.specs.Settle.{stateOf, statesOf, Mode, inTurn, together, byStep, mode, starts, nextMode, complete, makeIdle, endsWhenClosed, settleMembers, settle}
-use Rattle.meaning.specs.SettlingRules.{Among, All, Next, Inside, Settles, skip-ends, seq-starts, par-starts, seq-ends, par-ends, if-ends, alt-ends, while-again, Settling, rest, then}
+use Rattle.meaning.specs.SettlingRules.{Among, All, Next, Inside, Settles, skip-ends, seq-starts, par-starts, seq-ends, par-ends, if-ends, alt-ends, while-again, Settling, rest, then, Final}
 use Rattle.agreement.proofs.Frame.{Local, body-node, walk-none, walk-also, row-in, see-local, zeros-local, length-local, off-look, off-put}
 use Rattle.agreement.proofs.Again.{Out, Sound, SoundM, sound-row, see-run, see-idle, see-start, see-over, idle-walk, idle-body, zeros-idle}
 use Rattle.agreement.proofs.Reach.{Good, GoodM, run, each, past, now, pass, pick, Agree, good-agree, goodM-agree, goodM-idle, goodM-head, goodM-tail, good-start, good-end, Sub}
@@ -16,7 +16,7 @@ use Rattle.agreement.proofs.Settled.{Plain, settles}
 use Rattle.agreement.proofs.Inside.{within-of, among-row, next-among}
 use Rattle.agreement.proofs.NoRuleLeft.{may-close, ended-closes, skip-empty, plain-at, no-rule-left}
 use Rattle.agreement.proofs.ChangesLeft.{left, leftM, left-bound, less-around, less-ended, less-beneath, less-started, less-idle}
-use Rattle.agreement.specs.SettlingClaims.{Final, changesIn, NormalForm}
+use Rattle.agreement.specs.SettlingClaims.{changesIn, NormalForm}
 use Rattle.agreement.proofs.RulesAbsorbed.{wider, set-local, sound-at, good-at, settle-around, good-around}
 
 -- ---- members that settling leaves alone

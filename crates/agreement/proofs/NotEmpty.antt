@@ -6,7 +6,9 @@ use Prim.Native.Nat.{ℕ, zero, suc}
 use native.Mathlib.Omega.{arith}
 use lib.IntN.{ℤ, pos, negsuc}
 use lib.ListN.{length}
-use Rattle.meaning.specs.State.{State, program, start}
+use Rattle.meaning.specs.Rows.{rowCount}
+use Rattle.meaning.specs.State.{State, program}
+use Rattle.meaning.specs.Settle.{start}
 use Rattle.meaning.specs.Intent.{Sheet}
 use Rattle.meaning.specs.Ready.{Label, own, orderRow, ready, after}
 use Rattle.meaning.specs.Step.{Step}
@@ -16,20 +18,33 @@ use Rattle.meaning.specs.Answers.{check}
 use Rattle.meaning.proofs.ComputesAnswers.{computesAnswers}
 use Rattle.agreement.specs.NotEmptyClaims.{LongOrder, TwoOrders, NeverRests}
 use Rattle.agreement.proofs.Steps.{ready-allowed, allowed-ready}
-use Rattle.agreement.proofs.Reached.{reached-length, start-length}
+use Rattle.agreement.proofs.Reached.{order-more}
+use Rattle.agreement.proofs.Fit.{Fit}
+use Rattle.agreement.proofs.TableFit.{fit}
+use Rattle.agreement.proofs.Separate.{table-inv}
+use Rattle.agreement.proofs.Invariant.{start-inv}
+use Rattle.agreement.proofs.Beginning.{begins-at-start, begins-start}
 
 -- a sheet for a table with no role 1 channel: one empty line
 abbrev emptySheet : List ℕ
 emptySheet = 10 ∷ []
 
-module _ (rows : List ℤ) (sheet : Sheet) where
+module _ (rows : List ℤ) (ok : check rows ≡ none) (sheet : Sheet) where
+  abbrev F : Fit (program rows) (rowCount rows)
+  F = fit rows ok
+
+  -- an order from the start of a run
+  from-start : (l : List Label) (s : State) → Order (program rows) sheet (start (program rows)) l s → OrderOf rows sheet l s
+  from-start l s o = record { beginning = start (program rows); begins = begins-at-start (program rows) (rowCount rows) F; order = o }
+
   -- a step that the list of ready steps holds, by an equation
-  ready-step : (s : State) (x : Label) (l : List Label) → ready (program rows) sheet s ≡ l → List·Memᴰ x l → Step (program rows) sheet s x (after (program rows) sheet x s)
-  ready-step s x l e m = ready-allowed rows sheet s x (subst (λ (k : List Label). List·Memᴰ x k) (sym e) m)
+  ready-step : (k : List Label) (s : State) → OrderOf rows sheet k s → (x : Label) (l : List Label) → ready (program rows) sheet s ≡ l → List·Memᴰ x l
+      → Step (program rows) sheet s x (after (program rows) sheet x s)
+  ready-step k s o x l e m = ready-allowed rows sheet F s (table-inv rows sheet F k s o) x (subst (λ (k : List Label). List·Memᴰ x k) (sym e) m)
 
   -- with no ready step an order is at rest
   rests : (l : List Label) (s : State) → OrderOf rows sheet l s → ready (program rows) sheet s ≡ [] → RestOf rows sheet s
-  rests l s o e x t h = List·Memᴰ·not-nil (subst (λ (k : List Label). List·Memᴰ x k) e (allowed-ready rows sheet s (reached-length rows sheet l s o) x t h .0))
+  rests l s o e x t h = List·Memᴰ·not-nil (subst (λ (k : List Label). List·Memᴰ x k) e (allowed-ready rows sheet F s (table-inv rows sheet F l s o) x t h .0))
 
 -- ---- PAR of x := 1 and y := 2
 
@@ -82,14 +97,16 @@ two-steps : (r q : ℕ) (l m : List Label) → parReady parStart ≡ l → List�
     → LongOrder parRows emptySheet
 two-steps r q l m e h d g z =
     let sheet = readings parRows emptySheet in
+    let none : OrderOf parRows sheet [] parStart = from-start parRows par-accepted sheet [] parStart halt in
+    let one : OrderOf parRows sheet (own r ∷ []) (parAfter r parStart) = order-more parRows sheet none (ready-step parRows par-accepted sheet [] parStart none (own r) l e h) in
     let o : OrderOf parRows sheet (own r ∷ own q ∷ []) (parAfter q (parAfter r parStart)) =
-    then (ready-step parRows sheet parStart (own r) l e h) (then (ready-step parRows sheet (parAfter r parStart) (own q) m d g) halt) in
+    order-more parRows sheet one (ready-step parRows par-accepted sheet (own r ∷ []) (parAfter r parStart) one (own q) m d g) in
     record {
       labels = own r ∷ own q ∷ [];
       end = parAfter q (parAfter r parStart);
       long = omega arith;
       order = o;
-      rest = rests parRows sheet (own r ∷ own q ∷ []) (parAfter q (parAfter r parStart)) o z;
+      rest = rests parRows par-accepted sheet (own r ∷ own q ∷ []) (parAfter q (parAfter r parStart)) o z;
     }
 
 -- the row of an order's first step
@@ -141,12 +158,12 @@ loop-again = refl
 
 -- the step of the WHILE leads from the start to the start
 loop-step : Step (program loopRows) loopSheet loopStart (own 0) loopStart
-loop-step = subst (λ (s : State). Step (program loopRows) loopSheet loopStart (own 0) s) loop-again (ready-step loopRows loopSheet loopStart (own 0) _ loop-ready (List·Memᴰ·head refl))
+loop-step = subst (λ (s : State). Step (program loopRows) loopSheet loopStart (own 0) s) loop-again (ready-step loopRows loop-accepted loopSheet [] loopStart (from-start loopRows loop-accepted loopSheet [] loopStart halt) (own 0) _ loop-ready (List·Memᴰ·head refl))
 
 -- every step from the start leads to the start
 back-at-start : (x : Label) (t : State) → Step (program loopRows) loopSheet loopStart x t → t ≡ loopStart
 back-at-start x t h =
-    let (m, e) = allowed-ready loopRows loopSheet loopStart (start-length loopRows loopSheet) x t h in
+    let (m, e) = allowed-ready loopRows loopSheet (fit loopRows loop-accepted) loopStart (start-inv (program loopRows) (rowCount loopRows) (fit loopRows loop-accepted) loopSheet) x t h in
     let w : x ≡ own 0 = List·Memᴰ·eq-of-singleton (subst (λ (l : List Label). List·Memᴰ x l) loop-ready m) in
     e ∙ ap (λ (y : Label). after (program loopRows) loopSheet y loopStart) w ∙ loop-again
 
@@ -164,7 +181,7 @@ unfolding times
 times-length zero = refl
 times-length (suc n) = ap suc (times-length n)
 
-times-order : (n : ℕ) → OrderOf loopRows loopSheet (times n) loopStart
+times-order : (n : ℕ) → Order (program loopRows) loopSheet loopStart (times n) loopStart
 unfolding times
 times-order zero = halt
 times-order (suc n) = then loop-step (times-order n)
@@ -177,6 +194,6 @@ never-rests =
       sheet = emptySheet;
       table-accepted = loop-accepted;
       sheet-accepted = loop-sheet;
-      every-length = λ n. (times n, times-length n, (loopStart, times-order n));
-      goes-on = λ l s o. (own 0, (loopStart, subst (λ (u : State). Step (program loopRows) loopSheet u (own 0) loopStart) (sym (at-start o refl)) loop-step));
+      every-length = λ n. (times n, times-length n, (loopStart, from-start loopRows loop-accepted loopSheet (times n) loopStart (times-order n)));
+      goes-on = λ l s o. (own 0, (loopStart, subst (λ (u : State). Step (program loopRows) loopSheet u (own 0) loopStart) (sym (at-start (o .order) (begins-start (program loopRows) (rowCount loopRows) (fit loopRows loop-accepted) (o .beginning) (o .begins)))) loop-step));
     }

@@ -10,7 +10,8 @@ use lib.ListN.{length}
 use Rattle.meaning.specs.declared.Outcome.{Outcome}
 use Rattle.meaning.specs.declared.Outcome.the-variants.{Spent}
 use Rattle.meaning.specs.Rows.{rowCount, kindAt}
-use Rattle.meaning.specs.State.{State, program, start}
+use Rattle.meaning.specs.State.{State, program}
+use Rattle.meaning.specs.Settle.{start}
 use Rattle.meaning.specs.Intent.{Sheet}
 use Rattle.meaning.specs.Ready.{Label, label-discrete, after}
 use Rattle.meaning.specs.Step.{Step}
@@ -21,10 +22,11 @@ use Rattle.agreement.proofs.Descent
 use Rattle.agreement.proofs.Descent.{Diamond, descent, runs}
 use Rattle.agreement.proofs.Steps.{distinct-options, allowed-ready}
 use Rattle.agreement.proofs.Running
+use Rattle.agreement.proofs.Running.{Fits}
 use Rattle.agreement.proofs.Fit.{Fit}
 use Rattle.agreement.proofs.Working.{Inv}
 use Rattle.agreement.proofs.Invariant.{step-inv, start-inv}
-use Rattle.agreement.proofs.Separate.{processes-length}
+use Rattle.agreement.proofs.Beginning.{begins-start}
 use Rattle.agreement.proofs.WithoutAlt.{no-options, two-steps}
 
 result-is : (r : Result) (o : Outcome) (n : ℕ) (s : State) → r .outcome ≡ o → r .steps ≡ n → r .state ≡ s → r ≡ record { outcome = o; steps = n; state = s }
@@ -42,7 +44,7 @@ module _ (rows : List ℤ) (sheet : Sheet) (F : Fit (program rows) (rowCount row
   takeStep = after (program rows) sheet
 
   leads : (s : State) (x : Label) (t : State) → I s → Step (program rows) sheet s x t → t ≡ takeStep x s
-  leads s x t i h = allowed-ready rows sheet s (i .size) x t h .1
+  leads s x t i h = allowed-ready rows sheet F s i x t h .1
 
   keeps : (s : State) (x : Label) → I s → CanStep x s → I (takeStep x s)
   keeps s x i (t, h) = rw (← (leads s x t i h)) (step-inv (program rows) (rowCount rows) F sheet (distinct-options rows sheet) s x t i h)
@@ -81,17 +83,23 @@ module _ (rows : List ℤ) (sheet : Sheet) (F : Fit (program rows) (rowCount row
   rests s r x t h = r x (t, h)
 
   begin : I (start (program rows))
-  begin = start-inv (program rows) (rowCount rows) F sheet (processes-length rows)
+  begin = start-inv (program rows) (rowCount rows) F sheet
+
+  -- an order begins at the start
+  from-start : (l : List Label) (s : State) → OrderOf rows sheet l s → Descent.Order CanStep takeStep (start (program rows)) l s
+  from-start l s o =
+      let q = begins-start (program rows) (rowCount rows) F (o .beginning) (o .begins) in
+      taken-order begin (subst (λ (p : State). Order (program rows) sheet p l s) q (o .order))
 
   module _ (l : List Label) (s : State) (o : OrderOf rows sheet l s) (r : RestOf rows sheet s) where
     -- no order is longer, and each at rest has that length and that end
     pub one-rest : (k : List Label) (t : State) → OrderOf rows sheet k t → (length k ≤ length l) × (RestOf rows sheet t → (length k ≡ length l) × (t ≡ s))
     one-rest k t q =
-        let (a, b) = descent CanStep takeStep (label-discrete ℕ-discrete) I diamond begin (taken-order begin o) (at-rest s r) (taken-order begin q) in
+        let (a, b) = descent CanStep takeStep (label-discrete ℕ-discrete) I diamond begin (from-start l s o) (at-rest s r) (from-start k t q) in
         (a, λ z. b (at-rest t z))
 
     -- every run comes to that rest, or its budget is less
-    module _ (Accepted : List ℤ → Sheet → Type 0) (a : Accepted rows sheet) (choices : List ℕ) (budget : ℕ) where
+    module _ (Accepted : List ℤ → Sheet → Type 0) (fit : Fits Accepted) (a : Accepted rows sheet) (choices : List ℕ) (budget : ℕ) where
       abbrev R : Result
       R = run rows sheet choices budget
 
@@ -101,20 +109,20 @@ module _ (rows : List ℤ) (sheet : Sheet) (F : Fit (program rows) (rowCount row
       answers : (k : List Label) → OrderOf rows sheet k (R .state) → length k ≡ R .steps → R .steps ≤ budget → Finish Accepted rows sheet budget R → Wanted
       answers k q e le (inl (z, c)) =
           let n : length k ≤ budget = omega arith in
-          let (u, v) = runs CanStep takeStep (label-discrete ℕ-discrete) I diamond budget begin (taken-order begin o) (at-rest s r) (taken-order begin q) n (inl (at-rest (R .state) z)) in (
+          let (u, v) = runs CanStep takeStep (label-discrete ℕ-discrete) I diamond budget begin (from-start l s o) (at-rest s r) (from-start k (R .state) q) n (inl (at-rest (R .state) z)) in (
             λ h. let (g, m, y) = u h in result-is R (outcomeOf rows s) (length l) s (c ∙ ap (outcomeOf rows) y) (sym e ∙ m) y,
             λ h. absurd (v h .1 (at-rest (R .state) z)),
           )
       answers k q e le (inr (z, c, (x, (t, h)))) =
           let n : length k ≤ budget = omega arith in
-          let (u, v) = runs CanStep takeStep (label-discrete ℕ-discrete) I diamond budget begin (taken-order begin o) (at-rest s r) (taken-order begin q) n (inr (e ∙ z, (x, (t, h)))) in
+          let (u, v) = runs CanStep takeStep (label-discrete ℕ-discrete) I diamond budget begin (from-start l s o) (at-rest s r) (from-start k (R .state) q) n (inr (e ∙ z, (x, (t, h)))) in
           (λ g. absurd (u g .0 x (t, h)), λ g. (c, z))
 
       pub run-answers : Wanted
-      run-answers = let (k, q, c, e, le, f) = Running.runs Accepted rows sheet choices budget a in answers k q e le f
+      run-answers = let (k, q, c, e, le, f) = Running.runs Accepted fit rows sheet choices budget a in answers k q e le f
 
 -- the claim of `Order`, of every meaning of accepted that gives what the proofs use of a table
-pub agreement : (Accepted : List ℤ → Sheet → Type 0) → ((rows : List ℤ) (sheet : Sheet) → Accepted rows sheet → Fit (program rows) (rowCount rows)) → Agreement Accepted
+pub agreement : (Accepted : List ℤ → Sheet → Type 0) → Fits Accepted → Agreement Accepted
 agreement Accepted fit rows sheet a w l s o r =
-    let F = fit rows sheet a in
-    (one-rest rows sheet F w l s o r, λ choices budget. run-answers rows sheet F w l s o r Accepted a choices budget)
+    let (F, O) = fit rows sheet a in
+    (one-rest rows sheet F w l s o r, λ choices budget. run-answers rows sheet F w l s o r Accepted fit a choices budget)

@@ -3,7 +3,7 @@ use mathlib.Core.Path.{_≡_, refl, sym, ap, subst, _∙_}
 use mathlib.Core.Logic.{_⊎_, inl, inr, ⊎-elim}
 use mathlib.Core.Bool.{false}
 use mathlib.Core.Option.{none}
-use mathlib.Core.List.{List, [], _∷_, List·Memᴰ, List·Memᴰ·head, List·Memᴰ·tail, List·Memᴰ·append-cases, List·Memᴰ·not-nil}
+use mathlib.Core.List.{List, [], _∷_, map, List·Memᴰ, List·Memᴰ·head, List·Memᴰ·tail, List·Memᴰ·append-cases, List·Memᴰ·not-nil}
 use Prim.Native.Nat.{ℕ, zero, suc}
 use native.Mathlib.Omega.{arith}
 use lib.IntN.{ℤ}
@@ -11,27 +11,27 @@ use lib.ListN.{length, getD, replicate}
 use Rattle.meaning.specs.Rows.{rowCount}
 use Rattle.meaning.specs.Declarations.{sinkAt}
 use Rattle.meaning.specs.Tree.{Process, node, Members, empty, also, rowOf, rowsIn, rowsBeneath}
-use Rattle.meaning.specs.Settle.{stateOf, anyOf}
+use Rattle.meaning.specs.Settle.{stateOf, anyOf, start, settled}
 use Rattle.meaning.specs.SettlingRules.{Among, All, Inside}
-use Rattle.meaning.specs.State.{Message, State, Program, program, whole, start, changeStates, settled}
+use Rattle.meaning.specs.State.{Message, State, Program, program, whole, changeStates}
 use Rattle.meaning.specs.Intent.{Sheet}
 use Rattle.meaning.specs.Ready.{Label}
 use Rattle.meaning.specs.Run.{isStopped}
 use Rattle.meaning.specs.Step.{Step}
-use Rattle.meaning.specs.Order.{Order, halt, then}
+use Rattle.meaning.specs.Order.{rootStarted, Order, halt, then, OrderOf}
 use Rattle.meaning.specs.Answers.{check}
 use Rattle.agreement.specs.Coherence.{RowState, AllIdle, CoherentRows, OrdersCoherent, EndedOrBroken, MembersTell}
-use Rattle.agreement.proofs.Reached.{length-marks}
+use Rattle.agreement.proofs.Allowed.{allowed}
 use Rattle.agreement.proofs.Steps.{distinct-options}
 use Rattle.agreement.proofs.Fit.{Fit}
 use Rattle.agreement.proofs.Working.{Inv, in-or-out}
-use Rattle.agreement.proofs.Invariant.{step-inv, start-inv}
-use Rattle.agreement.proofs.Separate.{processes-length}
+use Rattle.agreement.proofs.Invariant.{length-marks, step-effect, step-inv, start-inv}
 use Rattle.agreement.proofs.TableFit.{fit}
 use Rattle.agreement.proofs.KnownStates.{Known, set-known, changes-known, settle-known}
 use Rattle.agreement.proofs.CoherentRows.{coherent-rows}
 use Rattle.agreement.proofs.DataKept.{Bounded, writes-bounded, step-ok}
-use Rattle.agreement.proofs.OrdersSettle.{resting, resting-idle, rootStarted, started-length, start-is, whole-row}
+use Rattle.agreement.proofs.Beginning.{resting-idle, started-length, start-is, begins-start}
+use Rattle.agreement.proofs.OrdersSettle.{whole-row}
 
 default-everywhere : {A : Type 0} (k : ℕ) (d : A) (x : ℕ) → getD (replicate k d) x d ≡ d
 default-everywhere zero d x = refl
@@ -56,9 +56,9 @@ module _ (rows : List ℤ) (ok : check rows ≡ none) (sheet : Sheet) where
 
   start-known : Known (start P .states)
   start-known =
-      subst Known (sym (start-is rows ok))
-      (settle-known (whole P) n (F .sound) (F .plain) (rootStarted rows ok) (started-length rows ok)
-      (set-known (resting rows ok) (P .root) 1 RowState.running (λ x. subst RowState (sym (resting-idle rows ok x)) RowState.idle)))
+      subst Known (sym (start-is P n F))
+      (settle-known (whole P) n (F .sound) (F .plain) (rootStarted P) (started-length P n F)
+      (set-known (map (λ (p : Process). 0) (P .processes)) (P .root) 1 RowState.running (λ x. subst RowState (sym (resting-idle P n F x)) RowState.idle)))
 
   start-bounded : Bounded rows sheet (start P .store)
   unfolding start
@@ -71,7 +71,8 @@ module _ (rows : List ℤ) (ok : check rows ≡ none) (sheet : Sheet) where
   step-kept : (s : State) (x : Label) (t : State) → Kept s → Step P sheet s x t → Kept t
   unfolding settled
   step-kept s x t k h =
-      let (e, z, c, w) = step-ok rows sheet s x t h in
+      let (e, q, z) = step-effect P n F sheet (distinct-options rows sheet) s x t (k .inv) h in
+      let (c, w) = step-ok rows sheet s x e (allowed P sheet s x e q) in
       record {
         inv = step-inv P n F sheet (distinct-options rows sheet) s x t (k .inv) h;
         known = subst (λ (u : State). Known (u .states)) (sym z)
@@ -83,8 +84,9 @@ module _ (rows : List ℤ) (ok : check rows ≡ none) (sheet : Sheet) where
   order-kept k halt = k
   order-kept k (then {s} {t} {x} h o) = order-kept (step-kept s x t k h) o
 
-  reached-kept : {s : State} {l : List Label} → Order P sheet (start P) l s → Kept s
-  reached-kept o = order-kept (record { inv = start-inv P n F sheet (processes-length rows); known = start-known; bounded = start-bounded }) o
+  reached-kept : {s : State} {l : List Label} → OrderOf rows sheet l s → Kept s
+  reached-kept o =
+      order-kept (subst Kept (sym (begins-start P n F (o .beginning) (o .begins))) (record { inv = start-inv P n F sheet; known = start-known; bounded = start-bounded })) (o .order)
 
 pub orders-coherent : OrdersCoherent
 orders-coherent rows ok sheet l s o =

@@ -1,5 +1,5 @@
 -- What a host channel has been given only grows, at its end: in every table, by every step and so by every order.
-use mathlib.Core.Path.{_≡_, sym, ap, _∙_}
+use mathlib.Core.Path.{_≡_, sym, ap, subst, _∙_}
 use mathlib.Core.List.{List, [], _∷_, _++_, append-nil, append-assoc}
 use mathlib.Core.Option.{some}
 use Prim.Native.Nat.{ℕ, _<_}
@@ -7,10 +7,10 @@ use native.Mathlib.Omega.{arith}
 use native.Mathlib.Decide.{ℕ-discrete, decLt}
 use lib.ListN.{length, getD, set}
 use lib.Seq.{set-out, getD-set-same, getD-set-other}
-use Rattle.meaning.specs.State.{Message, State, Program, settled}
+use Rattle.meaning.specs.State.{Message, Store, State, Program, writeAll, Effect}
 use Rattle.meaning.specs.Intent.{Sheet}
 use Rattle.meaning.specs.Ready.{Label}
-use Rattle.meaning.specs.Step.{Step, assignment, while-false, while-true, if-true, communication, host-read, host-write, alt-skip, alt-read, alt-communication, stopping}
+use Rattle.meaning.specs.Step.{Allows, Step, assignment, while-false, while-true, if-true, communication, host-read, host-write, alt-skip, alt-read, alt-communication, stopping}
 use Rattle.meaning.specs.Order.{Order, halt, then}
 
 -- the lists of one state begin with those of another
@@ -30,19 +30,21 @@ set-grows l p m c = go (ℕ-discrete c p) (decLt p (length l))
     go (yes e) (no h) = ([], rw (set-out l p (getD l p [] ++ m) (omega arith)) (sym (append-nil (getD l c []))))
 
 module _ (P : Program) (sheet : Sheet) where
+  effect-grows : (s : State) (x : Label) (e : Effect) → Allows P sheet s x e → Grows (s .store .outputs) (writeAll (e .writes) (s .store) .outputs)
+  effect-grows s x e (assignment g p q) = same-lists (s .store .outputs)
+  effect-grows s x e (while-false g h) = same-lists (s .store .outputs)
+  effect-grows s x e (while-true g h) = same-lists (s .store .outputs)
+  effect-grows s x e (if-true g h) = same-lists (s .store .outputs)
+  effect-grows s x e (communication g k h w) = same-lists (s .store .outputs)
+  effect-grows s x e (host-read g h) = same-lists (s .store .outputs)
+  effect-grows s x e (host-write {c} {z} g h p q o m) = rw (← o) (set-grows (s .store .outputs) (c .port) (some z ∷ []))
+  effect-grows s x e (alt-skip g c m h q) = same-lists (s .store .outputs)
+  effect-grows s x e (alt-read g c m h q k) = same-lists (s .store .outputs)
+  effect-grows s x e (alt-communication g c m k h q w y) = same-lists (s .store .outputs)
+  effect-grows s x e (stopping g h) = same-lists (s .store .outputs)
+
   pub step-grows : (s : State) (x : Label) (t : State) → Step P sheet s x t → Grows (s .store .outputs) (t .store .outputs)
-  unfolding settled
-  step-grows s x t (assignment g p q) = same-lists (s .store .outputs)
-  step-grows s x t (while-false g h) = same-lists (s .store .outputs)
-  step-grows s x t (while-true g h) = same-lists (s .store .outputs)
-  step-grows s x t (if-true g h) = same-lists (s .store .outputs)
-  step-grows s x t (communication g k h w) = same-lists (s .store .outputs)
-  step-grows s x t (host-read g h) = same-lists (s .store .outputs)
-  step-grows s x t (host-write {c} {z} g h p q o m) = rw (← o) (set-grows (s .store .outputs) (c .port) (some z ∷ []))
-  step-grows s x t (alt-skip g c m h q) = same-lists (s .store .outputs)
-  step-grows s x t (alt-read g c m h q k) = same-lists (s .store .outputs)
-  step-grows s x t (alt-communication g c m k h q w y) = same-lists (s .store .outputs)
-  step-grows s x t (stopping g h) = same-lists (s .store .outputs)
+  step-grows s x t h = subst (λ (y : Store). Grows (s .store .outputs) (y .outputs)) (sym (h .leaves .stores)) (effect-grows s x (h .does) (h .allowed))
 
   grows-on : (l m k : List (List Message)) → Grows l m → Grows m k → Grows l k
   grows-on l m k g h c = let (a, e) = g c in let (b, f) = h c in (a ++ b, f ∙ ap (λ (z : List Message). z ++ b) e ∙ append-assoc (getD l c []) a b)

@@ -2,6 +2,7 @@
 use mathlib.Core.Path.{_≡_, sym, ap, _∙_}
 use mathlib.Core.Logic.{_≢_, inl, inr, _↔_}
 use mathlib.Core.Bool.{Bool, true, false}
+use mathlib.Core.Option.{none}
 use mathlib.Core.List.{List}
 use Prim.Native.Nat.{ℕ}
 use native.Mathlib.Omega.{arith}
@@ -17,13 +18,16 @@ use Rattle.meaning.specs.Intent.{Sheet}
 use Rattle.meaning.specs.Ready.{Label}
 use Rattle.meaning.specs.Run.{Result, isStopped, outcomeAtRest, run}
 use Rattle.meaning.specs.Order.{RestOf, outcomeOf}
+use Rattle.meaning.specs.Answers.{check}
 use Rattle.agreement.proofs.Claims.{Finish}
 use Rattle.agreement.specs.Statements.{StepOf, RunTakesOrder}
+use Rattle.agreement.proofs.TableFit.{fit}
+use Rattle.agreement.proofs.TableOptions.{option-rows}
 use Rattle.agreement.proofs.Running.{runs}
 
--- any table and any readings
+-- an accepted table and any readings
 abbrev Any : List ℤ → Sheet → Type 0
-Any rows sheet = Unit {0}
+Any rows sheet = check rows ≡ none
 
 tag : Outcome → ℕ
 tag Ended = 0
@@ -58,7 +62,7 @@ module _ (rows : List ℤ) (sheet : Sheet) (budget : ℕ) (r : Result) where
   spent-exactly (inr (n, e, k)) = (λ z. (n, k), λ z. e)
 
 pub run-takes-order : RunTakesOrder
-run-takes-order rows sheet choices budget =
+run-takes-order rows ok sheet choices budget =
     let r = run rows sheet choices budget in
-    let (l, o, c, n, b, f) = runs Any rows sheet choices budget tt in
+    let (l, o, c, n, b, f) = runs Any (λ rows sheet a. (fit rows a, option-rows rows a)) rows sheet choices budget ok in
     (l, o, c, n, b, rest-exactly rows sheet budget r f, rest-outcome rows sheet budget r f, spent-exactly rows sheet budget r f)

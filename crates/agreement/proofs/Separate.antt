@@ -22,7 +22,8 @@ use Rattle.agreement.proofs.OptionRows.{optionRows, OptionRows}
 use Rattle.agreement.proofs.Proper.{ProperOffer, offer-proper}
 use Rattle.agreement.proofs.Active.{offerAt, offerAt-is, Active, acts-alone, passes-on, takes-open, takes-input, not-input, input-same, selects-same, open-input, offer-same}
 use Rattle.agreement.proofs.Working.{acts, Inv, Works, works, works-at, works-proper, works-apart}
-use Rattle.agreement.proofs.Invariant.{step-active, reached-inv}
+use Rattle.agreement.proofs.Invariant.{step-active}
+use Rattle.agreement.proofs.Beginning.{reached-inv}
 
 module _ (P : Program) (n : ℕ) (F : Fit P n) (sheet : Sheet) (s : State) (i : Inv P n F sheet s) where
   abbrev W : ℕ → Intent
@@ -114,13 +115,13 @@ processes-length rows =
 
 -- the invariant, of tables that fit
 pub table-inv : (rows : List ℤ) (sheet : Sheet) (F : Fit (program rows) (rowCount rows)) (l : List Label) (s : State) → OrderOf rows sheet l s → Inv (program rows) (rowCount rows) F sheet s
-table-inv rows sheet F l s o = reached-inv (program rows) (rowCount rows) F sheet (distinct-options rows sheet) (processes-length rows) l s o
+table-inv rows sheet F l s o = reached-inv (program rows) (rowCount rows) F sheet (distinct-options rows sheet) (o .beginning) s (o .begins) (o .order)
 
 -- the claim of `Order`: no two ready steps have one row
 pub rows-differ : (Accepted : List ℤ → Sheet → Type 0) → ((rows : List ℤ) (sheet : Sheet) → Accepted rows sheet → Fit (program rows) (rowCount rows) × OptionRows (program rows)) → RowsDiffer Accepted
 rows-differ Accepted fit rows sheet l s a o x y mx my q =
     let (F, O) = fit rows sheet a in
     let i = table-inv rows sheet F l s o in
-    let (e, A, u) = step-active (program rows) (rowCount rows) F sheet (distinct-options rows sheet) s x (after (program rows) sheet x s) (ready-allowed rows sheet s x mx) in
-    let (f, B, v) = step-active (program rows) (rowCount rows) F sheet (distinct-options rows sheet) s y (after (program rows) sheet y s) (ready-allowed rows sheet s y my) in
+    let (e, A, u) = step-active (program rows) (rowCount rows) F sheet (distinct-options rows sheet) s x (after (program rows) sheet x s) i (ready-allowed rows sheet F s i x mx) in
+    let (f, B, v) = step-active (program rows) (rowCount rows) F sheet (distinct-options rows sheet) s y (after (program rows) sheet y s) i (ready-allowed rows sheet F s i y my) in
     one-step (program rows) (rowCount rows) F sheet s i O A B q

@@ -1,4 +1,4 @@
--- The list of ready steps holds exactly the steps that the rules allow, and each leaves one state. It holds of every table.
+-- The list of ready steps holds exactly the steps that the rules allow, and each leaves one state, where orders come.
 use mathlib.Core.Path.{_≡_, sym, ap, subst, _∙_}
 use mathlib.Core.Logic.{_≢_}
 use mathlib.Core.Bool.{Bool, true, false}
@@ -17,15 +17,18 @@ use Rattle.meaning.specs.Rows.{ifElse, rowCount}
 use Rattle.meaning.specs.Declarations.{Channel}
 use Rattle.meaning.specs.Tree.{IfChoice, AltOption, Action, stop, skip, sequence, parallel, assign, receive, send, conditional, loop, alternation, actionOf}
 use Rattle.meaning.specs.Values.{isTrue, value, index}
-use Rattle.meaning.specs.State.{Message, Store, State, Program, program, processAt, Effect, settled}
+use Rattle.meaning.specs.State.{Message, Store, State, Program, program, processAt, Effect}
+use Rattle.meaning.specs.Settle.{settled}
 use Rattle.meaning.specs.Intent.{Sheet, Offer, Intent, waits, moves, inputsFrom, outputsTo, selects, assigning, testing, choosing, hosting, sending, Reception, lacks, later, reads, fromElement, inputting, Looked, fails, offers, selecting, reception, tests, looks, intent}
 use Rattle.meaning.specs.Ready.{Label, effectOf, live, intentAt, ready, after}
-use Rattle.meaning.specs.Step.{Live, Step}
-use Rattle.agreement.proofs.Allowed.{allowed}
+use Rattle.meaning.specs.Step.{Live, Allows, Step}
 use Rattle.agreement.proofs.Takeable.{takeable, DistinctOptions}
 use Rattle.agreement.proofs.Takeable
 use Rattle.agreement.proofs.Readiness.{Distinct, ready-can, can-ready}
 use Rattle.agreement.proofs.Options.{Rising, RisingO, ActionOk, options-rise, LookedOk, looks-ok, differ, limited}
+use Rattle.agreement.proofs.Fit.{Fit}
+use Rattle.agreement.proofs.Working.{Inv}
+use Rattle.agreement.proofs.Invariant.{effect-step, step-effect}
 
 abbrev WantOk : ℕ → Intent → Type 0
 WantOk n waits = Unit {0}
@@ -117,16 +120,20 @@ module _ (rows : List ℤ) (sheet : Sheet) (s : State) where
   unfolding after
   after-is x e q = rw q
 
-  -- a step is ready exactly if a rule allows it
+-- a step is ready exactly if a rule allows it
+module _ (rows : List ℤ) (sheet : Sheet) (F : Fit (program rows) (rowCount rows)) (s : State) (i : Inv (program rows) (rowCount rows) F sheet s) where
   pub ready-allowed : (x : Label) → List·Memᴰ x (ready (program rows) sheet s) → Step (program rows) sheet s x (after (program rows) sheet x s)
   ready-allowed x m =
-      let (e, q) = ready-can (program rows) sheet s (λ r l h. differ (rowCount rows) 0 l (offers-rise r l h)) x m in
-      rw (after-is x e q) (allowed (program rows) sheet s x e q)
+      let (e, q) = ready-can (program rows) sheet s (λ r l h. differ (rowCount rows) 0 l (offers-rise rows sheet s r l h)) x m in
+      rw (after-is rows sheet s x e q) (effect-step (program rows) (rowCount rows) F sheet s i x e q)
 
-  pub allowed-ready : length (s .states) ≡ rowCount rows → (x : Label) (t : State) → Step (program rows) sheet s x t
-      → List·Memᴰ x (ready (program rows) sheet s) × (t ≡ after (program rows) sheet x s)
-  allowed-ready n x t h =
-      let (e, (q, z)) = takeable (program rows) sheet s distinct-options x t h in (
-        can-ready (program rows) sheet s (λ r l h. differ (rowCount rows) 0 l (offers-rise r l h)) (λ r l h o m. rw n (limited (rowCount rows) 0 l (offers-rise r l h) o m)) x e q,
-        z ∙ sym (after-is x e q),
+  pub allowed-ready : (x : Label) (t : State) → Step (program rows) sheet s x t → List·Memᴰ x (ready (program rows) sheet s) × (t ≡ after (program rows) sheet x s)
+  allowed-ready x t h =
+      let (e, q, z) = step-effect (program rows) (rowCount rows) F sheet (distinct-options rows sheet) s x t i h in (
+        can-ready (program rows) sheet s (λ r l h. differ (rowCount rows) 0 l (offers-rise rows sheet s r l h)) (λ r l h o m. rw (i .size) (limited (rowCount rows) 0 l (offers-rise rows sheet s r l h) o m)) x e q,
+        z ∙ sym (after-is rows sheet s x e q),
       )
+
+  -- what a rule allows is taken to the state that the walk leaves
+  pub allowed-step : (x : Label) (e : Effect) → Allows (program rows) sheet s x e → Step (program rows) sheet s x (settled (program rows) e s)
+  allowed-step x e h = effect-step (program rows) (rowCount rows) F sheet s i x e (takeable (program rows) sheet s (distinct-options rows sheet s) x e h)

@@ -1,16 +1,17 @@
 -- An accepted table is fit: what the proofs about orders use of it holds.
 use mathlib.Core.Path.{_≡_, sym, ap, subst, _∙_}
-use mathlib.Core.Option.{Option, none, some}
+use mathlib.Core.Option.{Option, none, some, Option·some-injective}
 use mathlib.Core.List.{List}
 use Prim.Native.Nat.{ℕ, _≤_}
 use lib.IntN.{ℤ}
 use Rattle.meaning.specs.Rows.{rowCount, root}
-use Rattle.meaning.specs.Tree.{Action, parallel, Process, node, Members, partAt, orStop, actionOf}
+use Rattle.meaning.specs.Tree.{Action, parallel, Process, node, Members, partAt, orStop, actionOf, rowOf}
 use Rattle.meaning.specs.State.{program, processAt, whole}
 use Rattle.meaning.specs.Answers.{check}
 use Rattle.meaning.proofs.AnswerLaws.{RightRows, accepted}
 use Rattle.agreement.proofs.Reach.{Sub}
 use Rattle.agreement.proofs.Fit.{Fit}
+use Rattle.agreement.proofs.Separate.{processes-length}
 use Rattle.agreement.proofs.TableTree.{SubO, process-is, stands, plain}
 use Rattle.agreement.proofs.TableReferences.{few-rows}
 use Rattle.agreement.proofs.TableRows.{SoundO, sound-at}
@@ -32,10 +33,16 @@ module _ (rows : List ℤ) (A : RightRows rows) where
   pub inside-placed : (k : Action) (r : ℕ) (ms : Members) → Sub k r ms (whole (program rows)) → processAt (program rows) r ≡ node k r ms
   inside-placed k r ms h = process-is rows r ∙ ap orStop (inside-stands k r ms h)
 
+  -- it stands at the root
+  whole-row : rowOf (whole (program rows)) ≡ root rows
+  whole-row = let (k, ms, e) = root-process rows A in ap rowOf (Option·some-injective (whole (program rows)) (node k (root rows) ms) (sym whole-is ∙ e))
+
   pub fit-rows : Fit (program rows) (rowCount rows)
-  unfolding whole
+  unfolding whole program
   fit-rows =
       record {
+        size = processes-length rows;
+        at-root = whole-row;
         sound = subst (λ (o : Option Process). SoundO o (rowCount rows)) whole-is (sound-at rows A (root rows));
         plain = plain rows (program rows .root);
         placed = inside-placed;

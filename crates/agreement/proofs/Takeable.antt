@@ -1,4 +1,4 @@
--- Every step that the rules allow is one that the machine can take.
+-- Every step that the rules allow is one that the machine can take, with the same effect.
 use mathlib.Core.Path.{_≡_, refl, sym, ap, subst, _∙_}
 use mathlib.Core.Logic.{_≢_}
 use mathlib.Core.Bool.{Bool, true, false}
@@ -15,10 +15,10 @@ use Rattle.meaning.specs.Rows.{ifElse}
 use Rattle.meaning.specs.Declarations.{Variable, Channel}
 use Rattle.meaning.specs.Tree.{Expr, Receive, IfChoice, AltOption, Action, assign, receive, send, conditional, loop, alternation, rowsBeneath}
 use Rattle.meaning.specs.Values.{isTrue, value, index}
-use Rattle.meaning.specs.State.{Message, State, Program, Write, writeCell, writePlace, writeOutput, Effect, settled}
+use Rattle.meaning.specs.State.{Message, State, Program, Write, writeCell, writePlace, writeOutput, Effect}
 use Rattle.meaning.specs.Intent.{Sheet, entry, Offer, openOffer, inputOffer, Intent, moves, inputsFrom, outputsTo, Reception, lacks, later, reads, fromElement, reading, Looked, fails, offers, adding, admitting, guarding, reception, receptionIf, tests, looks, intent}
 use Rattle.meaning.specs.Ready.{Label, own, allIdle, live, intentAt, ownEffect, meetEffect, takeEffect, takeFromEffect, optionRow, offerEffectAt, offerEffect, effectOf}
-use Rattle.meaning.specs.Step.{channelOf, targetOf, Holds, holds, refuted, LacksIn, channel-lacks, target-lacks, FirstTrue, LacksTest, boolean-lacks, input-lacks, Complete, closed, open-skip, open-input, LacksOption, AllComplete, no-more, and-then, Lacks, assign-subscript, assign-value, input-subscript, output-subscript, output-value, while-test, if-test, alt-guard, Inner, inner, Host, host, Sends, sends, Live, becomes, effect, Step, assignment, while-false, while-true, if-true, communication, host-read, host-write, alt-skip, alt-read, alt-communication, stopping}
+use Rattle.meaning.specs.Step.{channelOf, targetOf, Holds, holds, refuted, LacksIn, channel-lacks, target-lacks, FirstTrue, LacksTest, boolean-lacks, input-lacks, Complete, closed, open-skip, open-input, LacksOption, AllComplete, no-more, and-then, Lacks, assign-subscript, assign-value, input-subscript, output-subscript, output-value, while-test, if-test, alt-guard, Inner, inner, Host, host, Sends, sends, Live, becomes, effect, Allows, assignment, while-false, while-true, if-true, communication, host-read, host-write, alt-skip, alt-read, alt-communication, stopping}
 
 true-is : (t : Bool) → T t → t ≡ true
 true-is true h = refl
@@ -40,12 +40,12 @@ module _ (P : Program) (sheet : Sheet) (s : State) where
   unfolding intentAt live
   live-want r a (Live.live {ms} e u h) = rw (e, u, idle-test (rowsBeneath ms) h)
 
-  -- the machine can take the step x to t
-  abbrev pub Can : Label → State → Type 0
-  Can x t = (e : Effect) × ((effectOf x (intentAt P sheet s) ≡ some e) × (t ≡ settled P e s))
+  -- the machine can take the step x, with effect e
+  abbrev pub Can : Label → Effect → Type 0
+  Can x e = effectOf x (intentAt P sheet s) ≡ some e
 
-  can-own : (r : ℕ) (a : Action) → Live P s r a → (x v : ℕ) (ws : List Write) → intent sheet a r (s .store) ≡ moves x v ws → Can (own r) (settled P (effect (becomes r x v ∷ []) ws) s)
-  can-own r a g x v ws e = (effect (becomes r x v ∷ []) ws, (ap (ownEffect r) (live-want r a g ∙ e), refl))
+  can-own : (r : ℕ) (a : Action) → Live P s r a → (x v : ℕ) (ws : List Write) → intent sheet a r (s .store) ≡ moves x v ws → Can (own r) (effect (becomes r x v ∷ []) ws)
+  can-own r a g x v ws e = ap (ownEffect r) (live-want r a g ∙ e)
 
   first-true : (r q : ℕ) (l : List IfChoice) → FirstTrue cells l q → tests sheet r l (s .store) ≡ moves q 1 []
   first-true r q l (FirstTrue.this (holds e h)) = rw (e, h)
@@ -227,34 +227,23 @@ module _ (P : Program) (sheet : Sheet) (s : State) where
   abbrev pub DistinctOptions : Type 0
   DistinctOptions = (r : ℕ) (bs : List AltOption) → Live P s r (alternation bs) → Distinct bs
 
-  -- a step that a rule allows is one that the machine can take, to the same state
-  pub takeable : DistinctOptions → (x : Label) (t : State) → Step P sheet s x t → Can x t
+  -- a step that a rule allows is one that the machine can take, with the same effect
+  pub takeable : DistinctOptions → (x : Label) (e : Effect) → Allows P sheet s x e → Can x e
   unfolding intent
   takeable D x t (assignment {r} {a} {v} {e} {f} {z} g p q) = can-own r (assign v e f) g r 2 (writeCell a (some z) ∷ []) (can-assign r a v e f z p q)
   takeable D x t (while-false {r} {b} {e} g (refuted {x = y} p q)) = can-own r (loop e b) g r 2 [] (can-while r b e false y p q)
   takeable D x t (while-true {r} {b} {e} g (holds {x = y} p q)) = can-own r (loop e b) g b 1 [] (can-while r b e true y p q)
   takeable D x t (if-true {r} {q} {ts} g h) = can-own r (conditional ts) g q 1 [] (first-true r q ts h)
-  takeable D x t (communication {r} {o} {d} {a} {i} {c} {e} {f} {m = z} g k h w) = (
-    effect (becomes r r 2 ∷ becomes o o 2 ∷ []) (writeCell a z ∷ []),
-    (rw (live-want r (receive i) g, gets-is r d a i h, live-want o (send c e f) k) (meets-is d r r 2 o a z _ (sends-is o d c e f z w)), refl),
-  )
+  takeable D x t (communication {r} {o} {d} {a} {i} {c} {e} {f} {m = z} g k h w) =
+      rw (live-want r (receive i) g, gets-is r d a i h, live-want o (send c e f) k) (meets-is d r r 2 o a z _ (sends-is o d c e f z w))
   takeable D x t (host-read {r} {a} {n} {i} {v} g h) = can-own r (receive i) g r 2 (writeCell a v ∷ writePlace (i .channel .port) (suc n) ∷ []) (can-read r a n i v h)
   takeable D x t (host-write {r} {d} {c} {e} {f} {z} {l} g h p q o m) = can-own r (send c e f) g r 2 (writeOutput (c .port) (l ++ (some z ∷ [])) ∷ []) (can-write r d c e f z l h p q o m)
-  takeable D x t (alt-skip {r} {bs} {b} g c m (holds e h) q) = (
-    effect (becomes r (b .process) 1 ∷ []) [],
-    (can-pick x r bs b (openOffer (b .row) (b .process) []) (takeEffect r) _ g c (D r bs g) m (λ L. rw (e, h, q)) refl refl, refl),
-  )
+  takeable D x t (alt-skip {r} {bs} {b} g c m (holds e h) q) =
+      can-pick x r bs b (openOffer (b .row) (b .process) []) (takeEffect r) _ g c (D r bs g) m (λ L. rw (e, h, q)) refl refl
   takeable D x t (alt-read {r} {a} {n} {bs} {b} {i} {v} g c m h q k) =
-      let ws = writeCell a v ∷ writePlace (i .channel .port) (suc n) ∷ [] in (
-        effect (becomes r (b .process) 1 ∷ []) ws,
-        (can-pick x r bs b (openOffer (b .row) (b .process) ws) (takeEffect r) _ g c (D r bs g) m (λ L. open-is b i h q L ∙ rw (in-host i a n v k)) refl refl, refl),
-      )
-  takeable D x t (alt-communication {r} {o} {d} {a} {bs} {b} {i} {c = ch} {e} {f} {m = z} g c m k h q w y) = (
-    effect (becomes r (b .process) 1 ∷ becomes o o 2 ∷ []) (writeCell a z ∷ []),
-    (
+      let ws = writeCell a v ∷ writePlace (i .channel .port) (suc n) ∷ [] in
+      can-pick x r bs b (openOffer (b .row) (b .process) ws) (takeEffect r) _ g c (D r bs g) m (λ L. open-is b i h q L ∙ rw (in-host i a n v k)) refl refl
+  takeable D x t (alt-communication {r} {o} {d} {a} {bs} {b} {i} {c = ch} {e} {f} {m = z} g c m k h q w y) =
       can-pick x r bs b (inputOffer (b .row) (b .process) d a) (takeFromEffect r o (intentAt P sheet s o)) _ g c (D r bs g) m (λ L. open-is b i h q L ∙ rw (in-inner i d a w)) refl
-          (meets-is d r (b .process) 1 o a z (intentAt P sheet s o) (live-want o (send ch e f) k ∙ sends-is o d ch e f z y)),
-      refl,
-    ),
-  )
+      (meets-is d r (b .process) 1 o a z (intentAt P sheet s o) (live-want o (send ch e f) k ∙ sends-is o d ch e f z y))
   takeable D x t (stopping {r} {k} {a} g h) = can-own r a g r (10 + k) [] (lacks-want r k a h)

@@ -72,9 +72,9 @@ module _ (P : Program) (n : ℕ) (F : Fit P n) (sheet : Sheet) (N : NoOptions P)
   -- two different steps: each is allowed after the other, and they lead to one state
   pub two-steps : ((s : State) → DistinctOptions P sheet s) → (s : State) → Inv P n F sheet s → (x y : Label) (t u : State) → x ≢ y → Step P sheet s x t → Step P sheet s y u → (v : State) × Step P sheet t y v × Step P sheet u x v
   two-steps D s i x y t u ne hx hy =
-      let (e, A, z) = step-active P n F sheet D s x t hx in
-      let (f, B, w) = step-active P n F sheet D s y u hy in
-      apart-diamond P n F sheet s i (D s) x y t u hx hy (rows-apart s i A B ne)
+      let (e, A, z) = step-active P n F sheet D s x t i hx in
+      let (f, B, w) = step-active P n F sheet D s y u i hy in
+      apart-diamond P n F sheet s i D x y t u hx hy (rows-apart s i A B ne)
 
 -- ---- tables without ALT
 

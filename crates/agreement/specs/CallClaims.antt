@@ -12,12 +12,12 @@ use Rattle.meaning.specs.declared.Outcome.the-variants.{Spent}
 use Rattle.meaning.specs.declared.Answer.the-variants.{Refused, Ran}
 use Rattle.meaning.specs.Limits.{maxBudget, maxCells}
 use Rattle.meaning.specs.TableBytes.{Refusal, bytesFault, rowsOf}
-use Rattle.meaning.specs.State.{State, program, start}
-use Rattle.meaning.specs.Ready.{Label}
+use Rattle.meaning.specs.State.{State, program}
+use Rattle.meaning.specs.Labels.{Label}
 use Rattle.meaning.specs.Sheet.{sheetFault, readings}
 use Rattle.meaning.specs.Buffers.{Buffers, tooShort, encode}
 use Rattle.meaning.specs.Answers.{Task, check, reply, replyToBytes}
-use Rattle.meaning.specs.Order.{OrderOf, RestOf, outcomeOf, Chosen}
+use Rattle.meaning.specs.Order.{OrderOf, RestOf, outcomeOf, ChosenOf}
 use Rattle.agreement.specs.Statements.{StepOf}
 use Rattle.agreement.specs.MissingClaims.{Delivers}
 
@@ -41,7 +41,7 @@ pub record RanAs (t : Task) (b : Buffers) (outcome : Outcome) (steps : ℕ) : Ty
   pub labels : List Label
   pub end : State
   pub order : OrderOf (t .rows) (readings (t .rows) (t .sheet)) labels end
-  pub chosen : Chosen (program (t .rows)) (readings (t .rows) (t .sheet)) (start (program (t .rows))) (t .choices) labels
+  pub chosen : ChosenOf (t .rows) (readings (t .rows) (t .sheet)) (t .choices) labels end
   pub steps-taken : length labels ≡ steps
   pub steps-within : steps ≤ t .budget
   pub left : reply t b .buffers ≡ encode (t .rows) end b
@@ -76,7 +76,7 @@ pub record HandedTo (rows : List ℤ) (sheet : List ℕ) (l : List Label) (i : �
 abbrev pub MissingAnswered : Type 0
 MissingAnswered = (t : Task) (b : Buffers) (outcome : Outcome) (steps : ℕ) → reply t b .answer ≡ Ran outcome steps
     → (l : List Label) × ((s : State) × OrderOf (t .rows) (readings (t .rows) (t .sheet)) l s
-    × Chosen (program (t .rows)) (readings (t .rows) (t .sheet)) (start (program (t .rows))) (t .choices) l × (length l ≡ steps)
+    × ChosenOf (t .rows) (readings (t .rows) (t .sheet)) (t .choices) l s × (length l ≡ steps)
     × (reply t b .buffers ≡ encode (t .rows) s b)
     × ((i : ℕ) → i < maxCells
     → let m = getD (reply t b .buffers .marks) i 0 in

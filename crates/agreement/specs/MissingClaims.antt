@@ -14,14 +14,16 @@ use Rattle.meaning.specs.Limits.{maxCells}
 use Rattle.meaning.specs.Declarations.{Variable, Channel, sumBelow, cellsAt, variables}
 use Rattle.meaning.specs.Tree.{Expr, element, monadic, dyadic, Receive, IfChoice, AltOption, Action, assign, receive, send, conditional, loop, alternation}
 use Rattle.meaning.specs.Values.{decides, value, index}
-use Rattle.meaning.specs.State.{Message, State, Program, program, settled}
+use Rattle.meaning.specs.State.{Message, State, Program, program, Effect}
 use Rattle.meaning.specs.Intent.{Sheet, intent}
 use Rattle.meaning.specs.Ready.{Label, own, pass, take, takeFrom, ready, after}
 use Rattle.meaning.specs.Order.{OrderOf}
 use Rattle.meaning.specs.Run.{Result, go}
 use Rattle.meaning.specs.Buffers.{Buffers, sized, mark, numberIn, encode}
+use Rattle.meaning.specs.Answers.{check}
 use Rattle.meaning.specs.Printing.{Line, line, var, runLines, valueBytes}
-use Rattle.meaning.specs.Step.{channelOf, Holds, Refuted, Complete, AllComplete, Lacks, Inner, Host, Sends, Live, becomes, effect, Step}
+use Rattle.meaning.specs.Step.{channelOf, Holds, Refuted, Complete, AllComplete, Lacks, Inner, Host, Sends, Live, becomes, effect, Leaves, Step}
+use Rattle.agreement.specs.Statements.{Reached}
 
 -- a cell of a state: none where it is unset
 abbrev pub cellOf : State → ℕ → Message
@@ -73,7 +75,8 @@ DeliveredHolds = (rows : List ℤ) (sheet : Sheet) (s : State) (x : Label) (t : 
 -- "An empty field is an absent reading: the input takes place and makes its target unset"
 abbrev pub AbsentUnsets : Type 0
 AbsentUnsets = (rows : List ℤ) (sheet : Sheet) (s : State) (x : Label) (a : ℕ) → ReadsAbsent (program rows) sheet s x a
-    → ((t : State) × Step (program rows) sheet s x t) × ((t : State) → Step (program rows) sheet s x t → cellOf t a ≡ none)
+    → (check rows ≡ none → Reached rows sheet s → (t : State) × Step (program rows) sheet s x t)
+    × ((t : State) → Step (program rows) sheet s x t → cellOf t a ≡ none)
 
 -- a number that a cell holds after an order of steps was handed to it by one of them, in the state that the steps before it left
 abbrev pub SetInOrder : Type 0
@@ -107,15 +110,20 @@ OfRow r (takeFrom q j o) = (q ≡ r) ⊎ (o ≡ r)
 abbrev pub OneReason : Type 0
 OneReason = (cells : List Message) (a : Action) (k l : ℕ) → Lacks cells a k → Lacks cells a l → k ≡ l
 
--- the state after a stop of row r for a reason
-abbrev pub stopped : Program → State → ℕ → ℕ → State
-stopped P s r reason = settled P (effect (becomes r r (10 + reason) ∷ []) []) s
+-- the effect of a stop of row r for a reason
+abbrev pub stopEffect : ℕ → ℕ → Effect
+stopEffect r reason = effect (becomes r r (10 + reason) ∷ []) []
+
+-- a row has one step, the stop for a reason: there is such a step in every state that an order of an accepted table reaches
+abbrev pub OnlyStops : List ℤ → Sheet → State → ℕ → ℕ → Type 0
+OnlyStops rows sheet s r reason =
+    (check rows ≡ none → Reached rows sheet s → (t : State) × Step (program rows) sheet s (own r) t)
+    × ((x : Label) (t : State) → Step (program rows) sheet s x t → OfRow r x → (x ≡ own r) × Leaves (program rows) s (stopEffect r reason) t)
 
 -- "An ALT, input or output that would stop offers nothing else": a running row that lacks a value has one step, the stop
 abbrev pub LackingOnlyStops : Type 0
 LackingOnlyStops = (rows : List ℤ) (sheet : Sheet) (s : State) (r reason : ℕ) (a : Action) → Live (program rows) s r a → Lacks (s .store .cells) a reason
-    → Step (program rows) sheet s (own r) (stopped (program rows) s r reason)
-    × ((x : Label) (t : State) → Step (program rows) sheet s x t → OfRow r x → (x ≡ own r) × (t ≡ stopped (program rows) s r reason))
+    → OnlyStops rows sheet s r reason
 
 -- an input needs an unset cell: for its channel's subscript, then for its target's
 pub data InputNeedsUnset (cells : List Message) (i : Receive) : Type 0 where
@@ -151,9 +159,7 @@ UnsetLacks = (cells : List Message) (a : Action) → Lacks cells a 1 ↔ ActionN
 
 -- reading an unset cell where a value is needed makes the step a stop with reason 1: it is the row's one step
 abbrev pub UnsetStops : Type 0
-UnsetStops = (rows : List ℤ) (sheet : Sheet) (s : State) (r : ℕ) (a : Action) → Live (program rows) s r a → ActionNeedsUnset (s .store .cells) a
-    → Step (program rows) sheet s (own r) (stopped (program rows) s r 1)
-    × ((x : Label) (t : State) → Step (program rows) sheet s x t → OfRow r x → (x ≡ own r) × (t ≡ stopped (program rows) s r 1))
+UnsetStops = (rows : List ℤ) (sheet : Sheet) (s : State) (r : ℕ) (a : Action) → Live (program rows) s r a → ActionNeedsUnset (s .store .cells) a → OnlyStops rows sheet s r 1
 
 -- a cell by its mark and its stored number: none where the mark is 0, whatever is stored
 abbrev pub decodedCell : ℕ → ℤ → Message

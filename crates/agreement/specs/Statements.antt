@@ -4,8 +4,8 @@ use mathlib.Core.Path.{_≡_}
 use mathlib.Core.Bool.{false}
 use mathlib.Core.Logic.{_≢_, _↔_}
 use mathlib.Core.Option.{none, some}
-use mathlib.Core.List.{List, [], _∷_, _++_, map, List·Memᴰ}
-use Prim.Native.Nat.{ℕ, suc, _<_, _≤_}
+use mathlib.Core.List.{List, [], _++_, map, List·Memᴰ}
+use Prim.Native.Nat.{ℕ, _<_, _≤_}
 use lib.IntN.{ℤ}
 use lib.ListN.{length, getD}
 use Rattle.meaning.specs.declared.Outcome.the-variants.{Spent}
@@ -17,15 +17,16 @@ use Rattle.meaning.specs.Declarations.{Channel}
 use Rattle.meaning.specs.TableBytes.{bytesFault, rowsOf}
 use Rattle.meaning.specs.Tree.{Expr, Receive, AltOption, receive, send, alternation}
 use Rattle.meaning.specs.Values.{index}
-use Rattle.meaning.specs.State.{Message, State, Program, program, start}
-use Rattle.meaning.specs.Intent.{Sheet}
-use Rattle.meaning.specs.Ready.{Label, orderRow, ready}
+use Rattle.meaning.specs.State.{Message, State, Program, program}
+use Rattle.meaning.specs.Labels.{Label, orderRow, Ascending}
+use Rattle.meaning.specs.Readings.{Sheet}
+use Rattle.meaning.specs.Ready.{ready, after}
 use Rattle.meaning.specs.Run.{run}
 use Rattle.meaning.specs.Sheet.{sheetFault, readings}
 use Rattle.meaning.specs.Buffers.{Buffers, tooShort, encode}
 use Rattle.meaning.specs.Answers.{check, Reply, reply, replyToBytes}
 use Rattle.meaning.specs.Step.{channelOf, Live, Step}
-use Rattle.meaning.specs.Order.{OrderOf, RestOf, outcomeOf, Chosen}
+use Rattle.meaning.specs.Order.{ReadyList, OrderOf, ChosenOf, RestOf, outcomeOf}
 use Rattle.meaning.specs.Accepted.{Accepted}
 
 -- a state that some order of the table on the readings comes to
@@ -40,19 +41,24 @@ StepOf rows sheet s x t = Step (program rows) sheet s x t
 
 -- a step is among the ready steps exactly if a rule allows it, and the state that it leads to is one
 abbrev pub ReadyExactly : Type 0
-ReadyExactly = (rows : List ℤ) (sheet : Sheet) (s : State) → Reached rows sheet s → (x : Label)
+ReadyExactly = (rows : List ℤ) → check rows ≡ none → (sheet : Sheet) (s : State) → Reached rows sheet s → (x : Label)
     → (List·Memᴰ x (ready (program rows) sheet s) ↔ ((t : State) × StepOf rows sheet s x t))
     × ((t u : State) → StepOf rows sheet s x t → StepOf rows sheet s x u → t ≡ u)
 
--- each number is above the one before it
-abbrev pub Ascending : ℕ → List ℕ → Type 0
-Ascending from [] = Unit {0}
-Ascending from (n ∷ l) = (from ≤ n) × Ascending (suc n) l
+-- the state that the machine goes to by a ready step is the one that the step leads to
+abbrev pub AfterIsStep : Type 0
+AfterIsStep = (rows : List ℤ) → check rows ≡ none → (sheet : Sheet) (s : State) → Reached rows sheet s → (x : Label) → List·Memᴰ x (ready (program rows) sheet s)
+    → StepOf rows sheet s x (after (program rows) sheet x s) × ((t : State) → StepOf rows sheet s x t → t ≡ after (program rows) sheet x s)
 
 -- "Ready steps are ordered by row": of an accepted table no two have one row
 abbrev pub RowsAscend : Type 0
 RowsAscend = (rows : List ℤ) (sheet : Sheet) → Accepted rows sheet → (s : State) → Reached rows sheet s
     → Ascending 0 (map orderRow (ready (program rows) sheet s))
+
+-- so the machine's list is the list of the ready steps, and no other list is
+abbrev pub ReadyListed : Type 0
+ReadyListed = (rows : List ℤ) → check rows ≡ none → (sheet : Sheet) (s : State) → Reached rows sheet s
+    → (l : List Label) → ReadyList (program rows) sheet s l ↔ (l ≡ ready (program rows) sheet s)
 
 -- row r could input from element e: an input, or an ALT with such a guard
 pub data InputsAt (P : Program) (s : State) (e : ℕ) : ℕ → Type 0 where
@@ -73,12 +79,12 @@ OnePerElement = (rows : List ℤ) (sheet : Sheet) → Accepted rows sheet → (s
 -- Demand 2: runs ----------------------------------------------------------------------------------------------------------------
 
 -- "A run takes the order that its choices pick, up to rest or its budget, and the steps it reports are the length of that order":
--- step i is number (choice i mod count i) of the ready steps (`Chosen`); rest is reported exactly if no step is allowed, and spent
+-- step i is number (choice i mod count i) of the ready steps (`ChosenOf`); rest is reported exactly if no step is allowed, and spent
 -- exactly if the steps equal the budget and one is
 abbrev pub RunTakesOrder : Type 0
-RunTakesOrder = (rows : List ℤ) (sheet : Sheet) (choices : List ℕ) (budget : ℕ)
+RunTakesOrder = (rows : List ℤ) → check rows ≡ none → (sheet : Sheet) (choices : List ℕ) (budget : ℕ)
     → let r = run rows sheet choices budget in
-    (l : List Label) × OrderOf rows sheet l (r .state) × Chosen (program rows) sheet (start (program rows)) choices l
+    (l : List Label) × OrderOf rows sheet l (r .state) × ChosenOf rows sheet choices l (r .state)
     × (length l ≡ r .steps) × (r .steps ≤ budget)
     × ((r .outcome ≢ Spent) ↔ RestOf rows sheet (r .state))
     × (RestOf rows sheet (r .state) → r .outcome ≡ outcomeOf rows (r .state))
@@ -88,7 +94,7 @@ RunTakesOrder = (rows : List ℤ) (sheet : Sheet) (choices : List ℕ) (budget :
 abbrev pub EveryOrderChosen : Type 0
 EveryOrderChosen = (rows : List ℤ) (sheet : Sheet) → Accepted rows sheet → (l : List Label) (s : State) → OrderOf rows sheet l s
     → (choices : List ℕ) × ((c : ℕ) → List·Memᴰ c choices → c < 65536)
-    × Chosen (program rows) sheet (start (program rows)) choices l
+    × ChosenOf rows sheet choices l s
     × (run rows sheet choices (length l) .state ≡ s) × (run rows sheet choices (length l) .steps ≡ length l)
 
 -- Demand 3 ----------------------------------------------------------------------------------------------------------------------

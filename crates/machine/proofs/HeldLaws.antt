@@ -9,7 +9,8 @@ use lib.ListN.{length, getD, set, take, replicate, length-append, length-map, Li
 use Rattle.meaning.specs.Limits.{maxRows, maxCells, maxPorts, maxCapacity}
 use Rattle.meaning.specs.Rows.{rowCount}
 use Rattle.meaning.specs.Declarations.{totalCells, totalPorts}
-use Rattle.meaning.specs.State.{Message, State, program, start, writeCell, writePlace, writeOutput}
+use Rattle.meaning.specs.State.{Message, State, program, writeCell, writePlace, writeOutput}
+use Rattle.meaning.specs.Settle.{start}
 use Rattle.meaning.specs.Buffers.{Buffers, lent, mark, numberIn, capacities, strips, encode}
 use Rattle.machine.specs.Held.{blank, Holds, cellOf, sumOf, stripStart, withWrite, withState, putCell, putPlace, putState, putOutput, Lengths, Room}
 use Rattle.machine.proofs.LentLists.{lent-at, lent-length, lent-set, lent-defaults, map-set, map-replicate}

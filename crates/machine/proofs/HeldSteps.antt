@@ -12,8 +12,8 @@ use lib.Seq.{getD-append-seam}
 use Rattle.meaning.specs.Limits.{maxRows}
 use Rattle.meaning.specs.Rows.{rowCount}
 use Rattle.meaning.specs.Tree.{Process, node, Members, empty, also, rowsIn, rowsBeneath}
-use Rattle.meaning.specs.Settle.{settle}
-use Rattle.meaning.specs.State.{Message, State, program, whole, start, Write, writeCell, writePlace, writeOutput, writeAll, StateChange, changeStates, Effect, settled}
+use Rattle.meaning.specs.Settle.{settle, start, settled}
+use Rattle.meaning.specs.State.{Message, State, program, whole, Write, writeCell, writePlace, writeOutput, writeAll, StateChange, changeStates, Effect}
 use Rattle.meaning.specs.Buffers.{Buffers, lent, encode}
 use Rattle.meaning.specs.Answers.{check}
 use Rattle.agreement.proofs.Again.{Sound, SoundM}

@@ -6,7 +6,8 @@ use mathlib.Core.List.{List, [], _∷_}
 use Prim.Native.Nat.{ℕ}
 use lib.IntN.{ℤ}
 use Rattle.meaning.specs.Rows.{rowCount}
-use Rattle.meaning.specs.State.{State, program, whole, start, StateChange, Effect}
+use Rattle.meaning.specs.State.{State, program, whole, StateChange, Effect}
+use Rattle.meaning.specs.Settle.{start}
 use Rattle.meaning.specs.Intent.{Sheet, openOffer, inputOffer}
 use Rattle.meaning.specs.Ready.{Label, effectOf, intentAt, after}
 use Rattle.meaning.specs.Buffers.{Buffers}

@@ -4,7 +4,8 @@ use mathlib.Core.Option.{some}
 use mathlib.Core.List.{List, [], _∷_}
 use lib.IntN.{ℤ, pos, negsuc}
 use Rattle.meaning.specs.Basics.{concat, lowest, lowestFrom, allBelow}
-use Rattle.meaning.specs.State.{program, start}
+use Rattle.meaning.specs.State.{program}
+use Rattle.meaning.specs.Settle.{start}
 use Rattle.meaning.specs.Ready.{take, takeFrom, ready}
 use Rattle.meaning.proofs.Computes.{computes}
 use Rattle.machine.specs.RowSteps.{altOf, waitingAt, ownStep, optionStep, stepAt, stepsByRow, stepRows}

@@ -7,7 +7,8 @@ use Prim.Native.Nat.{ℕ}
 use lib.Dec.{eqb}
 use borrow.Author.Tests.{eq-eqb}
 use Rattle.meaning.specs.Rows.{ifElse}
-use Rattle.meaning.specs.State.{Message, State, Program, Write, writeCell, Effect, settled}
+use Rattle.meaning.specs.State.{Message, State, Program, Write, writeCell, Effect}
+use Rattle.meaning.specs.Settle.{settled}
 use Rattle.meaning.specs.Intent.{Sheet, Offer, openOffer, inputOffer, Intent, moves, inputsFrom, outputsTo, selects}
 use Rattle.meaning.specs.Ready.{Label, own, pass, take, takeFrom, takeEffect, takeFromEffect, optionRow, offerEffectAt, effectOf, intentAt, after}
 use Rattle.meaning.specs.Step.{becomes, effect}

@@ -12,23 +12,22 @@ use lib.Dec.{eqb}
 use borrow.Author.Tests.{eqb-true}
 use Rattle.meaning.specs.Rows.{rowCount}
 use Rattle.meaning.specs.Tree.{stop, skip, sequence, parallel, assign, receive, send, conditional, loop, alternation, Process, node, empty, also, rowOf, actionOf, membersIn, rowsIn, rowsBeneath}
-use Rattle.meaning.specs.Settle.{statesOf, byStep, mode}
-use Rattle.meaning.specs.SettlingRules.{Among, All, Next, Inside, Settles}
-use Rattle.meaning.specs.State.{Message, State, Program, program, processAt, whole, Effect, settled}
+use Rattle.meaning.specs.Settle.{statesOf, byStep, mode, settled}
+use Rattle.meaning.specs.SettlingRules.{Among, All, Next, Inside, Settles, Final}
+use Rattle.meaning.specs.State.{Message, State, Program, program, processAt, whole, Effect}
 use Rattle.meaning.specs.Intent.{Sheet, outputsTo}
 use Rattle.meaning.specs.Ready.{Label, allIdle, live, intentAt, after}
 use Rattle.meaning.specs.Step.{Live}
 use Rattle.meaning.specs.Order.{OrderOf}
 use Rattle.meaning.specs.Answers.{check}
 use Rattle.meaning.proofs.AnswerLaws.{accepted}
-use Rattle.agreement.specs.SettlingClaims.{Final}
 use Rattle.agreement.proofs.Again.{Out, Idle}
 use Rattle.agreement.proofs.Frame.{row-in}
-use Rattle.agreement.proofs.Allowed.{allowed}
 use Rattle.agreement.proofs.Reached.{order-more}
 use Rattle.agreement.proofs.Fit.{Fit}
 use Rattle.agreement.proofs.Active.{Active}
 use Rattle.agreement.proofs.Working.{Inv, Works, idle-all, sub-at, in-or-out, live-works}
+use Rattle.agreement.proofs.Invariant.{effect-step}
 use Rattle.agreement.proofs.Separate.{table-inv}
 use Rattle.agreement.proofs.TableFit.{fit}
 use Rattle.agreement.proofs.Freedom.{NoneOf, works-same}
@@ -121,7 +120,7 @@ module _ (rows : List ℤ) (ok : check rows ≡ none) (sheet : Sheet) (l : List 
 
     -- the order that takes the step too
     pub order-after : OrderOf rows sheet (l ++ (x ∷ [])) t
-    order-after = rw left (order-more P sheet o (allowed P sheet s x e (active-effect (intentAt P sheet s) A)))
+    order-after = rw left (order-more rows sheet o (effect-step P (rowCount rows) F sheet s inv x e (active-effect (intentAt P sheet s) A)))
 
     module _ (r : ℕ) (d : NoneOf x r) where
       -- a live row that is none of the step's rows would do the same after it

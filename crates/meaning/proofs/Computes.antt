@@ -4,8 +4,8 @@ use Rattle.meaning.specs.Declarations.{sumBelow, cellsAt, elementsAt, po
 use Rattle.meaning.specs.Ready.{live, intentAt, runningRows, ready, after}
 use Rattle.meaning.specs.Rows.{leading, declarations, root, nodeAt, lastRows, atRow}
 use Rattle.meaning.specs.Run.{outcomeAtRest, chosenStep, goFrom, go, run}
-use Rattle.meaning.specs.Settle.{settle, settleRunning, settleMembers}
-use Rattle.meaning.specs.State.{program, processAt, whole, start, settled}
+use Rattle.meaning.specs.Settle.{settle, settleRunning, settleMembers, start, settled}
+use Rattle.meaning.specs.State.{program, processAt, whole}
 use Rattle.meaning.specs.Tree.{parts, partAt, partFrom}
 use Rattle.meaning.specs.Usage.{range, countsFor, standsIn, cellClash, inputClash, outputClash, comparisons, clashes, firstClash, usageFault, gather, gatherAll}
 use Rattle.meaning.specs.Values.{fitted, wrapped, quotient, remainder, operators, operate, monadicOf, decides, dyadicOf, inArray, value, index}

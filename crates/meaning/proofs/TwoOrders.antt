@@ -5,7 +5,8 @@ use mathlib.Core.List.{List, [], _∷_}
 use lib.IntN.{ℤ, pos, negsuc}
 use Rattle.meaning.specs.declared.Outcome.the-variants.{Ended}
 use Rattle.meaning.specs.Usage.{usageFault}
-use Rattle.meaning.specs.State.{program, start}
+use Rattle.meaning.specs.State.{program}
+use Rattle.meaning.specs.Settle.{start}
 use Rattle.meaning.specs.Ready.{own, ready, after}
 use Rattle.meaning.specs.Run.{Result, run}
 use Rattle.meaning.proofs.Computes.{computes}

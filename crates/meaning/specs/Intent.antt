@@ -1,7 +1,7 @@
 -- What a running row would do: the values that it needs, in order, and what it does with them.
 use mathlib.Core.Option.{Option, none, some}
 use mathlib.Core.List.{List, [], _∷_, _++_}
-use Prim.Native.Nat.{ℕ, zero, suc, _+_}
+use Prim.Native.Nat.{ℕ, suc, _+_}
 use lib.ListN.{length, getD}
 use lib.Dec.{ltb}
 use Rattle.meaning.specs.declared.Value.{Value}
@@ -13,16 +13,7 @@ use Rattle.meaning.specs.Declarations.{Channel}
 use Rattle.meaning.specs.Tree.{Receive, IfChoice, AltOption, Action, stop, skip, sequence, parallel, assign, receive, send, conditional, loop, alternation}
 use Rattle.meaning.specs.Values.{isTrue, value, index}
 use Rattle.meaning.specs.State.{Message, Store, Write, writeCell, writePlace, writeOutput}
-
--- the readings: for each role 1 channel the values of the lines, none where a reading is absent
-abbrev pub Sheet : Type 0
-Sheet = List (List Message)
-
--- the entry at a place, if there is one
-abbrev pub entry : {A : Type 0} → List A → ℕ → Option A
-entry [] n = none
-entry (x ∷ l) zero = some x
-entry (x ∷ l) (suc n) = entry l n
+pub use Rattle.meaning.specs.Readings.{Sheet, entry}
 
 -- what an option of an ALT offers: its row, and the row of its process; with what it writes, or on which element into which cell
 pub data Offer : Type 0 where

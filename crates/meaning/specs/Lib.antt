@@ -16,9 +16,15 @@ pub mod Tree
 pub mod Usage
 -- Values
 pub mod Values
--- Steps: settling, states, what a row would do, ready steps, runs
-pub mod Settle
+-- Steps as rules: states, what a step is called, readings, settling, steps, orders
 pub mod State
+pub mod Labels
+pub mod Readings
+pub mod SettlingRules
+pub mod Step
+pub mod Order
+-- Steps as the machine takes them: settling as a walk, what a row would do, ready steps, runs
+pub mod Settle
 pub mod Intent
 pub mod Ready
 pub mod Run
@@ -34,7 +40,4 @@ pub mod Marked
 pub mod PrintedForms
 pub mod Faults
 pub mod Clash
-pub mod SettlingRules
-pub mod Step
-pub mod Order
 pub mod Accepted

@@ -7,23 +7,10 @@ use lib.ListN.{length, getD}
 use lib.Dec.{eqb}
 use Rattle.meaning.specs.Rows.{ifElse}
 use Rattle.meaning.specs.Tree.{actionOf, membersIn, rowsBeneath}
-use Rattle.meaning.specs.State.{Message, State, Program, processAt, writeCell, Effect, settled}
+use Rattle.meaning.specs.State.{Message, State, Program, processAt, writeCell, Effect}
+pub use Rattle.meaning.specs.Labels.{Label, own, pass, take, takeFrom, label-discrete, orderRow}
+use Rattle.meaning.specs.Settle.{settled}
 use Rattle.meaning.specs.Intent.{Sheet, Offer, openOffer, inputOffer, Intent, waits, moves, inputsFrom, outputsTo, selects, intent}
-
--- a step: of a row by itself; of an input and an output; of an ALT and its option, without and with an output
-pub data Label : Type 0 where
-  own : ℕ → Label
-  pass : ℕ → ℕ → Label
-  take : ℕ → ℕ → Label
-  takeFrom : ℕ → ℕ → ℕ → Label
-  deriving Discrete as label-discrete
-
--- "Ready steps are ordered by row": the row itself; the input of a communication; the option for an ALT
-abbrev pub orderRow : Label → ℕ
-orderRow (own r) = r
-orderRow (pass i o) = i
-orderRow (take r j) = j
-orderRow (takeFrom r j o) = j
 
 -- are all these rows idle
 abbrev pub allIdle : List ℕ → List ℕ → Bool

@@ -1,35 +1,21 @@
 -- Runs: at each step the choice picks one of the ready steps, up to rest or the budget.
-use mathlib.Core.Bool.{Bool}
 use mathlib.Core.List.{List, [], _∷_}
-use Prim.Native.Nat.{ℕ, zero, suc, _%_}
+use Prim.Native.Nat.{ℕ, zero, suc}
 use lib.IntN.{ℤ}
-use lib.ListN.{length, getD, drop}
-use lib.Dec.{leb, eqb}
+use lib.ListN.{drop}
 use Rattle.meaning.specs.declared.Outcome.{Outcome}
-use Rattle.meaning.specs.declared.Outcome.the-variants.{Ended, Stuck, Broken, Spent}
-use Rattle.meaning.specs.Rows.{ifElse}
-use Rattle.meaning.specs.Settle.{anyOf}
-use Rattle.meaning.specs.State.{State, Program, program, start}
+use Rattle.meaning.specs.declared.Outcome.the-variants.{Spent}
+use Rattle.meaning.specs.State.{State, Program, program}
+use Rattle.meaning.specs.Settle.{start}
 use Rattle.meaning.specs.Intent.{Sheet}
 use Rattle.meaning.specs.Ready.{Label, ready, after}
+unfoldable pub use Rattle.meaning.specs.Order.{isStopped, outcomeAtRest, chosenStep}
 
 -- the outcome, the length of the order taken, and the state that it leaves
 pub record Result : Type 0 where
   pub outcome : Outcome
   pub steps : ℕ
   pub state : State
-
--- stopped: 10 plus the reason
-abbrev pub isStopped : ℕ → Bool
-isStopped n = leb 10 n
-
--- at rest: "ended if the root has ended, broken if a row is stopped, else stuck"
-unfoldable pub outcomeAtRest : Program → State → Outcome
-outcomeAtRest P s = ifElse (eqb (getD (s .states) (P .root) 0) 2) Ended (ifElse (anyOf isStopped (s .states)) Broken Stuck)
-
--- "The choice for a step is divided by the number of ready steps, and the remainder picks, from 0. When the list is used up, 0 is meant"
-unfoldable pub chosenStep : List ℕ → Label → List Label → Label
-chosenStep choices x l = getD (x ∷ l) (getD choices 0 0 % length (x ∷ l)) x
 
 module _ (P : Program) (sheet : Sheet) where
   -- on from a state after n steps, with these steps ready; each step uses one choice

@@ -1,14 +1,14 @@
--- Settling: row states are one list, by row. 0 idle, 1 running, 2 ended, 10 plus the reason stopped.
-use mathlib.Core.Bool.{Bool, true, false, _&&_, _||_}
-use mathlib.Core.List.{List, [], _∷_}
+-- Settling as one walk over the process; the start of a run, and the state after a step, by that walk.
+use mathlib.Core.Bool.{Bool, true, false, _&&_}
+use mathlib.Core.Option.{none}
+use mathlib.Core.List.{List, [], _∷_, map}
 use Prim.Native.Nat.{ℕ, zero, suc}
-use lib.ListN.{getD, set}
+use lib.ListN.{set, replicate}
 use Rattle.meaning.specs.Tree.{Action, stop, skip, sequence, parallel, assign, receive, send, conditional, loop, alternation, Process, node, Members, empty, also, rowOf, rowsBeneath}
+use Rattle.meaning.specs.State.{State, Program, whole, changeStates, writeAll, Effect}
+pub use Rattle.meaning.specs.State.{stateOf, makeIdle, anyOf}
 
--- the state of a process, and of each member
-abbrev pub stateOf : List ℕ → Process → ℕ
-stateOf s p = getD s (rowOf p) 0
-
+-- the state of each member
 abbrev pub statesOf : Members → List ℕ → List ℕ
 statesOf empty s = []
 statesOf (also p ms) s = stateOf s p ∷ statesOf ms s
@@ -61,22 +61,13 @@ abbrev pub allOf : (ℕ → Bool) → List ℕ → Bool
 allOf f [] = true
 allOf f (x ∷ l) = f x && allOf f l
 
-abbrev pub anyOf : (ℕ → Bool) → List ℕ → Bool
-anyOf f [] = false
-anyOf f (x ∷ l) = f x || anyOf f l
-
 -- do members in these states close their process: "when all members have ended"; of an IF, ALT or WHILE, when the one that was started has
 abbrev pub complete : Mode → List ℕ → Bool
 complete inTurn l = allOf isEnded l
 complete together l = allOf isEnded l
 complete byStep l = allOf isIdleOrEnded l && anyOf isEnded l
 
--- "every row beneath the WHILE becomes idle"
-abbrev pub makeIdle : List ℕ → List ℕ → List ℕ
-makeIdle [] s = s
-makeIdle (r ∷ rs) s = makeIdle rs (set s r 0)
-
--- does closing end the process; if not, it sets all beneath it to idle
+-- does closing end the process; if not, "every row beneath the WHILE becomes idle"
 abbrev pub endsWhenClosed : Action → Bool
 endsWhenClosed stop = true
 endsWhenClosed skip = true
@@ -113,3 +104,15 @@ unfoldable mutual
 -- a process that may be started is started if it is idle; a running one settles
 unfoldable pub settle : Process → Bool → List ℕ → List ℕ
 settle p b s = visit (stateOf s p) b (rowOf p) (settleRunning p) s
+
+-- "from all process rows idle the root has started and settled"; all cells unset, nothing read or written
+unfoldable pub start : Program → State
+start P =
+    record {
+      states = settle (whole P) true (map (λ (p : Process). 0) (P .processes));
+      store = record { cells = replicate (P .cells) none; places = replicate (P .inputs) 0; outputs = replicate (P .outputs) [] };
+    }
+
+-- "after settling": the changes are made, then the whole process settles
+unfoldable pub settled : Program → Effect → State → State
+settled P e s = record { states = settle (whole P) false (changeStates (e .changes) (s .states)); store = writeAll (e .writes) (s .store) }

@@ -4,7 +4,7 @@ use mathlib.Core.List.{List}
 use Prim.Native.Nat.{ℕ}
 use lib.ListN.{getD, set}
 use Rattle.meaning.specs.Tree.{Expr, IfChoice, AltOption, Action, skip, sequence, parallel, conditional, loop, alternation, Process, node, Members, empty, also, rowOf, rowsBeneath}
-use Rattle.meaning.specs.Settle.{stateOf, makeIdle}
+use Rattle.meaning.specs.State.{stateOf, makeIdle}
 
 -- a process is one of the members
 pub data Among (q : Process) : Members → Type 0 where
@@ -52,3 +52,12 @@ module _ (whole : Process) where
   pub data Settling : List ℕ → List ℕ → Type 0 where
     rest : {s : List ℕ} → Settling s s
     then : {s t u : List ℕ} → Settles s t → Settling t u → Settling s u
+
+  -- no rule applies
+  abbrev pub Final : List ℕ → Type 0
+  Final s = (t : List ℕ) → ¬ Settles s t
+
+  -- "after settling": where the rules lead, and none applies
+  pub record SettlesTo (s t : List ℕ) : Type 0 where
+    pub by-rules : Settling s t
+    pub final : Final t

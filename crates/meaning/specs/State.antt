@@ -1,14 +1,13 @@
--- The state of a run: cells, places in the readings and output lists (data), and row states. What a step stores.
-use mathlib.Core.Bool.{true, false}
+-- The state of a run: cells, places in the readings and output lists (data), and row states. What a step changes.
+use mathlib.Core.Bool.{Bool, false, _||_}
 use mathlib.Core.Option.{Option, none}
 use mathlib.Core.List.{List, [], _∷_, map}
 use Prim.Native.Nat.{ℕ}
 use lib.IntN.{ℤ}
-use lib.ListN.{getD, set, replicate}
+use lib.ListN.{getD, set}
 use Rattle.meaning.specs.Rows.{root}
 use Rattle.meaning.specs.Declarations.{totalCells, totalPorts}
-use Rattle.meaning.specs.Tree.{Process, Part, parts, orStop}
-use Rattle.meaning.specs.Settle.{settle}
+use Rattle.meaning.specs.Tree.{Process, Part, parts, orStop, rowOf}
 
 -- what a cell, a reading and a channel's message is: a number, or none ("A missing sample must stay missing")
 abbrev pub Message : Type 0
@@ -20,10 +19,24 @@ pub record Store : Type 0 where
   pub places : List ℕ
   pub outputs : List (List Message)
 
--- the row states, by row, beside the data
+-- the row states, by row: "idle (0), running (1), ended (2) or stopped (10 plus the reason)"; beside them the data
 pub record State : Type 0 where
   pub states : List ℕ
   pub store : Store
+
+-- the state of a process
+abbrev pub stateOf : List ℕ → Process → ℕ
+stateOf s p = getD s (rowOf p) 0
+
+-- these rows become idle
+abbrev pub makeIdle : List ℕ → List ℕ → List ℕ
+makeIdle [] s = s
+makeIdle (r ∷ rs) s = makeIdle rs (set s r 0)
+
+-- whether some row state passes a test
+abbrev pub anyOf : (ℕ → Bool) → List ℕ → Bool
+anyOf f [] = false
+anyOf f (x ∷ l) = f x || anyOf f l
 
 -- what a run needs of a table: the process at each row (STOP where there is none), the root's row, and the sizes of a state
 pub record Program : Type 0 where
@@ -51,14 +64,6 @@ module _ (P : Program) where
   -- the whole process
   unfoldable pub whole : Process
   whole = processAt (P .root)
-
-  -- "from all process rows idle the root has started and settled"; all cells unset, nothing read or written
-  unfoldable pub start : State
-  start =
-      record {
-        states = settle whole true (map (λ (p : Process). 0) (P .processes));
-        store = record { cells = replicate (P .cells) none; places = replicate (P .inputs) 0; outputs = replicate (P .outputs) [] };
-      }
 
 -- a change of one cell, one place, one output list
 pub data Write : Type 0 where
@@ -92,7 +97,3 @@ changeStates (m ∷ l) s = changeStates l (changeState m s)
 pub record Effect : Type 0 where
   pub changes : List StateChange
   pub writes : List Write
-
--- "after settling": the changes are made, then the whole process settles
-unfoldable pub settled : Program → Effect → State → State
-settled P e s = record { states = settle (whole P) false (changeStates (e .changes) (s .states)); store = writeAll (e .writes) (s .store) }

@@ -1,4 +1,4 @@
--- Steps as rules, one for each line of the paper's list. They name no list of ready steps and no order.
+-- Steps as rules, one for each line of the paper's list, and the state after settling. They name no list of ready steps, no order and no walk.
 use mathlib.Core.Path.{_≡_}
 use mathlib.Core.Bool.{true, false}
 use mathlib.Core.Option.{Option, none, some}
@@ -12,9 +12,10 @@ use Rattle.meaning.specs.declared.Index.the-variants.{At, Fails}
 use Rattle.meaning.specs.Declarations.{Variable, Channel}
 use Rattle.meaning.specs.Tree.{Expr, Receive, IfChoice, AltOption, Action, assign, receive, send, conditional, loop, alternation, node, Members, rowsBeneath}
 use Rattle.meaning.specs.Values.{isTrue, value, index}
-use Rattle.meaning.specs.State.{Message, Store, State, Program, processAt, Write, writeCell, writePlace, writeOutput, StateChange, Effect, settled}
-use Rattle.meaning.specs.Intent.{Sheet, entry}
-use Rattle.meaning.specs.Ready.{Label, own, pass, take, takeFrom}
+use Rattle.meaning.specs.State.{Message, Store, State, Program, processAt, whole, Write, writeCell, writePlace, writeOutput, StateChange, changeStates, writeAll, Effect}
+use Rattle.meaning.specs.Labels.{Label, own, pass, take, takeFrom}
+use Rattle.meaning.specs.Readings.{Sheet, entry}
+use Rattle.meaning.specs.SettlingRules.{SettlesTo}
 
 -- the subscripts of an input, and of an output or assignment, and an expression's truth, in a store of cells
 abbrev pub channelOf : List (Option ℤ) → Receive → Index
@@ -100,46 +101,57 @@ abbrev pub effect : List StateChange → List Write → Effect
 effect ms ws = record { changes = ms; writes = ws }
 
 module _ (P : Program) (sheet : Sheet) where
-  -- a step from a state to the next, after settling
-  pub data Step (s : State) : Label → State → Type 0 where
+  -- "One step is one of these, in a running row": a rule allows the step of a label, which has this effect
+  pub data Allows (s : State) : Label → Effect → Type 0 where
     -- an assignment; subscript before expression
     assignment : {r a : ℕ} {v : Variable} {e f : Expr} {z : ℤ} → Live P s r (assign v e f)
         → index (s .store .cells) (v .first) (v .size) e ≡ At a → value (s .store .cells) f ≡ Number z
-        → Step s (own r) (settled P (effect (becomes r r 2 ∷ []) (writeCell a (some z) ∷ [])) s)
+        → Allows s (own r) (effect (becomes r r 2 ∷ []) (writeCell a (some z) ∷ []))
     -- a WHILE test: false ends it
     while-false : {r b : ℕ} {e : Expr} → Live P s r (loop e b) → Refuted (s .store .cells) e
-        → Step s (own r) (settled P (effect (becomes r r 2 ∷ []) []) s)
+        → Allows s (own r) (effect (becomes r r 2 ∷ []) [])
     -- otherwise its body starts
     while-true : {r b : ℕ} {e : Expr} → Live P s r (loop e b) → Holds (s .store .cells) e
-        → Step s (own r) (settled P (effect (becomes r b 1 ∷ []) []) s)
+        → Allows s (own r) (effect (becomes r b 1 ∷ []) [])
     -- an IF starting its first true choice
     if-true : {r q : ℕ} {ts : List IfChoice} → Live P s r (conditional ts) → FirstTrue (s .store .cells) ts q
-        → Step s (own r) (settled P (effect (becomes r q 1 ∷ []) []) s)
+        → Allows s (own r) (effect (becomes r q 1 ∷ []) [])
     -- an input and an output on the same channel element: the value passes, both end
     communication : {r o d a : ℕ} {i : Receive} {c : Channel} {e f : Expr} {m : Message} → Live P s r (receive i) → Live P s o (send c e f)
         → Inner (s .store) i d a → Sends (s .store) c e f d m
-        → Step s (pass r o) (settled P (effect (becomes r r 2 ∷ becomes o o 2 ∷ []) (writeCell a m ∷ [])) s)
+        → Allows s (pass r o) (effect (becomes r r 2 ∷ becomes o o 2 ∷ []) (writeCell a m ∷ []))
     -- a host read, if values are left
     host-read : {r a n : ℕ} {i : Receive} {v : Message} → Live P s r (receive i) → Host sheet (s .store) i a v n
-        → Step s (own r) (settled P (effect (becomes r r 2 ∷ []) (writeCell a v ∷ writePlace (i .channel .port) (suc n) ∷ [])) s)
+        → Allows s (own r) (effect (becomes r r 2 ∷ []) (writeCell a v ∷ writePlace (i .channel .port) (suc n) ∷ []))
     -- a host write, if capacity is left
     host-write : {r d : ℕ} {c : Channel} {e f : Expr} {z : ℤ} {l : List Message} → Live P s r (send c e f) → c .host ≡ true
         → index (s .store .cells) (c .first) (c .size) e ≡ At d → value (s .store .cells) f ≡ Number z
         → getD (s .store .outputs) (c .port) [] ≡ l → length l < c .capacity
-        → Step s (own r) (settled P (effect (becomes r r 2 ∷ []) (writeOutput (c .port) (l ++ (some z ∷ [])) ∷ [])) s)
+        → Allows s (own r) (effect (becomes r r 2 ∷ []) (writeOutput (c .port) (l ++ (some z ∷ [])) ∷ []))
     -- an ALT taking an option whose boolean is true and whose guard is SKIP
     alt-skip : {r : ℕ} {bs : List AltOption} {b : AltOption} → Live P s r (alternation bs) → AllComplete (s .store .cells) bs → List·Memᴰ b bs
         → Holds (s .store .cells) (b .guard .boolean) → b .guard .input ≡ none
-        → Step s (take r (b .row)) (settled P (effect (becomes r (b .process) 1 ∷ []) []) s)
+        → Allows s (take r (b .row)) (effect (becomes r (b .process) 1 ∷ []) [])
     -- or whose input could now take place, from the host
     alt-read : {r a n : ℕ} {bs : List AltOption} {b : AltOption} {i : Receive} {v : Message} → Live P s r (alternation bs) → AllComplete (s .store .cells) bs → List·Memᴰ b bs
         → Holds (s .store .cells) (b .guard .boolean) → b .guard .input ≡ some i → Host sheet (s .store) i a v n
-        → Step s (take r (b .row)) (settled P (effect (becomes r (b .process) 1 ∷ []) (writeCell a v ∷ writePlace (i .channel .port) (suc n) ∷ [])) s)
+        → Allows s (take r (b .row)) (effect (becomes r (b .process) 1 ∷ []) (writeCell a v ∷ writePlace (i .channel .port) (suc n) ∷ []))
     -- or from an output
     alt-communication : {r o d a : ℕ} {bs : List AltOption} {b : AltOption} {i : Receive} {c : Channel} {e f : Expr} {m : Message}
         → Live P s r (alternation bs) → AllComplete (s .store .cells) bs → List·Memᴰ b bs → Live P s o (send c e f)
         → Holds (s .store .cells) (b .guard .boolean) → b .guard .input ≡ some i → Inner (s .store) i d a → Sends (s .store) c e f d m
-        → Step s (takeFrom r (b .row) o) (settled P (effect (becomes r (b .process) 1 ∷ becomes o o 2 ∷ []) (writeCell a m ∷ [])) s)
+        → Allows s (takeFrom r (b .row) o) (effect (becomes r (b .process) 1 ∷ becomes o o 2 ∷ []) (writeCell a m ∷ []))
     -- a stop
     stopping : {r k : ℕ} {a : Action} → Live P s r a → Lacks (s .store .cells) a k
-        → Step s (own r) (settled P (effect (becomes r r (10 + k) ∷ []) []) s)
+        → Allows s (own r) (effect (becomes r r (10 + k) ∷ []) [])
+
+-- "after settling": the effect's changes are made, and then the row states settle; nothing else changes
+pub record Leaves (P : Program) (s : State) (e : Effect) (t : State) : Type 0 where
+  pub settles : SettlesTo (whole P) (changeStates (e .changes) (s .states)) (t .states)
+  pub stores : t .store ≡ writeAll (e .writes) (s .store)
+
+-- a step from a state to the next: some rule allows it, and its effect leaves that state
+pub record Step (P : Program) (sheet : Sheet) (s : State) (x : Label) (t : State) : Type 0 where
+  pub does : Effect
+  pub allowed : Allows P sheet s x does
+  pub leaves : Leaves P s does t

@@ -9,11 +9,11 @@ use lib.IntN.{ℤ}
 use lib.ListN.{length, getD, set, length-append}
 use Rattle.meaning.specs.Declarations.{Channel, totalPorts}
 use Rattle.meaning.specs.Tree.{Expr, Process, actionOf, send}
-use Rattle.meaning.specs.State.{Message, State, program, start, settled}
+use Rattle.meaning.specs.State.{Message, Store, State, program, writeAll, Effect}
 use Rattle.meaning.specs.Intent.{Sheet}
 use Rattle.meaning.specs.Ready.{Label}
-use Rattle.meaning.specs.Step.{Live, live, Step, assignment, while-false, while-true, if-true, communication, host-read, host-write, alt-skip, alt-read, alt-communication, stopping}
-use Rattle.meaning.specs.Order.{Order, halt, then, OrderOf}
+use Rattle.meaning.specs.Step.{Live, live, Allows, Step, assignment, while-false, while-true, if-true, communication, host-read, host-write, alt-skip, alt-read, alt-communication, stopping}
+use Rattle.meaning.specs.Order.{Begins, Order, halt, then, OrderOf}
 use Rattle.meaning.specs.Buffers.{capacities}
 use Rattle.meaning.specs.Answers.{check}
 use Rattle.meaning.specs.PrintedForms.{each-none, each-more}
@@ -38,19 +38,19 @@ within (k ∷ ks) [] e h = absurd (omega (arith, e))
 within (k ∷ ks) (xs ∷ xss) e h = within-more (h 0 .0) (h 0 .1) (within ks xss (omega (arith, e)) (λ p. h (suc p)))
 
 module _ (rows : List ℤ) where
-  -- every output list of a state
-  abbrev ListsFit : State → Type 0
-  ListsFit s = (p : ℕ) → Fits (getD (capacities rows) p 0) (getD (s .store .outputs) p [])
+  -- every output list of a store
+  abbrev ListsFit : Store → Type 0
+  ListsFit x = (p : ℕ) → Fits (getD (capacities rows) p 0) (getD (x .outputs) p [])
 
-  start-fits : ListsFit (start (program rows))
-  unfolding start program
-  start-fits p = rw (all-the-same {A = List Message} (totalPorts 2 rows) p []) (omega arith, each-none)
+  begins-fits : (s : State) → Begins (program rows) s → ListsFit (s .store)
+  unfolding program
+  begins-fits s b p = rw (b .unwritten, all-the-same {A = List Message} (totalPorts 2 rows) p []) (omega arith, each-none)
 
   sink-in : (s : State) (r : ℕ) (c : Channel) (e f : Expr) → Live (program rows) s r (send c e f) → SinkIn rows c
   sink-in s r c e f (live p z i) = subst (λ (q : Process). ActionIn rows (actionOf q)) p (names-in rows r)
 
   -- a host write appends a number where capacity is left
-  write-fits : (s : State) → ListsFit s → (c : Channel) → SinkIn rows c → c .host ≡ true → (l : List Message) (z : ℤ) → getD (s .store .outputs) (c .port) [] ≡ l → length l < c .capacity
+  write-fits : (s : State) → ListsFit (s .store) → (c : Channel) → SinkIn rows c → c .host ≡ true → (l : List Message) (z : ℤ) → getD (s .store .outputs) (c .port) [] ≡ l → length l < c .capacity
       → (p : ℕ) → Fits (getD (capacities rows) p 0) (getD (set (s .store .outputs) (c .port) (l ++ (some z ∷ []))) p [])
   write-fits s h c k i l z e m p =
       set-keeps (Fits (getD (capacities rows) p 0)) [] (s .store .outputs) (c .port) (l ++ (some z ∷ [])) p (h p)
@@ -60,21 +60,23 @@ module _ (rows : List ℤ) where
       ))
 
   module _ (sheet : Sheet) where
-    step-fits : (s : State) (x : Label) (t : State) → Step (program rows) sheet s x t → ListsFit s → ListsFit t
-    unfolding settled
-    step-fits s x t (assignment g p q) h = h
-    step-fits s x t (while-false g k) h = h
-    step-fits s x t (while-true g k) h = h
-    step-fits s x t (if-true g k) h = h
-    step-fits s x t (communication g k i w) h = h
-    step-fits s x t (host-read g k) h = h
-    step-fits s x t (host-write {r} {c} {e} {f} {z} {l} g k p q o m) h = write-fits s h c (sink-in s r c e f g) k l z o m
-    step-fits s x t (alt-skip g c m k q) h = h
-    step-fits s x t (alt-read g c m k q i) h = h
-    step-fits s x t (alt-communication g c m k i q w y) h = h
-    step-fits s x t (stopping g k) h = h
+    effect-fits : (s : State) (x : Label) (e : Effect) → Allows (program rows) sheet s x e → ListsFit (s .store) → ListsFit (writeAll (e .writes) (s .store))
+    effect-fits s x t (assignment g p q) h = h
+    effect-fits s x t (while-false g k) h = h
+    effect-fits s x t (while-true g k) h = h
+    effect-fits s x t (if-true g k) h = h
+    effect-fits s x t (communication g k i w) h = h
+    effect-fits s x t (host-read g k) h = h
+    effect-fits s x t (host-write {r} {c} {e} {f} {z} {l} g k p q o m) h = write-fits s h c (sink-in s r c e f g) k l z o m
+    effect-fits s x t (alt-skip g c m k q) h = h
+    effect-fits s x t (alt-read g c m k q i) h = h
+    effect-fits s x t (alt-communication g c m k i q w y) h = h
+    effect-fits s x t (stopping g k) h = h
 
-    order-fits : {s t : State} {l : List Label} → Order (program rows) sheet s l t → ListsFit s → ListsFit t
+    step-fits : (s : State) (x : Label) (t : State) → Step (program rows) sheet s x t → ListsFit (s .store) → ListsFit (t .store)
+    step-fits s x t k h = subst ListsFit (sym (k .leaves .stores)) (effect-fits s x (k .does) (k .allowed) h)
+
+    order-fits : {s t : State} {l : List Label} → Order (program rows) sheet s l t → ListsFit (s .store) → ListsFit (t .store)
     order-fits halt h = h
     order-fits (then {s} {t} {x} k o) h = order-fits o (step-fits s x t k h)
 
@@ -90,9 +92,9 @@ order-held rows ok sheet l s o =
       cells-all = n .cells;
       ports-few = k .outputs;
       capacity-few = subst (λ (m : ℕ). m ≤ 1024) (capacities-sum rows) (k .numbers);
-      outputs-within = within (capacities rows) (s .store .outputs) (n .outputs ∙ sym (capacities-length rows)) (order-fits rows sheet o (start-fits rows));
+      outputs-within = within (capacities rows) (s .store .outputs) (n .outputs ∙ sym (capacities-length rows)) (order-fits rows sheet (o .order) (begins-fits rows (o .beginning) (o .begins)));
     }
 
 -- and so the state that a run leaves
 pub run-held : (rows : List ℤ) → check rows ≡ none → (sheet : Sheet) (choices : List ℕ) (budget : ℕ) → Held rows (run rows sheet choices budget .state)
-run-held rows ok sheet choices budget = let q = run-takes-order rows sheet choices budget in order-held rows ok sheet (q .0) (run rows sheet choices budget .state) (q .1)
+run-held rows ok sheet choices budget = let q = run-takes-order rows ok sheet choices budget in order-held rows ok sheet (q .0) (run rows sheet choices budget .state) (q .1)

@@ -1,5 +1,5 @@
 -- Every number of a state has 32 signed bits, if the table's numbers and the readings have: results of operators fit or wrap. It holds of every order.
-use mathlib.Core.Path.{_≡_, refl, subst}
+use mathlib.Core.Path.{_≡_, refl, sym, subst}
 use mathlib.Core.Logic.{inl, inr}
 use mathlib.Core.Bool.{Bool, true, false, not, _&&_, _||_}
 use mathlib.Core.Option.{Option, none, some}
@@ -21,11 +21,11 @@ use Rattle.meaning.specs.Rows.{kindAt, nodeAt}
 use Rattle.meaning.specs.Declarations.{totalCells, totalPorts}
 use Rattle.meaning.specs.Tree.{Expr, literal, element, monadic, dyadic, noExpr, Action, stop, skip, sequence, parallel, assign, receive, send, conditional, loop, alternation, Process, Part, partOf, partAt, orStop, actionOf}
 use Rattle.meaning.specs.Values.{fitted, turned, wrapped, isTrue, truth, quotient, remainder, operators, operate, monadicOf, decides, whenNumber, dyadicOf, inArray, cellValue, readCell, value}
-use Rattle.meaning.specs.State.{Message, State, program, start, settled}
+use Rattle.meaning.specs.State.{Message, Store, State, program, writeAll, Effect}
 use Rattle.meaning.specs.Intent.{Sheet, entry}
 use Rattle.meaning.specs.Ready.{Label}
-use Rattle.meaning.specs.Step.{Live, live, host, sends, Step, assignment, while-false, while-true, if-true, communication, host-read, host-write, alt-skip, alt-read, alt-communication, stopping}
-use Rattle.meaning.specs.Order.{Order, halt, then, OrderOf}
+use Rattle.meaning.specs.Step.{Live, live, host, sends, Allows, Step, assignment, while-false, while-true, if-true, communication, host-read, host-write, alt-skip, alt-read, alt-communication, stopping}
+use Rattle.meaning.specs.Order.{Begins, Order, halt, then, OrderOf}
 use Rattle.meaning.specs.PrintedForms.{Each, each-none, each-more, In32, IsReading}
 use Rattle.agreement.proofs.KnownStates.{set-keeps}
 use Rattle.agreement.proofs.TableTree.{above, process-is, Known, every-row}
@@ -248,44 +248,50 @@ module _ (rows : List ℤ) (numbers : Each In32 rows) where
   number-in s h e k z q = subst ValueIn q (value-in (s .store .cells) h e k)
 
   -- every cell, and every number of an output list
-  pub record StateIn (s : State) : Type 0 where
-    pub cells : CellsIn (s .store .cells)
-    pub outputs : (p : ℕ) → Each IsReading (getD (s .store .outputs) p [])
+  pub record StoreIn (x : Store) : Type 0 where
+    pub cells : CellsIn (x .cells)
+    pub outputs : (p : ℕ) → Each IsReading (getD (x .outputs) p [])
 
-  start-in : StateIn (start (program rows))
-  unfolding start program
-  start-in = record { cells = λ i. rw (all-the-same {A = Message} (totalCells rows) i none) tt; outputs = λ p. rw (all-the-same {A = List Message} (totalPorts 2 rows) p []) each-none }
+  begins-in : (s : State) → Begins (program rows) s → StoreIn (s .store)
+  unfolding program
+  begins-in s b =
+      record {
+        cells = λ i. rw (b .unset, all-the-same {A = Message} (totalCells rows) i none) tt;
+        outputs = λ p. rw (b .unwritten, all-the-same {A = List Message} (totalPorts 2 rows) p []) each-none;
+      }
 
   -- a cell is written
-  cell-written : (s t : State) → StateIn s → (a : ℕ) (m : Message) → IsReading m → t .store .cells ≡ set (s .store .cells) a m → t .store .outputs ≡ s .store .outputs → StateIn t
-  cell-written s t h a m k e f =
+  cell-written : (x y : Store) → StoreIn x → (a : ℕ) (m : Message) → IsReading m → y .cells ≡ set (x .cells) a m → y .outputs ≡ x .outputs → StoreIn y
+  cell-written x y h a m k e f =
       record {
-        cells = λ i. rw e (set-keeps IsReading none (s .store .cells) a m i (h .cells i) (λ q. k));
+        cells = λ i. rw e (set-keeps IsReading none (x .cells) a m i (h .cells i) (λ q. k));
         outputs = λ p. rw f (h .outputs p);
       }
 
   module _ (sheet : Sheet) (readings : (p n : ℕ) (m : Message) → entry (getD sheet p []) n ≡ some m → IsReading m) where
-    step-in : (s : State) (x : Label) (t : State) → Step (program rows) sheet s x t → StateIn s → StateIn t
-    unfolding settled
-    step-in s x t (assignment {r} {a} {v} {e} {f} {z} g p q) h = cell-written s t h a (some z) (number-in s (h .cells) f (action-in s r (assign v e f) g) z q) refl refl
-    step-in s x t (while-false g k) h = record { cells = h .cells; outputs = h .outputs }
-    step-in s x t (while-true g k) h = record { cells = h .cells; outputs = h .outputs }
-    step-in s x t (if-true g k) h = record { cells = h .cells; outputs = h .outputs }
-    step-in s x t (communication {o} {a} {c} {e} {f} g k i (sends {v} b d q)) h = cell-written s t h a (some v) (number-in s (h .cells) f (action-in s o (send c e f) k) v q) refl refl
-    step-in s x t (host-read {a} {n} {i} {v} g (host b c d e f)) h = cell-written s t h a v (readings (i .channel .port) n v f) refl refl
-    step-in s x t (host-write {r} {c} {e} {f} {z} {l} g k p q o m) h =
+    effect-in : (s : State) (x : Label) (d : Effect) → Allows (program rows) sheet s x d → StoreIn (s .store) → StoreIn (writeAll (d .writes) (s .store))
+    effect-in s x t (assignment {r} {a} {v} {e} {f} {z} g p q) h = cell-written (s .store) (writeAll (t .writes) (s .store)) h a (some z) (number-in s (h .cells) f (action-in s r (assign v e f) g) z q) refl refl
+    effect-in s x t (while-false g k) h = h
+    effect-in s x t (while-true g k) h = h
+    effect-in s x t (if-true g k) h = h
+    effect-in s x t (communication {o} {a} {c} {e} {f} g k i (sends {v} b d q)) h = cell-written (s .store) (writeAll (t .writes) (s .store)) h a (some v) (number-in s (h .cells) f (action-in s o (send c e f) k) v q) refl refl
+    effect-in s x t (host-read {a} {n} {i} {v} g (host b c d e f)) h = cell-written (s .store) (writeAll (t .writes) (s .store)) h a v (readings (i .channel .port) n v f) refl refl
+    effect-in s x t (host-write {r} {c} {e} {f} {z} {l} g k p q o m) h =
         record {
           cells = h .cells;
           outputs = λ y. set-keeps (Each IsReading) [] (s .store .outputs) (c .port) (l ++ (some z ∷ [])) y (h .outputs y) (λ i. each-both (subst (Each IsReading) o (h .outputs (c .port))) (each-more (number-in s (h .cells) f (action-in s r (send c e f) g) z q) each-none));
         }
-    step-in s x t (alt-skip g c m k q) h = record { cells = h .cells; outputs = h .outputs }
-    step-in s x t (alt-read {a} {n} {i} {v} g c m k q (host b d e f j)) h = cell-written s t h a v (readings (i .channel .port) n v j) refl refl
-    step-in s x t (alt-communication {o} {a} {c} {e} {f} g y m k i q w (sends {v} b d j)) h = cell-written s t h a (some v) (number-in s (h .cells) f (action-in s o (send c e f) k) v j) refl refl
-    step-in s x t (stopping g k) h = record { cells = h .cells; outputs = h .outputs }
+    effect-in s x t (alt-skip g c m k q) h = h
+    effect-in s x t (alt-read {a} {n} {i} {v} g c m k q (host b d e f j)) h = cell-written (s .store) (writeAll (t .writes) (s .store)) h a v (readings (i .channel .port) n v j) refl refl
+    effect-in s x t (alt-communication {o} {a} {c} {e} {f} g y m k i q w (sends {v} b d j)) h = cell-written (s .store) (writeAll (t .writes) (s .store)) h a (some v) (number-in s (h .cells) f (action-in s o (send c e f) k) v j) refl refl
+    effect-in s x t (stopping g k) h = h
 
-    order-in : {s t : State} {l : List Label} → Order (program rows) sheet s l t → StateIn s → StateIn t
+    step-in : (s : State) (x : Label) (t : State) → Step (program rows) sheet s x t → StoreIn (s .store) → StoreIn (t .store)
+    step-in s x t k h = subst StoreIn (sym (k .leaves .stores)) (effect-in s x (k .does) (k .allowed) h)
+
+    order-in : {s t : State} {l : List Label} → Order (program rows) sheet s l t → StoreIn (s .store) → StoreIn (t .store)
     order-in halt h = h
     order-in (then {s} {t} {x} k o) h = order-in o (step-in s x t k h)
 
-    pub numbers-in : (l : List Label) (s : State) → OrderOf rows sheet l s → StateIn s
-    numbers-in l s o = order-in o start-in
+    pub numbers-in : (l : List Label) (s : State) → OrderOf rows sheet l s → StoreIn (s .store)
+    numbers-in l s o = order-in (o .order) (begins-in (o .beginning) (o .begins))

@@ -64,6 +64,6 @@ pub run-short : (rows : List ℤ) → Each In32 rows → check rows ≡ none →
     Each (λ n. n < 256) (q .state .states) → length (printedResult rows (ran q)) ≤ maxPage
 run-short rows numbers ok sheet e states =
     let q = run rows (readings rows sheet) [] maxBudget in
-    let o = run-takes-order rows (readings rows sheet) [] maxBudget in
+    let o = run-takes-order rows ok (readings rows sheet) [] maxBudget in
     let k = numbers-in rows numbers (readings rows sheet) (readings-in rows sheet e) (o .0) (q .state) (o .1) in
     page-short rows q (run-held rows ok (readings rows sheet) [] maxBudget) (o .4) (k .cells) (k .outputs) states

@@ -7,8 +7,8 @@ use Prim.Native.Nat.{ℕ}
 use lib.IntN.{ℤ, pos}
 use lib.ListN.{replicate}
 use Rattle.meaning.specs.Rows.{declarations, root}
-use Rattle.meaning.specs.Settle.{settle}
-use Rattle.meaning.specs.State.{program, processAt, whole, start}
+use Rattle.meaning.specs.Settle.{settle, start}
+use Rattle.meaning.specs.State.{program, processAt, whole}
 use Rattle.meaning.specs.Answers.{check}
 use Rattle.evaluation.specs.declared.store.State.{State}
 use Rattle.evaluation.specs.Cells.{unsetState}

@@ -15,7 +15,8 @@ use Rattle.meaning.specs.declared.Outcome.{Outcome}
 use Rattle.meaning.specs.declared.Outcome.the-variants.{Spent}
 use Rattle.meaning.specs.Basics.{ifElse}
 use Rattle.meaning.specs.Rows.{rowCount, root}
-use Rattle.meaning.specs.State.{State, program, start}
+use Rattle.meaning.specs.State.{State, program}
+use Rattle.meaning.specs.Settle.{start}
 use Rattle.meaning.specs.Intent.{Sheet}
 use Rattle.meaning.specs.Ready.{Label, ready, after}
 use Rattle.meaning.specs.Run.{Result, chosenStep, go, run}
@@ -24,6 +25,9 @@ use Rattle.meaning.specs.Buffers.{Buffers}
 use Rattle.meaning.specs.Answers.{check}
 use Rattle.agreement.proofs.Steps.{ready-allowed}
 use Rattle.agreement.proofs.Reached.{order-more}
+use Rattle.agreement.proofs.TableFit.{fit}
+use Rattle.agreement.proofs.Separate.{table-inv}
+use Rattle.agreement.proofs.Beginning.{begins-at-start}
 use Rattle.offers.specs.Held.{KeptReadings}
 use Rattle.machine.specs.Held.{Holds}
 use Rattle.taking.specs.Stands.{StandsAt}
@@ -48,7 +52,7 @@ module _ (rows : List ℤ) (ok : check rows ≡ none) (sheet : Sheet) (readings 
       let e : budget ≡ budget - 0 = omega arith in
       record {
         state = start (program rows);
-        stands = record { kept = k; labels = []; order = halt; holds = h };
+        stands = record { kept = k; labels = []; order = record { beginning = start (program rows); begins = begins-at-start (program rows) (rowCount rows) (fit rows ok); order = halt }; holds = h };
         goes = ap (λ (m : ℕ). go (program rows) sheet m 0 choices (start (program rows))) e;
       }
 
@@ -121,7 +125,7 @@ module _ (rows : List ℤ) (ok : check rows ≡ none) (sheet : Sheet) (readings 
               record {
                 kept = U .stands .kept;
                 labels = U .stands .labels ++ (y ∷ []);
-                order = order-more P sheet (U .stands .order) (ready-allowed rows sheet s y (subst (λ (l : List Label). List·Memᴰ y l) (sym e) (chosen-ready (drop n choices) x m)));
+                order = order-more rows sheet (U .stands .order) (ready-allowed rows sheet (fit rows ok) s (table-inv rows sheet (fit rows ok) (U .stands .labels) s (U .stands .order)) y (subst (λ (l : List Label). List·Memᴰ y l) (sym e) (chosen-ready (drop n choices) x m)));
                 holds = subst (λ (w : Label). Holds rows (after P sheet w s) c) v h;
               };
           goes =

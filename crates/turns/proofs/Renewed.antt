@@ -16,6 +16,8 @@ use Rattle.meaning.specs.Answers.{check}
 use Rattle.agreement.proofs.Active.{active}
 use Rattle.agreement.proofs.Takeable.{takeable}
 use Rattle.agreement.proofs.Steps.{distinct-options, ready-allowed}
+use Rattle.agreement.proofs.TableFit.{fit}
+use Rattle.agreement.proofs.Separate.{table-inv}
 use Rattle.machine.specs.Held.{Holds}
 use Rattle.machine.proofs.Unmoved.{order-after}
 use Rattle.parents.specs.Parents.{ParentsNoted}
@@ -47,8 +49,9 @@ module _ (rows : List ℤ) (ok : check rows ≡ none) (sheet : Sheet) (readings 
   -- after a ready step
   told-ready : (x : Label) → List·Memᴰ x (ready (program rows) sheet s) → Holds rows (after (program rows) sheet x s) c → Touches rows sheet s x (b .states) (c .states) touched → Told
   told-ready x m h T =
-      let (e, (q, z)) = takeable (program rows) sheet s (distinct-options rows sheet s) x (after (program rows) sheet x s) (ready-allowed rows sheet s x m) in
-      told-by x e q h T
+      let F = fit rows ok in
+      let k = ready-allowed rows sheet F s (table-inv rows sheet F (S .labels) s (S .order)) x m in
+      told-by x (k .does) (takeable (program rows) sheet s (distinct-options rows sheet s) x (k .does) (k .allowed)) h T
 
   -- after the step that a choice picks, where one is ready
   told-after : (choice count : ℕ) → count ≡ length (ready (program rows) sheet s) → (count ≡ 0 → ⊥)
