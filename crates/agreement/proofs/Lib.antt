@@ -78,3 +78,5 @@ pub mod Answered
 pub mod Calls
 pub mod Claims
 pub mod OperatorsExact
+pub mod ChoicesUsedUp
+pub mod WhileReset
