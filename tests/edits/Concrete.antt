@@ -3,7 +3,7 @@ use mathlib.Core.Path.{_≡_, refl, sym, ap, subst, _∙_}
 use mathlib.Core.Logic.{_≢_}
 use mathlib.Core.Bool.{Bool, true, false, not, _&&_, _||_, false≢true}
 use mathlib.Core.List.{List, [], _∷_, List·Memᴰ, List·Memᴰ·head, List·Memᴰ·tail}
-use mathlib.Core.Option.{none, some}
+use mathlib.Core.Option.{Option, none, some}
 use Prim.Native.Nat.{ℕ, zero, suc, _+_, _<_}
 use native.Mathlib.Omega.{arith}
 use native.Mathlib.Decide.{ℕ-discrete}
@@ -16,13 +16,16 @@ use Rattle.meaning.specs.declared.Answer.the-variants.{Refused, Ran}
 use Rattle.meaning.specs.declared.Outcome.the-variants.{Ended, Stuck, Broken, Spent}
 use Rattle.meaning.specs.declared.Value.{Value}
 use Rattle.meaning.specs.declared.Value.the-variants.{Number, Missing}
+use Rattle.meaning.specs.declared.Index.{Index}
+use Rattle.meaning.specs.declared.Index.the-variants.{At, Fails}
 use Rattle.meaning.specs.Rows.{ifElse, rowCount, kindAt}
 use Rattle.meaning.specs.Tree.{Action, stop, skip, sequence, parallel, assign, receive, send, conditional, loop, alternation, Process, node, Members, empty, also, actionOf}
+use Rattle.meaning.specs.Values.{value, index}
 use Rattle.meaning.specs.State.{Message, State, Program, processAt, whole, stateOf, changeStates, writeAll, Effect}
 use Rattle.meaning.specs.Labels.{Label, own, pass, take, takeFrom}
 use Rattle.meaning.specs.Readings.{Sheet}
 use Rattle.meaning.specs.SettlingRules.{Among, first, later, All, no-more, and-then, Next, here, after, Inside, itself, beneath, Runs, Settles, skip-ends, seq-starts, par-starts, seq-ends, par-ends, if-ends, alt-ends, while-again, Settling, Final, SettlesTo}
-use Rattle.meaning.specs.Step.{Live, live, Allows, assignment, while-false, while-true, if-true, communication, host-read, host-write, alt-skip, alt-read, alt-communication, stopping, Step}
+use Rattle.meaning.specs.Step.{targetOf, Live, live, Allows, assignment, while-false, while-true, if-true, communication, host-read, host-write, alt-skip, alt-read, alt-communication, stopping, Step}
 use Rattle.meaning.specs.Order.{Rest}
 use Rattle.meaning.specs.Buffers.{Buffers}
 use Rattle.agreement.specs.Statements.{NoAlt}
@@ -188,10 +191,10 @@ told (Number (pos n)) = n
 told (Number (negsuc n)) = suc n
 told (Missing k) = 1000 + k
 
--- a cell or a message: 0 for none, 1 for a number
-abbrev pub stored : Message → ℕ
-stored none = 0
-stored (some z) = 1
+-- what may be there: 0 for none, 1 for something
+abbrev pub present : {A : Type 0} → Option A → ℕ
+present none = 0
+present (some a) = 1
 
 -- answers: 0 for a refusal, then the outcomes
 abbrev pub outcomeNumber : Answer → ℕ
@@ -225,6 +228,35 @@ rowIn (own r) = r
 rowIn (pass i o) = i
 rowIn (take r j) = r
 rowIn (takeFrom r j o) = r
+
+-- the cell that an assignment or an input changes, and the value that an assignment needs
+abbrev pub changedCell : List Message → Action → Index
+changedCell cells stop = Fails 0
+changedCell cells skip = Fails 0
+changedCell cells sequence = Fails 0
+changedCell cells parallel = Fails 0
+changedCell cells (assign v e f) = index cells (v .first) (v .size) e
+changedCell cells (receive i) = targetOf cells i
+changedCell cells (send c e f) = Fails 0
+changedCell cells (conditional ts) = Fails 0
+changedCell cells (loop e b) = Fails 0
+changedCell cells (alternation bs) = Fails 0
+
+abbrev pub neededValue : List Message → Action → Value
+neededValue cells stop = Missing 0
+neededValue cells skip = Missing 0
+neededValue cells sequence = Missing 0
+neededValue cells parallel = Missing 0
+neededValue cells (assign v e f) = value cells f
+neededValue cells (receive i) = Missing 0
+neededValue cells (send c e f) = Missing 0
+neededValue cells (conditional ts) = Missing 0
+neededValue cells (loop e b) = Missing 0
+neededValue cells (alternation bs) = Missing 0
+
+abbrev pub placeOf : Index → ℕ
+placeOf (At i) = i
+placeOf (Fails k) = 1000 + k
 
 pub other-step : {x y : Label} → eqb (stepSort x) (stepSort y) ≡ false → x ≡ y → ⊥
 other-step {x} {y} t e = eqb-false (stepSort x) (stepSort y) t (ap stepSort e)

@@ -14,7 +14,7 @@ use Rattle.meaning.specs.SettlingRules.{rest}
 use Rattle.meaning.specs.Step.{live, host, host-read, Step}
 use Rattle.meaning.proofs.Computes.{computes}
 use Rattle.agreement.specs.MissingClaims.{cellOf, Delivers, by-assignment, by-communication, by-reading, by-option-reading, by-option-communication, ReadsAbsent, input-absent, SetByNumber, AbsentUnsets}
-use Rattle.counterexample.specs.Concrete.{stored, rowIn, other-step, other-action, idle-by-test, step}
+use Rattle.counterexample.specs.Concrete.{present, rowIn, other-step, other-action, idle-by-test, step}
 
 abbrev rows : List ℤ
 rows =
@@ -43,13 +43,9 @@ reads : Step P sheet start (own 2) read
 unfolding computes
 reads = step P sheet (host-read (live refl refl (idle-by-test (start .states) [] refl)) (host refl refl refl refl refl)) rest refl refl
 
-abbrev present : Option Message → ℕ
-present none = 0
-present (some v) = 1
-
 -- every reading of the sheet is absent
-only-absent : (port n : ℕ) (v : Message) → entry (getD sheet port []) n ≡ some v → stored v ≡ 0
-only-absent zero zero v e = ap (λ (o : Option Message). stored (Option·getD o none)) (sym e)
+only-absent : (port n : ℕ) (v : Message) → entry (getD sheet port []) n ≡ some v → present v ≡ 0
+only-absent zero zero v e = ap (λ (o : Option Message). present (Option·getD o none)) (sym e)
 only-absent zero (suc n) v e = absurd (let d : _≡_ {A = ℕ} 0 1 = ap present e in omega arith)
 only-absent (suc port) n v e = absurd (let d : _≡_ {A = ℕ} 0 1 = ap present e in omega arith)
 
@@ -62,7 +58,7 @@ nobody : {x : Label} {a : ℕ} {m : Message} → Delivers P sheet start x a m �
 unfolding computes
 nobody (by-assignment l i v) x m = other-action P start 2 l (ap rowIn x) refl
 nobody (by-communication l o i s) x m = other-step refl x
-nobody (by-reading {n} {i} {v} l (host c d t p e)) x m = let q : _≡_ {A = ℕ} 1 0 = sym (ap stored m) ∙ only-absent (i .channel .port) n v e in omega arith
+nobody (by-reading {n} {i} {v} l (host c d t p e)) x m = let q : _≡_ {A = ℕ} 1 0 = sym (ap present m) ∙ only-absent (i .channel .port) n v e in omega arith
 nobody (by-option-reading l c b h i o) x m = other-step refl x
 nobody (by-option-communication l c b k h i o s) x m = other-step refl x
 
@@ -70,9 +66,9 @@ pub counterexample : (¬ SetByNumber) × (¬ AbsentUnsets)
 unfolding computes
 counterexample = (
   λ h. given (h P sheet start (own 2) read reads 0 (pos 0) refl),
-  λ h. let e : _≡_ {A = ℕ} 1 0 = ap stored (h rows sheet start (own 2) 0 absent .1 read reads) in omega arith,
+  λ h. let e : _≡_ {A = ℕ} 1 0 = ap present (h rows sheet start (own 2) 0 absent .1 read reads) in omega arith,
 )
   where
     given : (cellOf start 0 ≡ some (pos 0)) ⊎ Delivers P sheet start (own 2) 0 (some (pos 0)) → ⊥
-    given (inl e) = let d : _≡_ {A = ℕ} 0 1 = ap stored e in omega arith
+    given (inl e) = let d : _≡_ {A = ℕ} 0 1 = ap present e in omega arith
     given (inr d) = nobody d refl refl

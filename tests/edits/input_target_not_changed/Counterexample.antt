@@ -7,24 +7,19 @@ use Prim.Native.Nat.{ℕ, _+_}
 use native.Mathlib.Omega.{arith}
 use lib.IntN.{ℤ, pos, negsuc}
 use lib.ListN.{getD, set}
-use Rattle.meaning.specs.declared.Value.{Value}
-use Rattle.meaning.specs.declared.Value.the-variants.{Missing}
-use Rattle.meaning.specs.declared.Index.{Index}
-use Rattle.meaning.specs.declared.Index.the-variants.{At, Fails}
-use Rattle.meaning.specs.Tree.{Action, stop, skip, sequence, parallel, assign, receive, send, conditional, loop, alternation, actionOf}
-use Rattle.meaning.specs.Values.{value, index}
+use Rattle.meaning.specs.Tree.{Action, actionOf}
 use Rattle.meaning.specs.State.{Message, State, Program, program, processAt, writeAll, Effect}
 use Rattle.meaning.specs.Labels.{Label, own}
 use Rattle.meaning.specs.Readings.{Sheet}
 use Rattle.meaning.specs.SettlingRules.{first, later, and-then, no-more, itself, par-starts, par-ends, rest, then}
-use Rattle.meaning.specs.Step.{targetOf, Live, live, Lacks, assign-subscript, assign-value, input-subscript, output-subscript, output-value, while-test, if-test, alt-guard, host, Allows, assignment, while-false, while-true, if-true, communication, host-read, host-write, alt-skip, alt-read, alt-communication, stopping}
+use Rattle.meaning.specs.Step.{Live, live, Lacks, assign-subscript, assign-value, input-subscript, output-subscript, output-value, while-test, if-test, alt-guard, host, Allows, assignment, while-false, while-true, if-true, communication, host-read, host-write, alt-skip, alt-read, alt-communication, stopping}
 use Rattle.meaning.specs.Order as O
 use Rattle.meaning.specs.Order.{halt, Begins, OrderOf}
 use Rattle.meaning.specs.Sheet.{readings}
 use Rattle.meaning.specs.Answers.{Reply}
 use Rattle.meaning.proofs.ComputesAnswers.{computesAnswers}
 use Rattle.agreement.specs.Statements.{StepOf, OneStepDiamond, Demand3}
-use Rattle.counterexample.specs.Concrete.{stored, told, outcomeNumber, rowIn, other-sort, action-at, other-step, other-action, lentBuffers, idle-by-test, none-running, settles, step, rests, no-alt}
+use Rattle.counterexample.specs.Concrete.{present, told, changedCell, neededValue, placeOf, outcomeNumber, rowIn, other-sort, action-at, other-step, other-action, lentBuffers, idle-by-test, none-running, settles, step, rests, no-alt}
 
 abbrev rows : List ℤ
 rows =
@@ -112,36 +107,7 @@ order = record { beginning = start; begins = begins; order = O.then reads (O.the
 
 -- y
 abbrev second : List Message → ℕ
-second cells = stored (getD cells 1 none)
-
--- the cell that an assignment or an input changes, and the value that an assignment needs
-abbrev changedCell : List Message → Action → Index
-changedCell cells stop = Fails 0
-changedCell cells skip = Fails 0
-changedCell cells sequence = Fails 0
-changedCell cells parallel = Fails 0
-changedCell cells (assign v e f) = index cells (v .first) (v .size) e
-changedCell cells (receive i) = targetOf cells i
-changedCell cells (send c e f) = Fails 0
-changedCell cells (conditional ts) = Fails 0
-changedCell cells (loop e b) = Fails 0
-changedCell cells (alternation bs) = Fails 0
-
-abbrev neededValue : List Message → Action → Value
-neededValue cells stop = Missing 0
-neededValue cells skip = Missing 0
-neededValue cells sequence = Missing 0
-neededValue cells parallel = Missing 0
-neededValue cells (assign v e f) = value cells f
-neededValue cells (receive i) = Missing 0
-neededValue cells (send c e f) = Missing 0
-neededValue cells (conditional ts) = Missing 0
-neededValue cells (loop e b) = Missing 0
-neededValue cells (alternation bs) = Missing 0
-
-abbrev place : Index → ℕ
-place (At i) = i
-place (Fails k) = 1000 + k
+second cells = present (getD cells 1 none)
 
 -- the action of row 10 lacks no value after the input
 assigns : Action
@@ -149,7 +115,7 @@ assigns = actionOf (processAt P 10)
 
 has-value : {a : Action} {k : ℕ} → Lacks (read .store .cells) a k → assigns ≡ a → ⊥
 unfolding computesAnswers assigns
-has-value (assign-subscript {k} i) e = let d : 1 ≡ 1000 + k = ap place (ap (changedCell (read .store .cells)) e ∙ i) in omega arith
+has-value (assign-subscript {k} i) e = let d : 1 ≡ 1000 + k = ap placeOf (ap (changedCell (read .store .cells)) e ∙ i) in omega arith
 has-value (assign-value {k} i v) e = let d : 5 ≡ 1000 + k = ap told (ap (neededValue (read .store .cells)) e ∙ v) in omega arith
 has-value (input-subscript i) e = other-sort assigns _ refl e
 has-value (output-subscript i) e = other-sort assigns _ refl e
@@ -161,7 +127,7 @@ has-value (alt-guard o) e = other-sort assigns _ refl e
 -- a step of row 10 after the input sets y
 sets : {x : Label} {e : Effect} → Allows P sheet read x e → x ≡ own 10 → second (writeAll (e .writes) (read .store) .cells) ≡ 1
 unfolding computesAnswers assigns
-sets (assignment {z} l i w) x = subst (λ (k : ℕ). second (set (read .store .cells) k (some z)) ≡ 1) (ap place (ap (changedCell (read .store .cells)) (action-at P read 10 l (ap rowIn x)) ∙ i)) refl
+sets (assignment {z} l i w) x = subst (λ (k : ℕ). second (set (read .store .cells) k (some z)) ≡ 1) (ap placeOf (ap (changedCell (read .store .cells)) (action-at P read 10 l (ap rowIn x)) ∙ i)) refl
 sets (while-false l t) x = absurd (other-action P read 10 l (ap rowIn x) refl)
 sets (while-true l t) x = absurd (other-action P read 10 l (ap rowIn x) refl)
 sets (if-true l t) x = absurd (other-action P read 10 l (ap rowIn x) refl)
@@ -181,7 +147,7 @@ leaves (while-false l t) x = absurd (other-action P stopped 5 l (ap rowIn x) ref
 leaves (while-true l t) x = absurd (other-action P stopped 5 l (ap rowIn x) refl)
 leaves (if-true l t) x = absurd (other-action P stopped 5 l (ap rowIn x) refl)
 leaves (communication l m i o) x = absurd (other-step refl x)
-leaves (host-read {v} l (host c d t p e)) x = subst (λ (k : ℕ). second (set (stopped .store .cells) k v) ≡ 0) (ap place (ap (changedCell (stopped .store .cells)) (action-at P stopped 5 l (ap rowIn x)) ∙ t)) refl
+leaves (host-read {v} l (host c d t p e)) x = subst (λ (k : ℕ). second (set (stopped .store .cells) k v) ≡ 0) (ap placeOf (ap (changedCell (stopped .store .cells)) (action-at P stopped 5 l (ap rowIn x)) ∙ t)) refl
 leaves (host-write l h i v o c) x = absurd (other-action P stopped 5 l (ap rowIn x) refl)
 leaves (alt-skip l c m h i) x = absurd (other-step refl x)
 leaves (alt-read l c m h i o) x = absurd (other-step refl x)
