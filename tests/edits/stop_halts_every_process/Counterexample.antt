@@ -1,6 +1,6 @@
 -- A stop halts every process: of PAR of x := y, which lacks the value of y, and z := 1, one order rests after the stop, and another takes
 -- the assignment first and then the stop.
-use mathlib.Core.Path.{_≡_, refl}
+use mathlib.Core.Path.{_≡_, refl, ap}
 use mathlib.Core.Option.{none, some}
 use mathlib.Core.List.{List, [], _∷_}
 use Prim.Native.Nat.{ℕ, _≤_}
@@ -11,13 +11,13 @@ use Rattle.meaning.specs.State.{State, Program, program}
 use Rattle.meaning.specs.Labels.{own}
 use Rattle.meaning.specs.Readings.{Sheet}
 use Rattle.meaning.specs.SettlingRules.{first, later, itself, par-starts, rest, then}
-use Rattle.meaning.specs.Step.{Live, live, assign-value, assignment, stopping, Step}
+use Rattle.meaning.specs.Step.{Live, live, assign-value, assignment, stopping}
 use Rattle.meaning.specs.Order as O
 use Rattle.meaning.specs.Order.{halt, Begins, OrderOf, RestOf}
 use Rattle.meaning.specs.Sheet.{readings}
 use Rattle.meaning.proofs.ComputesAnswers.{computesAnswers}
-use Rattle.agreement.specs.Statements.{NoAlt, Demand3}
-use Rattle.counterexample.specs.Concrete.{emptySheet, idle-by-test, settles, step, rests, no-alt}
+use Rattle.agreement.specs.Statements.{StepOf, OneStepDiamond, Demand3}
+use Rattle.counterexample.specs.Concrete.{rowIn, emptySheet, idle-by-test, settles, step, rests, no-alt}
 
 abbrev rows : List ℤ
 rows =
@@ -66,32 +66,40 @@ begins =
     }
 
 -- the stop first: then no row is live
-one : OrderOf rows sheet (own 5 ∷ []) stopped
+stops : StepOf rows sheet start (own 5) stopped
 unfolding computesAnswers
-one =
-    record {
-      beginning = start;
-      begins = begins;
-      order = O.then (step P sheet (stopping (live refl refl (idle-by-test (start .states) [] refl)) (assign-value refl refl)) rest refl refl) halt;
-    }
+stops = step P sheet (stopping (live refl refl (idle-by-test (start .states) [] refl)) (assign-value refl refl)) rest refl refl
 
 halted : (r : ℕ) (a : Action) → ¬ Live P stopped r a
 halted r a (live e u k) = let d : _≡_ {A = ℕ} 0 1 = u in omega arith
 
--- the assignment first
-other : OrderOf rows sheet (own 10 ∷ own 5 ∷ []) both
-unfolding computesAnswers
-other =
-    record {
-      beginning = start;
-      begins = begins;
-      order =
-          O.then (step P sheet (assignment (live refl refl (idle-by-test (start .states) [] refl)) refl refl) rest refl refl)
-          (O.then (step P sheet (stopping (live refl refl (idle-by-test (assigned .states) [] refl)) (assign-value refl refl)) rest refl refl) halt);
-    }
+at-rest : RestOf rows sheet stopped
+at-rest = rests P sheet stopped halted
 
-pub counterexample : ¬ Demand3
+-- the assignment first
+assigns : StepOf rows sheet start (own 10) assigned
 unfolding computesAnswers
-counterexample h =
-    let e : 2 ≤ 1 = h rows emptySheet refl refl (no-alt rows refl) (own 5 ∷ []) stopped one (rests P sheet stopped halted) .0 (own 10 ∷ own 5 ∷ []) both other .0 in
-    omega arith
+assigns = step P sheet (assignment (live refl refl (idle-by-test (start .states) [] refl)) refl refl) rest refl refl
+
+stops-then : StepOf rows sheet assigned (own 5) both
+unfolding computesAnswers
+stops-then = step P sheet (stopping (live refl refl (idle-by-test (assigned .states) [] refl)) (assign-value refl refl)) rest refl refl
+
+one : OrderOf rows sheet (own 5 ∷ []) stopped
+one = record { beginning = start; begins = begins; order = O.then stops halt }
+
+other : OrderOf rows sheet (own 10 ∷ own 5 ∷ []) both
+other = record { beginning = start; begins = begins; order = O.then assigns (O.then stops-then halt) }
+
+apart : (v : State) × StepOf rows sheet stopped (own 10) v × StepOf rows sheet assigned (own 5) v → ⊥
+apart (v, h, k) = at-rest (own 10) v h
+
+pub counterexample : (¬ Demand3) × (¬ OneStepDiamond)
+unfolding computesAnswers
+counterexample = (
+  λ h.
+  let e : 2 ≤ 1 = h rows emptySheet refl refl (no-alt rows refl) (own 5 ∷ []) stopped one at-rest .0 (own 10 ∷ own 5 ∷ []) both other .0 in
+  omega arith,
+  λ h. apart (h rows sheet (refl, (emptySheet, (refl, refl))) (no-alt rows refl) start ([], record { beginning = start; begins = begins; order = halt }) (own 5) (own 10) stopped assigned
+  (λ e. let d : _≡_ {A = ℕ} 5 10 = ap rowIn e in omega arith) stops assigns),
+)
