@@ -10,16 +10,19 @@ use lib.Dec.{ltb}
 use borrow.Author.Tests.{ltb-true}
 use Rattle.meaning.specs.Basics.{ifElse}
 use Rattle.meaning.specs.Limits.{maxBudget}
-use Rattle.meaning.specs.TableBytes.{Refusal, bytesFault, rowsOf}
+use Rattle.meaning.specs.TableBytes.{bytesFault, rowsOf}
 use Rattle.meaning.specs.State.{State}
 use Rattle.meaning.specs.Ready.{Label}
 use Rattle.meaning.specs.Run as R
 use Rattle.meaning.specs.Run.{run}
 use Rattle.meaning.specs.Sheet.{sheetFault, readings}
 use Rattle.meaning.specs.Buffers.{Buffers, tooShort}
-use Rattle.meaning.specs.Answers.{Task, Result, ran, firstFault, check, budgetFault, bufferFault, result, resultOfBytes, Reply, replyOf, reply, replyToBytes}
+use Rattle.meaning.specs.Refusals.{Refusal}
+use Rattle.meaning.specs.Stages.{budgetFault, bufferFault}
+use Rattle.meaning.specs.Answers.{Task, ran, check, result, Reply, replyOf, reply, replyToBytes}
 use Rattle.meaning.specs.Order.{OrderOf, RestOf, outcomeOf}
 use Rattle.meaning.specs.Accepted.{Accepted}
+use Rattle.meaning.proofs.AnswerLaws.{result-stages, result-of-bytes, reply-stages, reply-to-bytes}
 use Rattle.agreement.specs.Statements.{NoAlt, OneRest, CallsAnswer, Demand3, Demand3Bytes}
 use Rattle.agreement.proofs.TableFit.{fit}
 use Rattle.agreement.proofs.TableOptions.{option-rows}
@@ -47,13 +50,11 @@ module _ (rows : List ℤ) (sheet : List ℕ) (accepted : check rows ≡ none) (
 
   -- a task that nothing refuses runs
   runs : (choices : List ℕ) (budget : ℕ) → budget ≤ maxBudget → result (task choices budget) ≡ ran (ending choices budget)
-  unfolding result firstFault
-  runs choices budget h = rw (accepted, read, budget-allowed budget h)
+  runs choices budget h = result-stages (task choices budget) ∙ rw (accepted, read, budget-allowed budget h)
 
   pub replies : (choices : List ℕ) (budget : ℕ) (b : Buffers) → tooShort b ≡ false → budget ≤ maxBudget
       → reply (task choices budget) b ≡ replyOf rows b (ran (ending choices budget))
-  unfolding reply
-  replies choices budget b e h = rw (buffers-suffice b e, runs choices budget h)
+  replies choices budget b e h = reply-stages (task choices budget) b ∙ rw (buffers-suffice b e, runs choices budget h)
 
   module _ (w : NoAlt rows) (l : List Label) (s : State) (o : OrderOf rows (readings rows sheet) l s) (r : RestOf rows (readings rows sheet) s) where
     agreed : OneRest rows (readings rows sheet) l s
@@ -80,8 +81,8 @@ demand3 rows sheet accepted read w l s o r = (
 bytes-reply : (table sheet : List ℕ) → bytesFault table ≡ none → check (rowsOf table) ≡ none → sheetFault (rowsOf table) sheet ≡ none
     → (choices : List ℕ) (budget : ℕ) (b : Buffers) → tooShort b ≡ false → budget ≤ maxBudget
     → replyToBytes table sheet choices budget b ≡ replyOf (rowsOf table) b (ran (run (rowsOf table) (readings (rowsOf table) sheet) choices budget))
-unfolding replyToBytes resultOfBytes
-bytes-reply table sheet whole accepted read choices budget b e h = rw (buffers-suffice b e, whole, runs (rowsOf table) sheet accepted read choices budget h)
+bytes-reply table sheet whole accepted read choices budget b e h =
+    reply-to-bytes table sheet choices budget b ∙ rw (result-of-bytes table sheet choices budget, buffers-suffice b e, whole, runs (rowsOf table) sheet accepted read choices budget h)
 
 pub demand3-bytes : Demand3Bytes
 demand3-bytes table sheet whole accepted read w l s o r = (

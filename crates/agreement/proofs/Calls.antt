@@ -15,16 +15,19 @@ use Rattle.meaning.specs.declared.Answer.{Answer}
 use Rattle.meaning.specs.declared.Answer.the-variants.{Refused, Ran}
 use Rattle.meaning.specs.Basics.{ifElse}
 use Rattle.meaning.specs.Limits.{maxBudget, maxCells}
-use Rattle.meaning.specs.TableBytes.{Refusal, bytesFault, rowsOf}
+use Rattle.meaning.specs.TableBytes.{rowsOf}
 use Rattle.meaning.specs.State.{Message, State}
 use Rattle.meaning.specs.Ready.{Label}
 use Rattle.meaning.specs.Run as R
 use Rattle.meaning.specs.Run.{run}
 use Rattle.meaning.specs.Sheet.{sheetFault, readings}
 use Rattle.meaning.specs.Buffers.{Buffers, tooShort, mark, numberIn, encode}
-use Rattle.meaning.specs.Answers.{Task, Result, refused, ran, either, unless, firstFault, stages, check, budgetFault, bufferFault, result, resultOfBytes, Reply, replyOf, reply, replyToBytes}
+use Rattle.meaning.specs.Refusals.{Refusal}
+use Rattle.meaning.specs.Stages.{budgetFault, bufferFault}
+use Rattle.meaning.specs.Answers.{Task, Result, refused, ran, unless, check, result, Reply, replyOf, reply}
 use Rattle.meaning.specs.declared.Outcome.the-variants.{Spent}
 use Rattle.meaning.specs.Order.{OrderOf, RestOf}
+use Rattle.meaning.proofs.AnswerLaws.{result-stages, result-of-bytes, reply-stages, reply-to-bytes}
 use Rattle.agreement.specs.Statements.{StepOf}
 use Rattle.agreement.specs.CallClaims.{RefusedUntouched, BytesAsRows, RanAs, RunAnswered, OrderAnswered, HandedTo, MissingAnswered}
 use Rattle.agreement.specs.MissingClaims.{cellOf}
@@ -39,12 +42,16 @@ refused-leaves rows b (refused f) number place e = refl
 refused-leaves rows b (ran r) number place e = let z : _≡_ {A = ℕ} 0 1 = cc in absurd (omega arith)
 
 pub refused-untouched : RefusedUntouched
-unfolding reply
-refused-untouched t b number place e = refused-leaves (t .rows) b (unless (bufferFault b) (result t)) number place e
+refused-untouched t b number place e =
+    let w = reply-stages t b in
+    ap (λ (r : Reply). r .buffers) w ∙ refused-leaves (t .rows) b (unless (bufferFault b) (result t)) number place (ap (λ (r : Reply). r .answer) (sym w) ∙ e)
 
 pub bytes-as-rows : BytesAsRows
-unfolding replyToBytes resultOfBytes reply
-bytes-as-rows table sheet choices budget b = (λ e. rw e, λ f long e. rw (buffers-suffice b long, e))
+bytes-as-rows table sheet choices budget b =
+    let w = reply-to-bytes table sheet choices budget b ∙ ap (λ (r : Result). replyOf (rowsOf table) b (unless (bufferFault b) r)) (result-of-bytes table sheet choices budget) in (
+      λ e. w ∙ rw e (sym (reply-stages (record { rows = rowsOf table; sheet = sheet; choices = choices; budget = budget }) b)),
+      λ f long e. w ∙ rw (buffers-suffice b long, e),
+    )
 
 -- a result that ran comes from no refusal
 ran-unrefused : (f : Option Refusal) (r : Result) (q : R.Result) → unless f r ≡ ran q → (f ≡ none) × (r ≡ ran q)
@@ -58,13 +65,6 @@ ran-answer rows b (ran q) o n e = (q, refl, cc, cc)
 
 ran-parts : (p q : Outcome) (m n : ℕ) → Ran p m ≡ Ran q n → (p ≡ q) × (m ≡ n)
 ran-parts p q m n e = (cc, cc)
-
--- no stage refuses where the first of three finds none
-none-of-three : (a b c : Option Refusal) → either a (either b (either c none)) ≡ none → (a ≡ none) × (b ≡ none) × (c ≡ none)
-none-of-three none none none e = (refl, refl, refl)
-none-of-three none none (some f) e = let z : _≡_ {A = ℕ} 0 1 = cc in absurd (omega arith)
-none-of-three none (some f) c e = let z : _≡_ {A = ℕ} 0 1 = cc in absurd (omega arith)
-none-of-three (some f) b c e = let z : _≡_ {A = ℕ} 0 1 = cc in absurd (omega arith)
 
 long-enough : (b : Buffers) → bufferFault b ≡ none → tooShort b ≡ false
 unfolding bufferFault
@@ -92,12 +92,14 @@ pub record Unrefused (t : Task) (b : Buffers) : Type 0 where
 ran-call : (t : Task) (b : Buffers) (o : Outcome) (n : ℕ) → reply t b .answer ≡ Ran o n
     → let q = run (t .rows) (readings (t .rows) (t .sheet)) (t .choices) (t .budget) in
     Unrefused t b × (q .outcome ≡ o) × (q .steps ≡ n) × (reply t b .buffers ≡ encode (t .rows) (q .state) b)
-unfolding reply result firstFault
 ran-call t b o n e =
-    let (q, p, _, _) = ran-answer (t .rows) b (unless (bufferFault b) (result t)) o n e in
+    let end = ran (run (t .rows) (readings (t .rows) (t .sheet)) (t .choices) (t .budget)) in
+    let budget = unless (budgetFault maxBudget (t .budget)) end in
+    let (q, p, _, _) = ran-answer (t .rows) b (unless (bufferFault b) (result t)) o n (ap (λ (z : Reply). z .answer) (sym (reply-stages t b)) ∙ e) in
     let (f, r) = ran-unrefused (bufferFault b) (result t) q p in
-    let (g, _) = ran-unrefused (firstFault stages t) (ran (run (t .rows) (readings (t .rows) (t .sheet)) (t .choices) (t .budget))) q r in
-    let (x, y, z) = none-of-three (check (t .rows)) (sheetFault (t .rows) (t .sheet)) (budgetFault maxBudget (t .budget)) g in
+    let (x, g) = ran-unrefused (check (t .rows)) (unless (sheetFault (t .rows) (t .sheet)) budget) q (sym (result-stages t) ∙ r) in
+    let (y, h) = ran-unrefused (sheetFault (t .rows) (t .sheet)) budget q g in
+    let (z, _) = ran-unrefused (budgetFault maxBudget (t .budget)) end q h in
     let u : Unrefused t b = record { long = long-enough b f; accepted = x; read = y; allowed = within-limit (t .budget) z } in
     let w = replies (t .rows) (t .sheet) x y (t .choices) (t .budget) b (u .long) (u .allowed) in
     let q = run (t .rows) (readings (t .rows) (t .sheet)) (t .choices) (t .budget) in
@@ -144,9 +146,9 @@ set-or-not (some z) = (λ h. (refl, refl), λ e. absurd (omega arith))
 pub missing-answered : MissingAnswered
 missing-answered t b o n e =
     let a = run-answered t b o n e in
-    (a .labels, (a .end, a .order, a .chosen, a .steps-taken, a .left, cell a))
+    (a, cell a)
   where
-    cell : (a : RanAs t b o n) (i : ℕ) → i < maxCells
+    cell : (a : RanAs t b (reply t b) o n) (i : ℕ) → i < maxCells
         → let m = getD (reply t b .buffers .marks) i 0 in
         let z = getD (reply t b .buffers .cells) i (pos 0) in
         (m ≢ 0 → (m ≡ 1) × HandedTo (t .rows) (t .sheet) (a .labels) i z) × (m ≡ 0 → z ≡ pos 0)
@@ -159,7 +161,7 @@ missing-answered t b o n e =
           λ k. q ∙ unset (sym p ∙ k),
         )
       where
-        handed : (a : RanAs t b o n) (i : ℕ) (z : ℤ) → cellOf (a .end) i ≡ some z → HandedTo (t .rows) (t .sheet) (a .labels) i z
+        handed : (a : RanAs t b (reply t b) o n) (i : ℕ) (z : ℤ) → cellOf (a .end) i ≡ some z → HandedTo (t .rows) (t .sheet) (a .labels) i z
         handed a i z c =
             let (before, (x, (later, (u, (parts, order, handed))))) = set-in-order (t .rows) (readings (t .rows) (t .sheet)) (a .labels) (a .end) (a .order) i z c in
             record { before = before; label = x; later = later; at = u; parts = parts; order = order; handed = handed }

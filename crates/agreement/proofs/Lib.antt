@@ -80,3 +80,13 @@ pub mod Claims
 pub mod OperatorsExact
 pub mod ChoicesUsedUp
 pub mod WhileReset
+pub mod RefusalPlaces
+pub mod AsDeclared
+pub mod HostOutputs
+pub mod GivenLists
+pub mod TableLimits
+pub mod BuffersHold
+pub mod BuffersExact
+pub mod DecodedStates
+pub mod CallsOnBytes
+pub mod ResultsRead

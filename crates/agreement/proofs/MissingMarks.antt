@@ -1,22 +1,26 @@
 -- Marks and stored numbers stand for cells: the lent buffers give back the cells, and the number stored for an unset cell is never looked at.
 use mathlib.Core.Path.{_≡_, refl, sym, ap, ap₂, _∙_}
 use mathlib.Core.Logic.{_≢_}
+use mathlib.Core.Bool.{Bool, true, false}
 use mathlib.Core.Option.{none, some}
 use mathlib.Core.List.{List, [], _∷_, _++_, map}
 use Prim.Native.Nat.{ℕ, zero, suc, _<_, _≤_}
 use native.Mathlib.Nat.{suc-inj, suc-ne-zero}
-use native.Mathlib.Omega.{arith}
 use lib.IntN.{ℤ}
-use lib.ListN.{length, getD, take, drop, replicate, length-append, length-replicate, List·getD-map}
-use lib.Seq.{length-take-le, take-at, take-take, getD-take}
+use lib.ListN.{length, getD, take, drop, replicate, List·getD-map, length-map}
+use lib.Dec.{eqb}
+use lib.Seq.{take-at}
+use borrow.Author.Tests.{eqb-false}
+use Rattle.meaning.specs.Basics.{ifElse}
 use Rattle.meaning.specs.Limits.{maxCells}
 use Rattle.meaning.specs.Values.{value}
 use Rattle.meaning.specs.State.{Message, State}
 use Rattle.meaning.specs.Intent.{intent}
 use Rattle.meaning.specs.Ready.{ready, after}
 use Rattle.meaning.specs.Run.{go}
-use Rattle.meaning.specs.Buffers.{sized, lent, mark, numberIn, encode}
-use Rattle.agreement.specs.MissingClaims.{decodedCell, decoded, EncodedCells, EncodedDecodes, StoredZeroUnseen, stateWith, SameAnswers}
+use Rattle.meaning.specs.Buffers.{sized, lent, mark, numberIn, cellOf, decoded, encode}
+use Rattle.agreement.specs.MissingClaims.{EncodedCells, EncodedDecodes, StoredZeroUnseen, stateWith, SameAnswers}
+use Rattle.meaning.proofs.LentLaws.{sized-length, lent-at, lent-whole}
 
 module _ {A B : Type 0} (f : A → B) (d : A) where
   -- a function of each element, of a list that is cut
@@ -26,52 +30,25 @@ module _ {A B : Type 0} (f : A → B) (d : A) where
   cut-map (suc n) (suc k) [] = ap (λ (l : List B). f d ∷ l) (cut-map n k [])
   cut-map (suc n) k (x ∷ xs) = ap (λ (l : List B). f x ∷ l) (cut-map n k xs)
 
-  sized-length : (n : ℕ) (xs : List B) (e : B) → length (sized n e xs) ≡ n
-  unfolding sized
-  sized-length n xs e = length-take-le n (xs ++ replicate n e) (omega (arith, length-append xs (replicate n e), length-replicate n e))
-
   -- the part of a lent buffer that a list fills: the list at that length
   lent-front : (n : ℕ) (xs : List A) (old : List B) → take n (lent n (f d) (map f xs) old) ≡ map f (sized n d xs)
   unfolding lent sized
-  lent-front n xs old = take-at (sized n (f d) (map f xs)) (drop n old) n (sized-length n (map f xs) (f d)) ∙ cut-map n n xs
+  lent-front n xs old = take-at (sized n (f d) (map f xs)) (drop n old) n (sized-length (f d) n (map f xs)) ∙ cut-map n n xs
 
-  -- filled up, a list has its own elements
-  filled : (n i : ℕ) (xs : List A) → getD (xs ++ replicate n d) i d ≡ getD xs i d
-  filled zero i [] = refl
-  filled (suc n) zero [] = refl
-  filled (suc n) (suc i) [] = filled n i []
-  filled n zero (x ∷ xs) = refl
-  filled n (suc i) (x ∷ xs) = filled n i xs
+  -- an element of it, and the list
+  lent-map-at : (n i : ℕ) (xs : List A) (old : List B) → i < n → getD (lent n (f d) (map f xs) old) i (f d) ≡ f (getD xs i d)
+  lent-map-at n i xs old h = lent-at (f d) n i (map f xs) old h ∙ List·getD-map f xs i d
 
-  lent-at : (n i : ℕ) (xs : List A) (old : List B) → i < n → getD (lent n (f d) (map f xs) old) i (f d) ≡ f (getD xs i d)
-  unfolding sized
-  lent-at n i xs old h =
-      sym (getD-take n (lent n (f d) (map f xs) old) i (f d) h)
-      ∙ ap (λ (l : List B). getD l i (f d)) (lent-front n xs old)
-      ∙ List·getD-map f (sized n d xs) i d
-      ∙ ap f (getD-take n (xs ++ replicate n d) i d h ∙ filled n i xs)
-
-  -- the first of a lent buffer, up to the list's length: the list
-  lent-list : (n : ℕ) (xs : List A) (old : List B) → length xs ≤ n → take (length xs) (lent n (f d) (map f xs) old) ≡ map f xs
-  unfolding sized
-  lent-list n xs old h =
-      sym (take-take (length xs) n (lent n (f d) (map f xs) old) h)
-      ∙ ap (take (length xs)) (lent-front n xs old)
-      ∙ take-map (length xs) (sized n d xs)
-      ∙ ap (map f) (take-take (length xs) n (xs ++ replicate n d) h ∙ take-at xs (replicate n d) (length xs) refl)
-    where
-      take-map : (k : ℕ) (l : List A) → take k (map f l) ≡ map f (take k l)
-      take-map zero l = refl
-      take-map (suc k) [] = refl
-      take-map (suc k) (x ∷ l) = ap (λ (r : List B). f x ∷ r) (take-map k l)
+  lent-map : (n : ℕ) (xs : List A) (old : List B) → length xs ≤ n → take (length xs) (lent n (f d) (map f xs) old) ≡ map f xs
+  lent-map n xs old h = lent-whole (f d) n (length xs) (map f xs) old (length-map xs f) h
 
 -- cell by cell, the buffers hold mark and number
 pub encoded-cells : EncodedCells
 unfolding encode
-encoded-cells rows s b i h = (lent-at mark none maxCells i (s .store .cells) (b .marks) h, lent-at numberIn none maxCells i (s .store .cells) (b .cells) h)
+encoded-cells rows s b i h = (lent-map-at mark none maxCells i (s .store .cells) (b .marks) h, lent-map-at numberIn none maxCells i (s .store .cells) (b .cells) h)
 
--- marks and numbers of cells stand for the cells
-decoded-cells : (l : List Message) → decoded (map mark l) (map numberIn l) ≡ l
+-- numbers and marks of cells stand for the cells
+pub decoded-cells : (l : List Message) → decoded (map numberIn l) (map mark l) ≡ l
 decoded-cells [] = refl
 decoded-cells (none ∷ l) = ap (λ (r : List Message). none ∷ r) (decoded-cells l)
 decoded-cells (some z ∷ l) = ap (λ (r : List Message). some z ∷ r) (decoded-cells l)
@@ -80,20 +57,23 @@ decoded-cells (some z ∷ l) = ap (λ (r : List Message). some z ∷ r) (decoded
 pub encoded-decodes : EncodedDecodes
 unfolding encode
 encoded-decodes rows s b = (
-  ap₂ decoded (lent-front mark none maxCells (s .store .cells) (b .marks)) (lent-front numberIn none maxCells (s .store .cells) (b .cells)) ∙ decoded-cells (sized maxCells none (s .store .cells)),
-  λ h. ap₂ decoded (lent-list mark none maxCells (s .store .cells) (b .marks) h) (lent-list numberIn none maxCells (s .store .cells) (b .cells) h) ∙ decoded-cells (s .store .cells),
+  ap₂ decoded (lent-front numberIn none maxCells (s .store .cells) (b .cells)) (lent-front mark none maxCells (s .store .cells) (b .marks)) ∙ decoded-cells (sized maxCells none (s .store .cells)),
+  λ h. ap₂ decoded (lent-map numberIn none maxCells (s .store .cells) (b .cells) h) (lent-map mark none maxCells (s .store .cells) (b .marks) h) ∙ decoded-cells (s .store .cells),
 )
 
-same-cell : (m : ℕ) (z y : ℤ) → (m ≢ 0 → z ≡ y) → decodedCell m z ≡ decodedCell m y
-same-cell zero z y h = refl
-same-cell (suc m) z y h = ap {B = Message} some (h (suc-ne-zero m))
+same-cell : (m : ℕ) (z y : ℤ) → (m ≢ 0 → z ≡ y) → cellOf z m ≡ cellOf y m
+same-cell m z y h = go (eqb m 0) refl
+  where
+    go : (t : Bool) → eqb m 0 ≡ t → ifElse t none (some z) ≡ ifElse t none (some y)
+    go true e = refl
+    go false e = ap {B = Message} some (h (eqb-false m 0 e))
 
 -- numbers that are equal where the mark is not 0 stand for the same cells
 pub stored-zero-unseen : StoredZeroUnseen
-stored-zero-unseen [] v w h = refl
-stored-zero-unseen (m ∷ ms) [] [] h = refl
-stored-zero-unseen (m ∷ ms) [] (y ∷ w) h = absurd (suc-ne-zero (length w) (sym (h .0)))
-stored-zero-unseen (m ∷ ms) (z ∷ v) [] h = absurd (suc-ne-zero (length v) (h .0))
+stored-zero-unseen ms [] [] h = refl
+stored-zero-unseen ms [] (y ∷ w) h = absurd (suc-ne-zero (length w) (sym (h .0)))
+stored-zero-unseen ms (z ∷ v) [] h = absurd (suc-ne-zero (length v) (h .0))
+stored-zero-unseen [] (z ∷ v) (y ∷ w) h = refl
 stored-zero-unseen (m ∷ ms) (z ∷ v) (y ∷ w) h =
     ap₂ (λ (c : Message) (r : List Message). c ∷ r) (same-cell m z y (h .1 0)) (stored-zero-unseen ms v w (suc-inj (h .0), λ i. h .1 (suc i)))
 

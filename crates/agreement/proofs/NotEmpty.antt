@@ -1,14 +1,17 @@
 -- The statements about orders are not empty: PAR of x := 1 and y := 2 has two orders to rest; WHILE 1 SKIP never comes to rest.
 use mathlib.Core.Path.{_≡_, refl, sym, ap, subst, _∙_}
+use mathlib.Core.Bool.{false≢true}
 use mathlib.Core.Option.{none}
 use mathlib.Core.List.{List, [], _∷_, List·Memᴰ, List·Memᴰ·head, List·Memᴰ·tail, List·Memᴰ·not-nil, List·Memᴰ·eq-of-singleton}
 use Prim.Native.Nat.{ℕ, zero, suc}
 use native.Mathlib.Omega.{arith}
 use lib.IntN.{ℤ, pos, negsuc}
 use lib.ListN.{length}
-use Rattle.meaning.specs.Rows.{rowCount}
+use Rattle.meaning.specs.Rows.{rowCount, kindAt}
 use Rattle.meaning.specs.State.{State, program}
 use Rattle.meaning.specs.Settle.{start}
+use lib.Dec.{eqb}
+use borrow.Author.Tests.{eq-eqb}
 use Rattle.meaning.specs.Intent.{Sheet}
 use Rattle.meaning.specs.Ready.{Label, own, orderRow, ready, after}
 use Rattle.meaning.specs.Step.{Step}
@@ -16,6 +19,8 @@ use Rattle.meaning.specs.Order.{Order, halt, then, OrderOf, RestOf}
 use Rattle.meaning.specs.Sheet.{sheetFault, readings}
 use Rattle.meaning.specs.Answers.{check}
 use Rattle.meaning.proofs.ComputesAnswers.{computesAnswers}
+use Rattle.meaning.proofs.NoFault.{lowest-none}
+use Rattle.agreement.specs.Statements.{NoAlt}
 use Rattle.agreement.specs.NotEmptyClaims.{LongOrder, TwoOrders, NeverRests}
 use Rattle.agreement.proofs.Steps.{ready-allowed, allowed-ready}
 use Rattle.agreement.proofs.Reached.{order-more}
@@ -61,6 +66,11 @@ par-accepted = refl
 par-sheet : sheetFault parRows emptySheet ≡ none
 unfolding computesAnswers
 par-sheet = refl
+
+-- no row is an ALT
+par-without-alt : NoAlt parRows
+unfolding computesAnswers
+par-without-alt r h e = false≢true (sym (lowest-none (λ q. eqb (kindAt parRows q) 34) (rowCount parRows) refl r h) ∙ eq-eqb (kindAt parRows r) 34 e)
 
 abbrev parStart : State
 parStart = start (program parRows)
@@ -123,6 +133,7 @@ two-orders =
       sheet = emptySheet;
       table-accepted = par-accepted;
       sheet-accepted = par-sheet;
+      without-alt = par-without-alt;
       one = two-steps 4 8 _ _ both-ready (List·Memᴰ·head refl) second-left (List·Memᴰ·head refl) none-left;
       two = two-steps 8 4 _ _ both-ready (List·Memᴰ·tail (List·Memᴰ·head refl)) first-left (List·Memᴰ·head refl) none-left-too;
       differ = λ e. let h : _≡_ {A = ℕ} 4 8 = ap firstRow e in omega arith;

@@ -33,7 +33,7 @@ of-T true h = refl
 of-T false h = absurd h
 
 -- a sum over the rows up to a higher one has the lower row's number in it
-sum-past : (f : ℕ → ℕ) (i a : ℕ) → i < a → sumBelow f i + f i ≤ sumBelow f a
+pub sum-past : (f : ℕ → ℕ) (i a : ℕ) → i < a → sumBelow f i + f i ≤ sumBelow f a
 unfolding sumBelow
 sum-past f i zero l = absurd (omega arith)
 sum-past f i (suc a) l = go (decLt i a) (sum-past f i a)
@@ -68,7 +68,7 @@ module _ (role : ℕ) (rows : List ℤ) where
       go (no l) (yes m) = absurd (omega (arith, sum-past (portsAt role rows) a i m, one-port a k))
       go (no l) (no m) = omega arith
 
-  declared-at : (a : ℕ) → hasRole role rows a ≡ true → (a < declarations rows) × (kindAt rows a ≡ 2) × (naturalAt rows a 2 ≡ role)
+  pub declared-at : (a : ℕ) → hasRole role rows a ≡ true → (a < declarations rows) × (kindAt rows a ≡ 2) × (naturalAt rows a 2 ≡ role)
   declared-at a h =
       let (c, e) = and-true (isChannel rows a) (eqb (naturalAt rows a 2) role) h in
       let (d, k) = and-true (ltb a (declarations rows)) (eqb (kindAt rows a) 2) c in

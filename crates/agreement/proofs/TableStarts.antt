@@ -59,7 +59,7 @@ module _ (rows : List ℤ) where
         (each-more {x = 34} (λ e. there (Alt x) _ _ (rw e) refl)
         each-none)))))))))) (kindAt rows b) m refl
 
-  leading-le : (k r : ℕ) → leading rows k r ≤ r + k
+  pub leading-le : (k r : ℕ) → leading rows k r ≤ r + k
   unfolding leading
   leading-le zero r = omega arith
   leading-le (suc k) r = go (declares rows r) (leading-le k (suc r))

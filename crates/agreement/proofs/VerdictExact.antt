@@ -1,16 +1,17 @@
 -- The verdict: a table is accepted exactly if everything in it is right, and refused as the first stage with a fault says.
-use mathlib.Core.Path.{_≡_, refl, sym, subst}
+use mathlib.Core.Path.{_≡_, refl, sym, subst, _∙_}
 use mathlib.Core.Option.{none}
-use mathlib.Core.List.{List}
+use mathlib.Core.List.{List, _∷_}
 use Prim.Native.Nat.{ℕ}
 use native.Mathlib.Omega.{arith}
 use lib.IntN.{ℤ}
-use Rattle.meaning.specs.TableBytes.{Refusal}
-use Rattle.meaning.specs.Answers.{Stage, rowStages, check}
+use Rattle.meaning.specs.TableBytes.{numbersFault}
+use Rattle.meaning.specs.Refusals.{Refusal, Stage}
+use Rattle.meaning.specs.Stages.{rowStages}
 use Rattle.meaning.specs.PrintedForms.{Each, each-none, each-more}
 use Rattle.meaning.specs.Faults.{WellPlaced, Placed, OneTree}
 use Rattle.meaning.proofs.OneTreeLaw.{one-tree}
-use Rattle.meaning.proofs.AnswerLaws.{First, here, later, first-found, found-first, none-found, found-none}
+use Rattle.meaning.proofs.AnswerLaws.{check-stages, First, here, later, first-found, found-first, none-found, found-none}
 use Rattle.agreement.specs.VerdictClaims.{Passed, WholeRows, EachFormed, EachPlaced, EachLimited, NoClash, Refused, not-whole, not-formed, not-placed, over-limit, clash, VerdictExact, RefusalLeast, OneTreeOfRows}
 use Rattle.agreement.proofs.VerdictStages.{notWhole, whole-passes, whole-faults, form-passes, form-faults, tree-passes, tree-faults, limit-passes, limit-faults}
 use Rattle.agreement.proofs.UsageExact.{usage-passes, usage-faults}
@@ -23,11 +24,11 @@ module _ (rows : List ℤ) where
   abbrev RightTable : Type 0
   RightTable = WholeRows rows × EachFormed rows × EachPlaced rows × EachLimited rows × NoClash rows
 
-  to-right : Each (λ (s : Stage (List ℤ)). s rows ≡ none) rowStages → RightTable
+  to-right : Each (λ (s : Stage (List ℤ)). s rows ≡ none) (numbersFault ∷ rowStages) → RightTable
   to-right (each-more a (each-more b (each-more c (each-more d (each-more e each-none))))) =
       (whole-passes rows .0 a, form-passes rows .0 b, tree-passes rows .0 c, limit-passes rows .0 d, usage-passes rows (a, b, c, d) .0 e)
 
-  from-right : RightTable → Each (λ (s : Stage (List ℤ)). s rows ≡ none) rowStages
+  from-right : RightTable → Each (λ (s : Stage (List ℤ)). s rows ≡ none) (numbersFault ∷ rowStages)
   from-right h =
       let p = passed (h .0) (h .1) (h .2) (h .3) in
       each-more (p .0) (each-more (p .1) (each-more (p .2) (each-more (p .3) (each-more (usage-passes rows p .1 (h .4)) each-none))))
@@ -36,7 +37,7 @@ module _ (rows : List ℤ) where
   numbered : (k : ℕ) (f : Refusal) → f .0 ≡ k → Refused rows k (f .1) → Refused rows (f .0) (f .1)
   numbered k f e h = subst (λ (j : ℕ). Refused rows j (f .1)) (sym e) h
 
-  to-refused : (f : Refusal) → First rows f rowStages → Refused rows (f .0) (f .1)
+  to-refused : (f : Refusal) → First rows f (numbersFault ∷ rowStages) → Refused rows (f .0) (f .1)
   to-refused f (here e) = let h = whole-faults rows f .0 e in subst (λ (g : Refusal). Refused rows (g .0) (g .1)) (sym (h .1)) (not-whole (h .0))
   to-refused f (later a (here e)) = let h = form-faults rows f .0 e in numbered 4 f (h .0) (not-formed (whole-passes rows .0 a) (h .1))
   to-refused f (later a (later b (here e))) =
@@ -48,7 +49,7 @@ module _ (rows : List ℤ) where
       let h = usage-faults rows (a, b, c, d) (f .0) (f .1) .0 e in
       clash (whole-passes rows .0 a) (form-passes rows .0 b) (tree-passes rows .0 c) (limit-passes rows .0 d) (h .0) (h .1) (h .2)
 
-  from-refused : {number place : ℕ} → Refused rows number place → First rows (number, place) rowStages
+  from-refused : {number place : ℕ} → Refused rows number place → First rows (number, place) (numbersFault ∷ rowStages)
   from-refused (not-whole h) = here (whole-faults rows (notWhole rows) .1 (h, refl))
   from-refused (not-formed {r} w h) = later (whole-passes rows .1 w) (here (form-faults rows (4, r) .1 (refl, h)))
   from-refused (not-placed {r} w f h) = later (whole-passes rows .1 w) (later (form-passes rows .1 f) (here (tree-faults rows (5, r) .1 (refl, h))))
@@ -59,13 +60,16 @@ module _ (rows : List ℤ) where
       later (p .0) (later (p .1) (later (p .2) (later (p .3) (here (usage-faults rows p number r .1 (h, a, b))))))
 
 pub verdict-exact : VerdictExact
-unfolding check
-verdict-exact rows = (λ e. to-right rows (none-found rows rowStages e), λ h. found-none rows rowStages (from-right rows h))
+verdict-exact rows = (
+  λ e. to-right rows (none-found rows (numbersFault ∷ rowStages) (sym (check-stages rows) ∙ e)),
+  λ h. check-stages rows ∙ found-none rows (numbersFault ∷ rowStages) (from-right rows h),
+)
 
 pub refusal-least : RefusalLeast
-unfolding check
-refusal-least rows number place =
-    (λ e. to-refused rows (number, place) (first-found rows rowStages (number, place) e), λ h. found-first rows rowStages (number, place) (from-refused rows h))
+refusal-least rows number place = (
+  λ e. to-refused rows (number, place) (first-found rows (numbersFault ∷ rowStages) (number, place) (sym (check-stages rows) ∙ e)),
+  λ h. check-stages rows ∙ found-first rows (numbersFault ∷ rowStages) (number, place) (from-refused rows h),
+)
 
 pub one-tree-of-rows : OneTreeOfRows
 unfolding WellPlaced Placed OneTree

@@ -1,7 +1,7 @@
 -- The demands about calls: what a reader of a public entry's contract (`reply`, `replyToBytes`) may conclude from an answer, as types.
 use mathlib.Core.Path.{_≡_}
 use mathlib.Core.Logic.{_≢_, _↔_}
-use mathlib.Core.Bool.{false}
+use mathlib.Core.Bool.{true, false}
 use mathlib.Core.Option.{none, some}
 use mathlib.Core.List.{List, _∷_, _++_, List·Memᴰ}
 use Prim.Native.Nat.{ℕ, _<_, _≤_}
@@ -16,14 +16,35 @@ use Rattle.meaning.specs.State.{State, program}
 use Rattle.meaning.specs.Labels.{Label}
 use Rattle.meaning.specs.Sheet.{sheetFault, readings}
 use Rattle.meaning.specs.Buffers.{Buffers, tooShort, encode}
-use Rattle.meaning.specs.Answers.{Task, check, reply, replyToBytes}
+use Rattle.meaning.specs.Answers.{Task, check, reply, replyToBytes, Reply}
 use Rattle.meaning.specs.Order.{OrderOf, RestOf, outcomeOf, ChosenOf}
 use Rattle.agreement.specs.Statements.{StepOf}
 use Rattle.agreement.specs.MissingClaims.{Delivers}
 
+-- a call: what it answers and leaves, by the buffers lent to it. The two entries take a task on rows, or a table's bytes
+abbrev pub Call : Type 0
+Call = Buffers → Reply
+
+-- the task on the rows of a table's bytes
+abbrev pub taskOfBytes : List ℕ → List ℕ → List ℕ → ℕ → Task
+taskOfBytes table sheet choices budget = record { rows = rowsOf table; sheet = sheet; choices = choices; budget = budget }
+
 -- "A refusal changes no buffer lent to us"
+abbrev pub Untouched : Call → Type 0
+Untouched call = (b : Buffers) (number place : ℕ) → call b .answer ≡ Refused number place → call b .buffers ≡ b
+
 abbrev pub RefusedUntouched : Type 0
-RefusedUntouched = (t : Task) (b : Buffers) (number place : ℕ) → reply t b .answer ≡ Refused number place → reply t b .buffers ≡ b
+RefusedUntouched = (t : Task) → Untouched (reply t)
+
+abbrev pub RefusedUntouchedBytes : Type 0
+RefusedUntouchedBytes = (table sheet choices : List ℕ) (budget : ℕ) → Untouched (replyToBytes table sheet choices budget)
+
+-- "a lent buffer is too short": refused by 1, whatever else is at fault, faulty bytes included
+abbrev pub RefusesShort : Call → Type 0
+RefusesShort call = (b : Buffers) → tooShort b ≡ true → call b ≡ record { answer = Refused 1 0; buffers = b }
+
+abbrev pub ShortRefused : Type 0
+ShortRefused = ((t : Task) → RefusesShort (reply t)) × ((table sheet choices : List ℕ) (budget : ℕ) → RefusesShort (replyToBytes table sheet choices budget))
 
 -- the answer to a table's bytes is the answer to its rows, or the refusal found in the bytes
 abbrev pub BytesAsRows : Type 0
@@ -31,9 +52,9 @@ BytesAsRows = (table sheet choices : List ℕ) (budget : ℕ) (b : Buffers)
     → (bytesFault table ≡ none → replyToBytes table sheet choices budget b ≡ reply (record { rows = rowsOf table; sheet = sheet; choices = choices; budget = budget }) b)
     × ((f : Refusal) → tooShort b ≡ false → bytesFault table ≡ some f → replyToBytes table sheet choices budget b ≡ record { answer = Refused (f .0) (f .1); buffers = b })
 
--- a call on this task ran, with this outcome and these steps: nothing refuses it, and what it answers and leaves is that of one order of
+-- a call on this task ran, with this reply, outcome and steps: nothing refuses it, and what it answers and leaves is that of one order of
 -- steps, the one that its choices pick, up to rest or its budget
-pub record RanAs (t : Task) (b : Buffers) (outcome : Outcome) (steps : ℕ) : Type 0 where
+pub record RanAs (t : Task) (b : Buffers) (r : Reply) (outcome : Outcome) (steps : ℕ) : Type 0 where
   pub buffers-long : tooShort b ≡ false
   pub table-accepted : check (t .rows) ≡ none
   pub sheet-accepted : sheetFault (t .rows) (t .sheet) ≡ none
@@ -44,22 +65,40 @@ pub record RanAs (t : Task) (b : Buffers) (outcome : Outcome) (steps : ℕ) : Ty
   pub chosen : ChosenOf (t .rows) (readings (t .rows) (t .sheet)) (t .choices) labels end
   pub steps-taken : length labels ≡ steps
   pub steps-within : steps ≤ t .budget
-  pub left : reply t b .buffers ≡ encode (t .rows) end b
+  pub left : r .buffers ≡ encode (t .rows) end b
   -- "rest is reported exactly if none is allowed"
   pub rest-exactly : (outcome ≢ Spent) ↔ RestOf (t .rows) (readings (t .rows) (t .sheet)) end
   pub rest-outcome : RestOf (t .rows) (readings (t .rows) (t .sheet)) end → outcome ≡ outcomeOf (t .rows) end
   pub spent-exactly : (outcome ≡ Spent) ↔ ((steps ≡ t .budget) × ((x : Label) × ((s : State) × StepOf (t .rows) (readings (t .rows) (t .sheet)) end x s)))
 
 -- demand 2 about calls: every answered run is that of an order of allowed steps
+abbrev pub RunsOrder : Call → Task → Type 0
+RunsOrder call t = (b : Buffers) (outcome : Outcome) (steps : ℕ) → call b .answer ≡ Ran outcome steps → RanAs t b (call b) outcome steps
+
 abbrev pub RunAnswered : Type 0
-RunAnswered = (t : Task) (b : Buffers) (outcome : Outcome) (steps : ℕ) → reply t b .answer ≡ Ran outcome steps → RanAs t b outcome steps
+RunAnswered = (t : Task) → RunsOrder (reply t) t
+
+abbrev pub RunAnsweredBytes : Type 0
+RunAnsweredBytes = (table sheet choices : List ℕ) (budget : ℕ) → RunsOrder (replyToBytes table sheet choices budget) (taskOfBytes table sheet choices budget)
+
+-- and the bytes of a table that ran are not refused
+abbrev pub RanUnrefused : Type 0
+RanUnrefused = (table sheet choices : List ℕ) (budget : ℕ) (b : Buffers) (outcome : Outcome) (steps : ℕ)
+    → replyToBytes table sheet choices budget b .answer ≡ Ran outcome steps → bytesFault table ≡ none
 
 -- demand 2 about calls: "Every step so allowed can be chosen": every order of at most 65,536 steps is that of a call with some 16-bit choices
+abbrev pub TakesOrder : (List ℕ → ℕ → Call) → List ℤ → List ℕ → Type 0
+TakesOrder call rows sheet = (l : List Label) (s : State) → OrderOf rows (readings rows sheet) l s → length l ≤ maxBudget → (b : Buffers) → tooShort b ≡ false
+    → (choices : List ℕ) × ((c : ℕ) → List·Memᴰ c choices → c < 65536)
+    × ((outcome : Outcome) × (call choices (length l) b ≡ record { answer = Ran outcome (length l); buffers = encode rows s b }))
+
 abbrev pub OrderAnswered : Type 0
 OrderAnswered = (rows : List ℤ) (sheet : List ℕ) → check rows ≡ none → sheetFault rows sheet ≡ none
-    → (l : List Label) (s : State) → OrderOf rows (readings rows sheet) l s → length l ≤ maxBudget → (b : Buffers) → tooShort b ≡ false
-    → (choices : List ℕ) × ((c : ℕ) → List·Memᴰ c choices → c < 65536)
-    × ((outcome : Outcome) × (reply (record { rows = rows; sheet = sheet; choices = choices; budget = length l }) b ≡ record { answer = Ran outcome (length l); buffers = encode rows s b }))
+    → TakesOrder (λ choices budget. reply (record { rows = rows; sheet = sheet; choices = choices; budget = budget })) rows sheet
+
+abbrev pub OrderAnsweredBytes : Type 0
+OrderAnsweredBytes = (table sheet : List ℕ) → bytesFault table ≡ none → check (rowsOf table) ≡ none → sheetFault (rowsOf table) sheet ≡ none
+    → TakesOrder (replyToBytes table sheet) (rowsOf table) sheet
 
 -- a number stands in a cell after an order of steps: one of its steps handed it to that cell
 pub record HandedTo (rows : List ℤ) (sheet : List ℕ) (l : List Label) (i : ℕ) (z : ℤ) : Type 0 where
@@ -73,12 +112,17 @@ pub record HandedTo (rows : List ℤ) (sheet : List ℕ) (l : List Label) (i : �
 
 -- missing stays missing, about calls: after a run a cell's mark is 0 and its number 0, or its mark is 1 and its number was assigned or
 -- input by a step of the order that the run took
+abbrev pub HandedCells : Task → Buffers → Reply → Outcome → ℕ → Type 0
+HandedCells t b r outcome steps = (run : RanAs t b r outcome steps) × ((i : ℕ) → i < maxCells
+    → let m = getD (r .buffers .marks) i 0 in
+    let z = getD (r .buffers .cells) i (pos 0) in
+    (m ≢ 0 → (m ≡ 1) × HandedTo (t .rows) (t .sheet) (run .labels) i z) × (m ≡ 0 → z ≡ pos 0))
+
+abbrev pub KeepsMissing : Call → Task → Type 0
+KeepsMissing call t = (b : Buffers) (outcome : Outcome) (steps : ℕ) → call b .answer ≡ Ran outcome steps → HandedCells t b (call b) outcome steps
+
 abbrev pub MissingAnswered : Type 0
-MissingAnswered = (t : Task) (b : Buffers) (outcome : Outcome) (steps : ℕ) → reply t b .answer ≡ Ran outcome steps
-    → (l : List Label) × ((s : State) × OrderOf (t .rows) (readings (t .rows) (t .sheet)) l s
-    × ChosenOf (t .rows) (readings (t .rows) (t .sheet)) (t .choices) l s × (length l ≡ steps)
-    × (reply t b .buffers ≡ encode (t .rows) s b)
-    × ((i : ℕ) → i < maxCells
-    → let m = getD (reply t b .buffers .marks) i 0 in
-    let z = getD (reply t b .buffers .cells) i (pos 0) in
-    (m ≢ 0 → (m ≡ 1) × HandedTo (t .rows) (t .sheet) l i z) × (m ≡ 0 → z ≡ pos 0)))
+MissingAnswered = (t : Task) → KeepsMissing (reply t) t
+
+abbrev pub MissingAnsweredBytes : Type 0
+MissingAnsweredBytes = (table sheet choices : List ℕ) (budget : ℕ) → KeepsMissing (replyToBytes table sheet choices budget) (taskOfBytes table sheet choices budget)

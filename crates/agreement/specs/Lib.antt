@@ -7,3 +7,5 @@ pub mod Coherence
 pub mod CallClaims
 pub mod ValueClaims
 pub mod ChoiceClaims
+pub mod RefusalClaims
+pub mod BufferClaims

@@ -5,7 +5,7 @@ use mathlib.Core.Logic.{_⊎_, _↔_, _≢_}
 use mathlib.Core.Bool.{false}
 use mathlib.Core.Option.{none, some}
 use mathlib.Core.List.{List, [], _∷_, _++_, List·Memᴰ}
-use Prim.Native.Nat.{ℕ, zero, suc, _+_, _<_, _≤_}
+use Prim.Native.Nat.{ℕ, _+_, _<_, _≤_}
 use lib.IntN.{ℤ, pos}
 use lib.ListN.{length, getD, take as front}
 use Rattle.meaning.specs.declared.Value.the-variants.{Number, Missing}
@@ -19,7 +19,7 @@ use Rattle.meaning.specs.Intent.{Sheet, intent}
 use Rattle.meaning.specs.Ready.{Label, own, pass, take, takeFrom, ready, after}
 use Rattle.meaning.specs.Order.{OrderOf}
 use Rattle.meaning.specs.Run.{Result, go}
-use Rattle.meaning.specs.Buffers.{Buffers, sized, mark, numberIn, encode}
+use Rattle.meaning.specs.Buffers.{Buffers, sized, mark, numberIn, encode, decoded}
 use Rattle.meaning.specs.Answers.{check}
 use Rattle.meaning.specs.Printing.{Line, line, var, runLines, valueBytes}
 use Rattle.meaning.specs.Step.{channelOf, Holds, Refuted, Complete, AllComplete, Lacks, Inner, Host, Sends, Live, becomes, effect, Leaves, Step}
@@ -161,17 +161,6 @@ UnsetLacks = (cells : List Message) (a : Action) → Lacks cells a 1 ↔ ActionN
 abbrev pub UnsetStops : Type 0
 UnsetStops = (rows : List ℤ) (sheet : Sheet) (s : State) (r : ℕ) (a : Action) → Live (program rows) s r a → ActionNeedsUnset (s .store .cells) a → OnlyStops rows sheet s r 1
 
--- a cell by its mark and its stored number: none where the mark is 0, whatever is stored
-abbrev pub decodedCell : ℕ → ℤ → Message
-decodedCell zero z = none
-decodedCell (suc m) z = some z
-
--- the cells that an array of marks and an array of numbers stand for
-abbrev pub decoded : List ℕ → List ℤ → List Message
-decoded [] zs = []
-decoded (m ∷ ms) [] = []
-decoded (m ∷ ms) (z ∷ zs) = decodedCell m z ∷ decoded ms zs
-
 -- cell by cell, the lent buffers hold the mark of the cell and its number
 abbrev pub EncodedCells : Type 0
 EncodedCells = (rows : List ℤ) (s : State) (b : Buffers) (i : ℕ) → i < maxCells
@@ -180,10 +169,10 @@ EncodedCells = (rows : List ℤ) (s : State) (b : Buffers) (i : ℕ) → i < max
 -- the lent buffers stand for the cells: filled up with unset ones to the limit; and just these, at their number
 abbrev pub EncodedDecodes : Type 0
 EncodedDecodes = (rows : List ℤ) (s : State) (b : Buffers)
-    → (decoded (front maxCells (encode rows s b .marks)) (front maxCells (encode rows s b .cells)) ≡ sized maxCells none (s .store .cells))
+    → (decoded (front maxCells (encode rows s b .cells)) (front maxCells (encode rows s b .marks)) ≡ sized maxCells none (s .store .cells))
     × (length (s .store .cells) ≤ maxCells
     → let n = length (s .store .cells) in
-    decoded (front n (encode rows s b .marks)) (front n (encode rows s b .cells)) ≡ s .store .cells)
+    decoded (front n (encode rows s b .cells)) (front n (encode rows s b .marks)) ≡ s .store .cells)
 
 -- two arrays of numbers that are equal wherever the mark is not 0
 abbrev pub AgreeWhereSet : List ℕ → List ℤ → List ℤ → Type 0
@@ -191,11 +180,11 @@ AgreeWhereSet marks v w = (length v ≡ length w) × ((i : ℕ) → getD marks i
 
 -- they stand for the same cells: the number stored for an unset cell is never looked at
 abbrev pub StoredZeroUnseen : Type 0
-StoredZeroUnseen = (marks : List ℕ) (v w : List ℤ) → AgreeWhereSet marks v w → decoded marks v ≡ decoded marks w
+StoredZeroUnseen = (marks : List ℕ) (v w : List ℤ) → AgreeWhereSet marks v w → decoded v marks ≡ decoded w marks
 
 -- a state whose cells are given by marks and numbers
 abbrev pub stateWith : List ℕ → List ℕ → List ℤ → List ℕ → List (List Message) → State
-stateWith states marks v places outputs = record { states = states; store = record { cells = decoded marks v; places = places; outputs = outputs } }
+stateWith states marks v places outputs = record { states = states; store = record { cells = decoded v marks; places = places; outputs = outputs } }
 
 -- so every value, intent, list of ready steps, step and run from them is the same
 abbrev pub SameAnswers : Type 0

@@ -12,6 +12,7 @@ use Rattle.meaning.specs.Step.{Step}
 use Rattle.meaning.specs.Order.{OrderOf, RestOf}
 use Rattle.meaning.specs.Sheet.{sheetFault, readings}
 use Rattle.meaning.specs.Answers.{check}
+use Rattle.agreement.specs.Statements.{NoAlt}
 
 -- an order of a table on a sheet, of two steps or more, that comes to rest
 pub record LongOrder (rows : List ℤ) (sheet : List ℕ) : Type 0 where
@@ -21,12 +22,13 @@ pub record LongOrder (rows : List ℤ) (sheet : List ℕ) : Type 0 where
   pub order : OrderOf rows (readings rows sheet) labels end
   pub rest : RestOf rows (readings rows sheet) end
 
--- an accepted table and sheet with two different orders of length at least 2 that both come to rest
+-- an accepted table without ALT and a sheet, as demand 3 asks, with two different orders of length at least 2 that both come to rest
 pub record TwoOrders : Type 0 where
   pub rows : List ℤ
   pub sheet : List ℕ
   pub table-accepted : check rows ≡ none
   pub sheet-accepted : sheetFault rows sheet ≡ none
+  pub without-alt : NoAlt rows
   pub one : LongOrder rows sheet
   pub two : LongOrder rows sheet
   pub differ : one .labels ≢ two .labels

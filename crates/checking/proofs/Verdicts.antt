@@ -1,17 +1,18 @@
 -- The verdict on rows and on bytes: the refusal of the stages before, or that of the stage that follows.
-use mathlib.Core.Path.{_≡_, refl, sym, ap}
+use mathlib.Core.Path.{_≡_, refl, _∙_}
 use mathlib.Core.List.{List, [], _∷_}
 use mathlib.Core.Option.{Option, none, some}
 use Prim.Native.Nat.{ℕ, _≤_}
 use lib.IntN.{ℤ}
 use Rattle.meaning.specs.PrintedForms.{Each, each-none, each-more}
 use Rattle.meaning.specs.Rows.{rowCount}
-use Rattle.meaning.specs.TableBytes.{Refusal, bytesFault, rowsOf, numbersFault}
+use Rattle.meaning.specs.TableBytes.{bytesFault, rowsOf, numbersFault}
 use Rattle.meaning.specs.Verdict.{formFault, treeFault, limitFault}
 use Rattle.meaning.specs.Usage.{usageFault}
-use Rattle.meaning.specs.Answers.{Stage, either, firstFault, check, checkBytes, verdictOf}
+use Rattle.meaning.specs.Refusals.{Refusal, Stage, either, firstFault}
+use Rattle.meaning.specs.Answers.{check, checkBytes, verdictOf}
 use Rattle.meaning.specs.declared.Verdict.the-variants.{Rejected}
-use Rattle.meaning.proofs.AnswerLaws.{none-found, or-nothing}
+use Rattle.meaning.proofs.AnswerLaws.{check-stages, check-bytes, none-found, or-nothing}
 use Rattle.agreement.proofs.VerdictStages.{whole-passes}
 
 -- a fifth stage counts where four find nothing
@@ -28,8 +29,8 @@ formStages = numbersFault ∷ formFault ∷ treeFault ∷ limitFault ∷ []
 
 module _ (rows : List ℤ) where
   checked : check rows ≡ either (firstFault formStages rows) (usageFault rows)
-  unfolding check firstFault
-  checked = after-four (numbersFault rows) (formFault rows) (treeFault rows) (limitFault rows) (usageFault rows)
+  unfolding firstFault
+  checked = check-stages rows ∙ after-four (numbersFault rows) (formFault rows) (treeFault rows) (limitFault rows) (usageFault rows)
 
   pub form-refused : (n p : ℕ) → firstFault formStages rows ≡ some (n, p) → Rejected n p ≡ verdictOf (check rows)
   form-refused n p e = rw (checked, e)
@@ -46,9 +47,7 @@ module _ (rows : List ℤ) where
 
 module _ (bytes : List ℕ) where
   pub bytes-refused : (n p : ℕ) → bytesFault bytes ≡ some (n, p) → Rejected n p ≡ verdictOf (checkBytes bytes)
-  unfolding checkBytes firstFault
-  bytes-refused n p e = rw e
+  bytes-refused n p e = rw (check-bytes bytes, e)
 
   pub rows-judged : bytesFault bytes ≡ none → verdictOf (check (rowsOf bytes)) ≡ verdictOf (checkBytes bytes)
-  unfolding checkBytes firstFault
-  rows-judged e = rw e (ap verdictOf (sym (or-nothing (check (rowsOf bytes)))))
+  rows-judged e = rw (check-bytes bytes, e)

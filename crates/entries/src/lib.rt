@@ -1,6 +1,9 @@
 // The run's entries: a table's rows or bytes, a sheet, choices and a budget, and the six lent buffers.
 ghost use mathlib.Core.Path.{_≡_};
 ghost use Rattle.meaning.specs.Answers.{reply, replyToBytes};
+
+pub mod tasks; // tasks.rt: the stages of a call in their order, then the run
+
 use meaning::Answer;
 
 // A run of rows lent as numbers.

@@ -1,24 +1,12 @@
--- The run's state as the machine holds it: the cells that numbers and set marks stand for, and a state with one cell or one place changed.
-use mathlib.Core.Option.{none, some}
-use mathlib.Core.List.{List, [], _∷_}
+-- The run's state as the machine holds it: its cells, and a state with one cell or one place changed.
+use mathlib.Core.List.{List}
 use Prim.Native.Nat.{ℕ, _+_}
-use lib.IntN.{ℤ, pos}
+use lib.IntN.{pos}
 use lib.ListN.{getD, set, replicate}
-use lib.Dec.{eqb}
-use Rattle.meaning.specs.Rows.{ifElse}
 use Rattle.meaning.specs.State.{Message}
 use Rattle.meaning.specs.Buffers.{mark, numberIn}
+pub use Rattle.meaning.specs.Buffers.{cellOf, decoded}
 use Rattle.evaluation.specs.declared.store.State.{State}
-
--- a cell is none where its mark is 0
-abbrev pub cellOf : ℤ → ℕ → Message
-cellOf x m = ifElse (eqb m 0) none (some x)
-
--- the cells that numbers and marks stand for
-abbrev pub decoded : List ℤ → List ℕ → List Message
-decoded [] ms = []
-decoded (x ∷ xs) [] = []
-decoded (x ∷ xs) (m ∷ ms) = cellOf x m ∷ decoded xs ms
 
 -- the cells of a state
 abbrev pub cellsOf : State → List Message

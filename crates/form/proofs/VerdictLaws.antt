@@ -9,7 +9,8 @@ use lib.IntN.{ℤ}
 use lib.ListN.{length}
 use lib.Dec.{T, eqb}
 use borrow.Author.Tests.{eq-eqb, ne-eqb, le-leb, lt-leb}
-use Rattle.meaning.specs.Answers.{Stage, either, firstFault, verdictOf}
+use Rattle.meaning.specs.Refusals.{either, firstFault}
+use Rattle.meaning.specs.Answers.{verdictOf}
 use Rattle.meaning.specs.Basics.{lowest, Lowest}
 use Rattle.meaning.specs.Rows.{rowCount, declarations}
 use Rattle.meaning.specs.TableBytes.{Refusal, numbersFault}

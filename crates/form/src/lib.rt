@@ -1,7 +1,8 @@
 // The form of a table's rows: refusals 3 to 6. Each function is its definition in the crate `meaning`.
 ghost use mathlib.Core.Path.{_≡_};
 ghost use mathlib.Core.List.{[], _∷_};
-ghost use Rattle.meaning.specs.Answers.{firstFault, verdictOf};
+ghost use Rattle.meaning.specs.Refusals.{firstFault};
+ghost use Rattle.meaning.specs.Answers.{verdictOf};
 ghost use Rattle.meaning.specs.Basics.{lowest};
 ghost use Rattle.meaning.specs.Rows.{rowCount, declarations};
 ghost use Rattle.meaning.specs.TableBytes.{numbersFault};

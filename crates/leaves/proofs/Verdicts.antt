@@ -4,7 +4,8 @@ use mathlib.Core.List.{List}
 use mathlib.Core.Option.{none, some}
 use Prim.Native.Nat.{ℕ}
 use Rattle.meaning.specs.TableBytes.{bytesFault, rowsOf}
-use Rattle.meaning.specs.Answers.{firstFault, verdictOf}
+use Rattle.meaning.specs.Refusals.{firstFault}
+use Rattle.meaning.specs.Answers.{verdictOf}
 use Rattle.meaning.specs.declared.Verdict.the-variants.{Rejected}
 use Rattle.meaning.proofs.AnswerLaws.{or-nothing}
 use Rattle.leaves.specs.Leaves.{formStages, formOfBytes}

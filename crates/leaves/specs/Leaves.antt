@@ -11,7 +11,7 @@ use Rattle.meaning.specs.State.{Message}
 use Rattle.meaning.specs.Tree.{partAt}
 use Rattle.meaning.specs.TableBytes.{bytesFault, rowsOf, numbersFault}
 use Rattle.meaning.specs.Verdict.{formFault, treeFault, limitFault}
-use Rattle.meaning.specs.Answers.{Stage, firstFault}
+use Rattle.meaning.specs.Refusals.{Stage, firstFault}
 use Rattle.meaning.specs.Values.{value}
 use Rattle.meaning.specs.declared.Value.{Value}
 use Rattle.meaning.specs.declared.Value.the-variants.{Missing}

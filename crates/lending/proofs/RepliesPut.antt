@@ -12,9 +12,11 @@ use Rattle.meaning.specs.Limits.{maxRows, maxCells, maxPorts, maxCapacity}
 use Rattle.meaning.specs.State.{State}
 use Rattle.meaning.specs.Buffers.{Buffers, mark, numberIn, capacities, strips, sized, lent, encode}
 use Rattle.meaning.specs.TableBytes.{rowsOf}
-use Rattle.meaning.specs.Answers.{Task, Result, Reply, refused, ran, replyOf, unless, bufferFault, result, resultOfBytes, reply, replyToBytes}
+use Rattle.meaning.specs.Stages.{bufferFault}
+use Rattle.meaning.specs.Answers.{Task, Result, Reply, refused, ran, replyOf, unless, result, resultOfBytes, reply, replyToBytes}
 use Rattle.meaning.specs.declared.Outcome.{Outcome}
 use Rattle.meaning.specs.declared.Answer.the-variants.{Refused, Ran}
+use Rattle.meaning.proofs.AnswerLaws.{reply-stages, reply-to-bytes}
 use Rattle.machine.specs.Held.{blank}
 use Rattle.lending.specs.declared.Done.{Done}
 use Rattle.lending.specs.Replies.{past, replyIn, over, putReply, anyShort, Long}
@@ -73,21 +75,18 @@ module _ (rows : List ℤ) (b : Buffers) (q : Result) where
 -- a call with a buffer that is too short is refused, whatever its task; else the task's reply is put
 module _ (t : Task) (b : Buffers) (short : Bool) (told : short ≡ shortIn b) where
   pub rows-short : short ≡ true → _≡_ {A = Reply} (record { answer = Refused 1 0; buffers = b }) (reply t b)
-  unfolding reply
-  rows-short e = short-refused (t .rows) b (result t) (sym told ∙ e)
+  rows-short e = short-refused (t .rows) b (result t) (sym told ∙ e) ∙ sym (reply-stages t b)
 
   pub rows-long : (d r : Reply) → short ≡ false → d ≡ replyOf (t .rows) blank (result t) → r ≡ putReply d b → r ≡ reply t b
-  unfolding reply
-  rows-long d r e done put = put ∙ ap (λ (x : Reply). putReply x b) done ∙ long-replies (t .rows) b (result t) (sym told ∙ e)
+  rows-long d r e done put = put ∙ ap (λ (x : Reply). putReply x b) done ∙ long-replies (t .rows) b (result t) (sym told ∙ e) ∙ sym (reply-stages t b)
 
 module _ (table sheet choices : List ℕ) (budget : ℕ) (b : Buffers) (short : Bool) (told : short ≡ shortIn b) where
   pub bytes-short : short ≡ true → _≡_ {A = Reply} (record { answer = Refused 1 0; buffers = b }) (replyToBytes table sheet choices budget b)
-  unfolding replyToBytes
-  bytes-short e = short-refused (rowsOf table) b (resultOfBytes table sheet choices budget) (sym told ∙ e)
+  bytes-short e = short-refused (rowsOf table) b (resultOfBytes table sheet choices budget) (sym told ∙ e) ∙ sym (reply-to-bytes table sheet choices budget b)
 
   pub bytes-long : (d r : Reply) → short ≡ false → d ≡ replyOf (rowsOf table) blank (resultOfBytes table sheet choices budget) → r ≡ putReply d b → r ≡ replyToBytes table sheet choices budget b
-  unfolding replyToBytes
-  bytes-long d r e done put = put ∙ ap (λ (x : Reply). putReply x b) done ∙ long-replies (rowsOf table) b (resultOfBytes table sheet choices budget) (sym told ∙ e)
+  bytes-long d r e done put =
+      put ∙ ap (λ (x : Reply). putReply x b) done ∙ long-replies (rowsOf table) b (resultOfBytes table sheet choices budget) (sym told ∙ e) ∙ sym (reply-to-bytes table sheet choices budget b)
 
 -- no test of six holds
 none-holds : (a b c d e f : Bool) → (a || b || c || d || e || f) ≡ false → (a ≡ false) × (b ≡ false) × (c ≡ false) × (d ≡ false) × (e ≡ false) × (f ≡ false)

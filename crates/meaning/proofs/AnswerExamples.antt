@@ -7,7 +7,7 @@ use lib.IntN.{pos}
 use lib.ListN.{replicate}
 use Rattle.meaning.specs.Texts.{bytes}
 use Rattle.meaning.specs.declared.Answer.the-variants.{Refused, Ran}
-use Rattle.meaning.specs.declared.Outcome.the-variants.{Ended, Stuck, Spent}
+use Rattle.meaning.specs.declared.Outcome.the-variants.{Stuck, Spent}
 use Rattle.meaning.specs.Buffers.{Buffers}
 use Rattle.meaning.specs.Answers.{Reply, reply, replyToBytes}
 use Rattle.meaning.proofs.ComputesAnswers.{computesAnswers}
@@ -27,12 +27,10 @@ answers :
     × (call "20,0,0,0\n" "" 65537 256 .answer ≡ Refused 10 1)
     × (call "20,0,0,0\n" "\n" 65537 256 .answer ≡ Refused 11 0)
     × (call "20,0,0,0\n" "\n" 65536 256 .answer ≡ Ran Stuck 0)
-    -- an empty PAR with budget 0 is ended
-    × (call "31,-1,0,0\n" "\n" 0 256 .answer ≡ Ran Ended 0)
     -- WHILE 1 SKIP is spent
     × (call "33,1,2,0\n10,1,0,0\n21,0,0,0\n" "\n" 3 256 .answer ≡ Ran Spent 3)
 unfolding computesAnswers
-answers = (refl, refl, refl, refl, refl, refl, refl)
+answers = (refl, refl, refl, refl, refl, refl)
 
 -- rows lent as numbers
 numbers :

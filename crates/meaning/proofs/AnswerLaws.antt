@@ -1,21 +1,101 @@
--- A refusal is that of the first stage that finds a fault; a table is accepted if every row is right in every stage.
+-- A refusal is that of the first stage that finds a fault; a table is accepted if every row is right in every stage; verdicts, results
+-- and replies by their stages.
 use mathlib.Core.Path.{_≡_, refl, sym, ap, ap₂, _∙_}
 use mathlib.Core.Logic.{_↔_}
-use mathlib.Core.List.{List, [], _∷_}
+use mathlib.Core.List.{List, [], _∷_, _++_, map}
 use mathlib.Core.Option.{Option, none, some, Option·map, Option·none-ne-some, Option·some-ne-none}
 use Prim.Native.Nat.{ℕ, suc, _<_}
 use native.Mathlib.Omega.{arith}
 use lib.IntN.{ℤ}
+use Rattle.meaning.specs.Limits.{maxBudget}
 use Rattle.meaning.specs.declared.Verdict.the-variants.{Accepted, Rejected}
 use Rattle.meaning.specs.Rows.{rowCount, declarations}
-use Rattle.meaning.specs.TableBytes.{Refusal, numbersFault}
+use Rattle.meaning.specs.TableBytes.{bytesFault, rowsOf, numbersFault}
 use Rattle.meaning.specs.Verdict.{formFault, treeFault, limitFault}
 use Rattle.meaning.specs.Usage.{usageFault}
-use Rattle.meaning.specs.Answers.{Stage, either, firstFault, rowStages, check, verdictOf}
+use Rattle.meaning.specs.Sheet.{sheetFault, readings}
+use Rattle.meaning.specs.Buffers.{Buffers}
+use Rattle.meaning.specs.Run.{run}
+use Rattle.meaning.specs.Refusals.{Refusal, Stage, either, firstFault}
+use Rattle.meaning.specs.Stages.{Limits, limits, Call, onTable, bufferFault, budgetFault, lentStages, rowStages, tableStages, callStages}
+use Rattle.meaning.specs.Answers.{tableFault, check, checkBytes, verdictOf, Result, ran, unless, runOf, resultOf, Task, onRows, onBytes, result, resultOfBytes, replyOf, reply, replyToBytes}
 use Rattle.meaning.specs.PrintedForms.{Each, each-none, each-more}
 use Rattle.meaning.specs.Faults.{LowestWrong, Finds, WellFormed, WellPlaced, WithinLimits, FormStage, TreeStage, LimitStage}
 use Rattle.meaning.proofs.FaultLaws.{form-stage, limit-stage}
 use Rattle.meaning.proofs.TreeLaws.{tree-stage}
+
+-- nothing is looked at after the last stage
+pub or-nothing : (o : Option Refusal) → either o none ≡ o
+or-nothing none = refl
+or-nothing (some f) = refl
+
+-- of three the first counts, however they are put together
+pub either-joined : (a b c : Option Refusal) → either (either a b) c ≡ either a (either b c)
+either-joined none b c = refl
+either-joined (some f) b c = refl
+
+-- a result that the first of two refuses, or else the second
+pub unless-either : (a b : Option Refusal) (r : Result) → unless (either a b) r ≡ unless a (unless b r)
+unless-either none b r = refl
+unless-either (some f) b r = refl
+
+-- two parts of a list of stages
+pub first-of-both : {A : Type 0} (x : A) (ss ts : List (Stage A)) → firstFault (ss ++ ts) x ≡ either (firstFault ss x) (firstFault ts x)
+unfolding firstFault
+first-of-both x [] ts = refl
+first-of-both x (s ∷ ss) ts = ap (either (s x)) (first-of-both x ss ts) ∙ sym (either-joined (s x) (firstFault ss x) (firstFault ts x))
+
+-- stages that look at a part of what is given
+pub first-in-part : {A B : Type 0} (part : A → B) (x : A) (ss : List (Stage B)) → firstFault (map (λ (s : Stage B). λ y. s (part y)) ss) x ≡ firstFault ss (part x)
+unfolding firstFault
+first-in-part part x [] = refl
+first-in-part part x (s ∷ ss) = ap (either (s (part x))) (first-in-part part x ss)
+
+-- the verdict on rows, stage by stage
+pub check-stages : (rows : List ℤ) → check rows ≡ firstFault (numbersFault ∷ rowStages) rows
+unfolding check firstFault
+check-stages rows = refl
+
+-- the verdict on bytes: that of the bytes, then that on their rows
+pub check-bytes : (table : List ℕ) → checkBytes table ≡ either (bytesFault table) (check (rowsOf table))
+unfolding checkBytes check firstFault
+check-bytes table = refl
+
+-- the result of a call, part by part: the lent buffers, the table, what else is given, or else the run
+pub call-stages : (l : Limits) (c : Call)
+    → resultOf l c ≡ unless (firstFault lentStages c) (unless (tableFault (c .table)) (unless (firstFault (callStages l) c) (ran (runOf c))))
+call-stages l c =
+    parts lentStages (map onTable tableStages ++ callStages l) (ran (runOf c))
+    ∙ ap (unless (firstFault lentStages c)) (parts (map onTable tableStages) (callStages l) (ran (runOf c)))
+    ∙ ap (λ (o : Option Refusal). unless (firstFault lentStages c) (unless o (unless (firstFault (callStages l) c) (ran (runOf c))))) (first-in-part (λ (d : Call). d .table) c tableStages)
+  where
+    parts : (ss ts : List (Stage Call)) (r : Result) → unless (firstFault (ss ++ ts) c) r ≡ unless (firstFault ss c) (unless (firstFault ts c) r)
+    parts ss ts r = ap (λ (o : Option Refusal). unless o r) (first-of-both c ss ts) ∙ unless-either (firstFault ss c) (firstFault ts c) r
+
+-- the result of a task: the refusal of the table, then of the sheet, then of the budget, or else the run
+pub result-stages : (t : Task) → result t ≡ unless (check (t .rows)) (unless (sheetFault (t .rows) (t .sheet)) (unless (budgetFault maxBudget (t .budget)) (ran (run (t .rows) (readings (t .rows) (t .sheet)) (t .choices) (t .budget)))))
+unfolding result check firstFault
+result-stages t =
+    let r = ran (runOf (onRows t none)) in
+    call-stages limits (onRows t none)
+    ∙ ap (unless (check (t .rows))) (unless-either (sheetFault (t .rows) (t .sheet)) (either (budgetFault maxBudget (t .budget)) none) r)
+    ∙ ap (λ (o : Option Refusal). unless (check (t .rows)) (unless (sheetFault (t .rows) (t .sheet)) (unless o r))) (or-nothing (budgetFault maxBudget (t .budget)))
+
+-- of a task whose table is bytes: the refusal of the bytes, or else the result of the task with their rows
+pub result-of-bytes : (table sheet choices : List ℕ) (budget : ℕ)
+    → resultOfBytes table sheet choices budget ≡ unless (bytesFault table) (result (record { rows = rowsOf table; sheet = sheet; choices = choices; budget = budget }))
+unfolding result resultOfBytes firstFault
+result-of-bytes table sheet choices budget = unless-either (bytesFault table) _ (ran (runOf (onBytes table sheet choices budget none)))
+
+-- a reply: the refusal of the lent buffers, or else the result
+pub reply-stages : (t : Task) (b : Buffers) → reply t b ≡ replyOf (t .rows) b (unless (bufferFault b) (result t))
+unfolding reply result firstFault
+reply-stages t b = ap (replyOf (t .rows) b) (unless-either (bufferFault b) _ (ran (runOf (onRows t none))))
+
+pub reply-to-bytes : (table sheet choices : List ℕ) (budget : ℕ) (b : Buffers)
+    → replyToBytes table sheet choices budget b ≡ replyOf (rowsOf table) b (unless (bufferFault b) (resultOfBytes table sheet choices budget))
+unfolding replyToBytes resultOfBytes firstFault
+reply-to-bytes table sheet choices budget b = ap (replyOf (rowsOf table) b) (unless-either (bufferFault b) _ (ran (runOf (onBytes table sheet choices budget none))))
 
 -- the first stage that finds a fault finds this one
 pub data First {A : Type 0} (x : A) (f : Refusal) : List (Stage A) → Type 0 where
@@ -71,8 +151,8 @@ RightRows rows =
 
 -- "A table is accepted if these rules refuse nothing in it"
 pub accepted : (rows : List ℤ) → (check rows ≡ none) ↔ RightRows rows
-unfolding check FormStage TreeStage LimitStage
-accepted rows = (λ e. to (none-found rows rowStages e), λ h. found-none rows rowStages (from h))
+unfolding FormStage TreeStage LimitStage
+accepted rows = (λ e. to (none-found rows (numbersFault ∷ rowStages) (sym (check-stages rows) ∙ e)), λ h. check-stages rows ∙ found-none rows (numbersFault ∷ rowStages) (from h))
   where
     form : (formFault rows ≡ none) ↔ ((r : ℕ) → r < rowCount rows → WellFormed rows r)
     form = finds-none 4 (WellFormed rows) (rowCount rows) (formFault rows) (form-stage rows)
@@ -83,10 +163,10 @@ accepted rows = (λ e. to (none-found rows rowStages e), λ h. found-none rows r
     limit : (limitFault rows ≡ none) ↔ ((r : ℕ) → r < declarations rows → WithinLimits rows r)
     limit = finds-none 6 (WithinLimits rows) (declarations rows) (limitFault rows) (limit-stage rows)
 
-    to : Each (λ (s : Stage (List ℤ)). s rows ≡ none) rowStages → RightRows rows
+    to : Each (λ (s : Stage (List ℤ)). s rows ≡ none) (numbersFault ∷ rowStages) → RightRows rows
     to (each-more a (each-more b (each-more c (each-more d (each-more e each-none))))) = (a, form .0 b, tree .0 c, limit .0 d, e)
 
-    from : RightRows rows → Each (λ (s : Stage (List ℤ)). s rows ≡ none) rowStages
+    from : RightRows rows → Each (λ (s : Stage (List ℤ)). s rows ≡ none) (numbersFault ∷ rowStages)
     from h = each-more (h .0) (each-more (form .1 (h .1)) (each-more (tree .1 (h .2)) (each-more (limit .1 (h .3)) (each-more (h .4) each-none))))
 
 -- what a verdict says of the refusal
@@ -100,8 +180,3 @@ rejected-some (some f) n p e =
     let i : f .0 ≡ n = cc in
     let j : f .1 ≡ p = cc in
     ap₂ (λ (a b : ℕ). some (a, b)) i j
-
--- nothing is looked at after the last stage
-pub or-nothing : (o : Option Refusal) → either o none ≡ o
-or-nothing none = refl
-or-nothing (some f) = refl

@@ -9,7 +9,9 @@ use Rattle.meaning.specs.Kinds.{shapes, shapeIn, shapeOf}
 use Rattle.meaning.specs.Verdict.{holds, formFault, leads, target, targetsBelow, occurrences, treeFault, limitFault}
 use Rattle.meaning.specs.Sheet.{joined, sheetHeader, reading, valuesOf, sheetFault, columns, readings}
 use Rattle.meaning.specs.Buffers.{sized, lent, strips, encode}
-use Rattle.meaning.specs.Answers.{firstFault, budgetFault, bufferFault, check, checkBytes, result, resultOfBytes, reply, replyToBytes}
+use Rattle.meaning.specs.Refusals.{firstFault}
+use Rattle.meaning.specs.Stages.{budgetFault, bufferFault}
+use Rattle.meaning.specs.Answers.{check, checkBytes, result, resultOfBytes, reply, replyToBytes}
 use Rattle.meaning.specs.Printing.{numbered, cellLines, outLines, stopLines, answerLine, runLines, wordBytes, lineBytes, page}
 use Rattle.meaning.specs.Runner.{tablePart, sheetPart, runner}
 

@@ -14,7 +14,6 @@ pub mod ReadLaws
 pub mod ReferenceCounts
 pub mod RefusalExamples
 pub mod RowLaws
-pub mod RunnerExamples
 pub mod RunnerLaws
 pub mod ScanLaws
 pub mod SheetLaws
@@ -25,3 +24,8 @@ pub mod Marked
 pub mod LowestLaws
 pub mod HigherRows
 pub mod FirstLine
+pub mod LentLaws
+pub mod LineIsLaws
+pub mod LineFaults
+pub mod BytesRefused
+pub mod SheetRefused

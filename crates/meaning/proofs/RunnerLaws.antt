@@ -16,16 +16,17 @@ use Rattle.meaning.specs.Limits.{maxTable, maxSheet, maxBudget}
 use Rattle.meaning.specs.Texts.{lineFeed}
 use Rattle.meaning.specs.Basics.{ifElse, concat, lowestFrom, lowest}
 use Rattle.meaning.specs.Lines.{onto, lines, ending, text, same}
-use Rattle.meaning.specs.TableBytes.{Refusal, bytesFault, rowsOf, overlong, malformed, oneTooMany, refusalAt}
+use Rattle.meaning.specs.TableBytes.{bytesFault, rowsOf, overlong, malformed, oneTooMany, refusalAt}
 use Rattle.meaning.specs.Declarations.{channels}
-use Rattle.meaning.specs.Sheet.{misread, sheetFault, readings}
-use Rattle.meaning.specs.Answers.{Result, refused, ran, Task, either, firstFault, check, budgetFault, unless, result, resultOfBytes}
-use Rattle.meaning.specs.Run.{run}
+use Rattle.meaning.specs.Sheet.{misread, sheetFault}
+use Rattle.meaning.specs.Refusals.{Refusal}
+use Rattle.meaning.specs.Answers.{Result, refused, Task, check, unless, result, resultOfBytes}
 use Rattle.meaning.specs.Printing.{lineBytes, refusedLine}
 use Rattle.meaning.specs.Runner.{separator, tablePart, sheetPart, printedResult, runner, enough, Bounded}
 use Rattle.meaning.specs.PrintedForms.{Each, each-none, each-more}
 use Rattle.meaning.proofs.LineLaws.{Plain, whole-line, concat-lines}
 use Rattle.meaning.proofs.NoFault.{same-is}
+use Rattle.meaning.proofs.AnswerLaws.{result-stages, result-of-bytes}
 
 -- Lists -------------------------------------------------------------------------------------------------------------------------
 
@@ -194,14 +195,8 @@ sheet-long rows S h =
     ap (Option·map (λ L. (10, L))) (at-once (misread (ltb maxSheet (length S)) (channels rows 1) (lines S)) (length (lines S)) (lt-ltb maxSheet (length S) h))
 
 -- a task with a sheet that is too long is refused whatever the sheet
-long-refused : (t : Task) → maxSheet < length (t .sheet) → result t ≡ unless (either (check (t .rows)) (some (10, 0))) (refused (10, 0))
-unfolding result firstFault
-long-refused t h = go (check (t .rows)) (ran (run (t .rows) (readings (t .rows) (t .sheet)) (t .choices) (t .budget))) (sheet-long (t .rows) (t .sheet) h)
-  where
-    go : (o : Option Refusal) (r : Result) → sheetFault (t .rows) (t .sheet) ≡ some (10, 0)
-        → unless (either o (either (sheetFault (t .rows) (t .sheet)) (either (budgetFault maxBudget (t .budget)) none))) r ≡ unless (either o (some (10, 0))) (refused (10, 0))
-    go none r e = ap (λ (q : Option Refusal). unless (either q (either (budgetFault maxBudget (t .budget)) none)) r) e
-    go (some f) r e = refl
+long-refused : (t : Task) → maxSheet < length (t .sheet) → result t ≡ unless (check (t .rows)) (refused (10, 0))
+long-refused t h = result-stages t ∙ rw (sheet-long (t .rows) (t .sheet) h)
 
 -- what is printed for a table and a sheet
 prints : List ℕ → List ℕ → List ℕ
@@ -211,12 +206,15 @@ abbrev task : List ℕ → List ℕ → Task
 task T S = record { rows = rowsOf T; sheet = S; choices = []; budget = maxBudget }
 
 long-table : (T S : List ℕ) → maxTable < length T → prints T S ≡ lineBytes (refusedLine (2, 0))
-unfolding prints resultOfBytes
-long-table T S h = ap (λ (o : Option Refusal). printedResult (rowsOf T) (unless o (result (task T S)))) (too-long T h)
+unfolding prints
+long-table T S h = ap (printedResult (rowsOf T)) (result-of-bytes T S [] maxBudget) ∙ rw (too-long T h)
 
 long-sheet : (T S R : List ℕ) → maxSheet < length S → maxSheet < length R → prints T S ≡ prints T R
-unfolding prints resultOfBytes
-long-sheet T S R g h = ap (λ (r : Result). printedResult (rowsOf T) (unless (bytesFault T) r)) (long-refused (task T S) g ∙ sym (long-refused (task T R) h))
+unfolding prints
+long-sheet T S R g h =
+    ap (printedResult (rowsOf T)) (result-of-bytes T S [] maxBudget)
+    ∙ ap (λ (r : Result). printedResult (rowsOf T) (unless (bytesFault T) r)) (long-refused (task T S) g ∙ sym (long-refused (task T R) h))
+    ∙ ap (printedResult (rowsOf T)) (sym (result-of-bytes T R [] maxBudget))
 
 same-print : (T S T′ S′ : List ℕ) → Cut enough T S T′ S′ → prints T′ S′ ≡ prints T S
 same-print T S T′ S′ (inl h) = ap₂ prints (h .0) (h .1 .1) ∙ go (decLt maxTable (length T)) (decLt (h .1 .0) (length S))

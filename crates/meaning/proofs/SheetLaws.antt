@@ -54,17 +54,17 @@ reading-form (b ∷ bs) v e = go (number (b ∷ bs)) refl e
 abbrev valueLine : List (Option ℤ) → List ℕ
 valueLine v = written (map readingBytes v)
 
-values-read : (k : ℕ) (v : List (Option ℤ)) → 0 < k → IsValues k v → valuesOf k (valueLine v) ≡ some v
+pub values-read : (k : ℕ) (v : List (Option ℤ)) → 0 < k → IsValues k v → valuesOf k (valueLine v) ≡ some v
 unfolding valuesOf
 values-read k [] p h = absurd (let e = h .0 in omega arith)
 values-read k (a ∷ v) p h = line-reads reading readingBytes IsReading reading-inner reading-back reading-form k a v (h .0) (h .1)
 
-values-form : (k : ℕ) (l : List ℕ) (v : List (Option ℤ)) → valuesOf k l ≡ some v → (l ≡ valueLine v) × IsValues k v
+pub values-form : (k : ℕ) (l : List ℕ) (v : List (Option ℤ)) → valuesOf k l ≡ some v → (l ≡ valueLine v) × IsValues k v
 unfolding valuesOf
 values-form k l v e = line-form reading readingBytes IsReading reading-inner reading-back reading-form k l v e
 
 -- with no channel there is no line of values
-no-values : (l : List ℕ) (v : List (Option ℤ)) → valuesOf 0 l ≡ some v → ⊥
+pub no-values : (l : List ℕ) (v : List (Option ℤ)) → valuesOf 0 l ≡ some v → ⊥
 unfolding valuesOf readLine text fields allSome reading written
 no-values l v e = go v (values-form 0 l v e .0) (values-form 0 l v e .1 .0)
   where

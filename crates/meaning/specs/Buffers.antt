@@ -1,11 +1,11 @@
 -- What a run leaves, and how it stands in the six lent buffers.
 use mathlib.Core.Bool.{Bool, _||_}
 use mathlib.Core.List.{List, [], _∷_, _++_, map}
-use mathlib.Core.Option.{Option·getD}
+use mathlib.Core.Option.{none, some, Option·getD}
 use Prim.Native.Nat.{ℕ}
 use lib.IntN.{ℤ, pos}
 use lib.ListN.{length, take, drop, replicate}
-use lib.Dec.{ltb}
+use lib.Dec.{ltb, eqb}
 use Rattle.meaning.specs.Limits.{maxRows, maxCells, maxPorts, maxCapacity}
 use Rattle.meaning.specs.Basics.{ifElse, isSome}
 use Rattle.meaning.specs.Declarations.{capacityAt}
@@ -47,6 +47,16 @@ mark c = ifElse (isSome c) 1 0
 -- an unset cell holds 0
 abbrev pub numberIn : Message → ℤ
 numberIn c = Option·getD c (pos 0)
+
+-- a cell by its stored number and its mark: none where the mark is 0, whatever is stored
+abbrev pub cellOf : ℤ → ℕ → Message
+cellOf x m = ifElse (eqb m 0) none (some x)
+
+-- the cells that numbers and set marks stand for
+abbrev pub decoded : List ℤ → List ℕ → List Message
+decoded [] ms = []
+decoded (x ∷ xs) [] = []
+decoded (x ∷ xs) (m ∷ ms) = cellOf x m ∷ decoded xs ms
 
 -- the capacities of the output channels, in row order
 abbrev pub capacities : List ℤ → List ℕ

@@ -3,7 +3,8 @@
 pub mod Basics
 pub mod Texts
 pub mod Limits
--- The table: numbers and lines, refusals 2 and 3, rows, kinds, refusals 4, 5 and 6, the tree
+-- The table: refusals, numbers and lines, refusals 2 and 3, rows, kinds, refusals 4, 5 and 6, the tree
+pub mod Refusals
 pub mod Numerals
 pub mod Lines
 pub mod TableBytes
@@ -28,9 +29,11 @@ pub mod Settle
 pub mod Intent
 pub mod Ready
 pub mod Run
--- Readings and results: refusal 10, the lent buffers, the whole answer
+-- Readings and results: refusal 10, the lent buffers and how they are read back, the stages of a call, the whole answer
 pub mod Sheet
 pub mod Buffers
+pub mod Stages
+pub mod Decode
 pub mod Answers
 -- A run on paper
 pub mod Printing
@@ -38,6 +41,7 @@ pub mod Runner
 pub mod Marked
 -- The same as statements, with no test and no order of looking
 pub mod PrintedForms
+pub mod ByteClaims
 pub mod Faults
 pub mod Clash
 pub mod Accepted

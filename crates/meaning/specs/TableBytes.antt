@@ -11,10 +11,7 @@ use Rattle.meaning.specs.Texts.{bytes}
 use Rattle.meaning.specs.Basics.{ifElse, isSome, concat, lowest}
 use Rattle.meaning.specs.Lines.{lines, readLine, same}
 use Rattle.meaning.specs.Numerals.{number}
-
--- a refusal: its number and its place
-abbrev pub Refusal : Type 0
-Refusal = ℕ × ℕ
+pub use Rattle.meaning.specs.Refusals.{Refusal}
 
 -- "The first line is `kind,a,b,c`"
 abbrev pub header : List ℕ

@@ -8,7 +8,7 @@ use lib.ListN.{length}
 use borrow.Author.Tests.{lt-ltb, le-ltb}
 use Rattle.meaning.specs.TableBytes.{bytesFault, rowsOf}
 use Rattle.meaning.specs.Answers.{Reply}
-use Rattle.packing.specs.Packing.{answerNumber}
+use Rattle.occam_table.specs.Packing.{answerNumber}
 use Rattle.occam_table.specs.Exports.{Packed, packed}
 use Rattle.lending.specs.Replies.{past}
 use Rattle.occam_table.specs.RowsLent.{rowsLent}

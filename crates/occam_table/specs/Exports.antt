@@ -6,7 +6,7 @@ use lib.ListN.{getD}
 use Rattle.meaning.specs.Buffers.{Buffers, capacities}
 use Rattle.meaning.specs.Answers.{Reply}
 use Rattle.machine.specs.Held.{stripStart}
-use Rattle.packing.specs.Packing.{answerNumber}
+use Rattle.occam_table.specs.Packing.{answerNumber}
 
 -- a call's answer as one number, with what it leaves in the lent buffers
 pub record Packed : Type 0 where

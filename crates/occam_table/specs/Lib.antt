@@ -1,2 +1,4 @@
+pub mod Packing
+pub mod PackingClaims
 pub mod Exports
 pub mod RowsLent

@@ -2,9 +2,12 @@
 // an output channel. A slice is a pointer and a length.
 ghost use mathlib.Core.Path.{_≡_};
 ghost use Rattle.meaning.specs.Answers.{check, checkBytes, verdictOf, reply, replyToBytes};
-ghost use Rattle.packing.specs.Packing.{verdictNumber};
+ghost use Rattle.occam_table.specs.Packing.{verdictNumber};
 ghost use Rattle.occam_table.specs.Exports.{packed, stripNumber};
 ghost use Rattle.occam_table.specs.RowsLent.{rowsLent};
+
+mod packing; // packing.rt: answers as one number
+
 use meaning::Verdict;
 
 // The public entries of Rattle callers: the verdict, the run, the strip of a host channel.

@@ -11,23 +11,25 @@ use Rattle.meaning.specs.declared.Outcome.{Outcome}
 use Rattle.meaning.specs.declared.Answer.{Answer}
 use Rattle.meaning.specs.declared.Answer.the-variants.{Refused, Ran}
 use Rattle.meaning.specs.Limits.{maxRows, maxBudget}
-use Rattle.meaning.specs.TableBytes.{Refusal, rowsOf}
+use Rattle.meaning.specs.TableBytes.{rowsOf}
 use Rattle.meaning.specs.Sheet.{sheetFault, readings}
-use Rattle.meaning.specs.Answers.{Result, refused, ran, Reply, replyOf, either, unless, firstFault, budgetFault, check, result, resultOfBytes}
+use Rattle.meaning.specs.Refusals.{Refusal}
+use Rattle.meaning.specs.Stages.{budgetFault}
+use Rattle.meaning.specs.Answers.{Result, refused, ran, Reply, replyOf, unless, check, result, resultOfBytes}
 use Rattle.meaning.specs.Run as meaning
 use Rattle.meaning.specs.Run.{run}
 use Rattle.meaning.specs.Printing.{page, runLines, lineBytes, refusedLine}
 use Rattle.meaning.specs.Runner.{printedResult, runner}
 use Rattle.meaning.specs.Buffers.{Buffers}
 use Rattle.meaning.specs.PrintedForms.{Each, In32}
-use Rattle.meaning.proofs.AnswerLaws.{accepted}
+use Rattle.meaning.proofs.AnswerLaws.{accepted, result-stages}
 use Rattle.agreement.proofs.VerdictStages.{whole-passes}
 use Rattle.machine.specs.Held.{blank}
 use Rattle.machine.proofs.HeldLaws.{states-are}
 use Rattle.machine.proofs.LentLists.{lent-at}
 use Rattle.lending.specs.declared.Done.{Done}
 use Rattle.lending.specs.Replies.{replyIn}
-use Rattle.tasks.proofs.Stages.{task-run}
+use Rattle.entries.proofs.Stages.{task-run}
 use Rattle.printing.specs.declared.Parts.{Parts}
 use Rattle.printing.specs.Decoding.{tableRows, resultIn}
 use Rattle.printing.specs.Splitting.{Splits}
@@ -43,7 +45,7 @@ rows-short : (rows : List ℤ) → check rows ≡ none → length rows ≤ 4 * m
 rows-short rows ok = let w = whole-passes rows .0 (accepted rows .0 ok .0) in let d = w .0 in let k = w .1 in omega arith
 
 -- an answer of a run comes from no refusal
-ran-unrefused : (rows : List ℤ) (f g : Option Refusal) (q : meaning.Result) (o : Outcome) (k : ℕ) → Ran o k ≡ replyOf rows blank (unless (either f (either g none)) (ran q)) .answer → (f ≡ none) × (g ≡ none)
+ran-unrefused : (rows : List ℤ) (f g : Option Refusal) (q : meaning.Result) (o : Outcome) (k : ℕ) → Ran o k ≡ replyOf rows blank (unless f (unless g (ran q))) .answer → (f ≡ none) × (g ≡ none)
 ran-unrefused rows none none q o k e = (refl, refl)
 ran-unrefused rows none (some g) q o k e = let z : _≡_ {A = ℕ} 0 1 = cc in absurd (omega arith)
 ran-unrefused rows (some f) g q o k e = let z : _≡_ {A = ℕ} 0 1 = cc in absurd (omega arith)
@@ -65,8 +67,8 @@ module _ (rows : List ℤ) (sheet : List ℕ) (d : Done) (e : replyIn d ≡ repl
 
     -- nothing is refused
     unrefused : (check rows ≡ none) × (sheetFault rows sheet ≡ none)
-    unfolding result firstFault budgetFault
-    unrefused = ran-unrefused rows (check rows) (sheetFault rows sheet) ending o k (sym a ∙ ap (λ (r : Reply). r .answer) e)
+    unfolding budgetFault
+    unrefused = ran-unrefused rows (check rows) (sheetFault rows sheet) ending o k (sym a ∙ ap (λ (r : Reply). r .answer) (e ∙ ap (replyOf rows blank) (result-stages (taskOf rows sheet))))
 
     -- so the task comes to that run
     runs : result (taskOf rows sheet) ≡ ran ending

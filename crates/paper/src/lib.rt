@@ -42,7 +42,7 @@ fn rows_page(rows: &[i32], sheet: &[u8], out: &mut [u8]) -> usize
     ensures { λ n. ⌜ (Each In32 (now (rows .entry)) → length (printedResult (now (rows .entry)) (result (taskOf (now (rows .entry)) (now (sheet .entry))))) ≤ maxPage) ⌝ }
 {
     let choices = [0u16; 0];
-    let done = tasks::do_rows(rows, sheet, &choices, 65536);
+    let done = entries::tasks::do_rows(rows, sheet, &choices, 65536);
     let answer = done.answer;
     match answer {
         Answer::Refused(number, place) => refusal_page(number, place, out),

@@ -2,7 +2,7 @@
 use mathlib.Core.Path.{_≡_, sym, _∙_}
 use mathlib.Core.Option.{none}
 use borrow.Author.Needs.{needs}
-use Rattle.meaning.specs.Answers.{firstFault}
+use Rattle.meaning.specs.Refusals.{firstFault}
 use Rattle.meaning.proofs.AnswerLaws.{accepted-none, rejected-some}
 use Rattle.checking.proofs.Verdicts.{formStages, form-refused, form-limits, usage-judged}
 use Rattle.checking.proofs.check_rows.Statement.{statement}

@@ -1,7 +1,7 @@
 -- The verdict as a number. Assumes nothing.
 use mathlib.Core.Path.{ap, _∙_}
 use borrow.Author.Needs.{needs}
-use Rattle.packing.specs.Packing.{verdictNumber}
+use Rattle.occam_table.specs.Packing.{verdictNumber}
 use Rattle.occam_table.proofs.occam_check_rows.Statement.{statement}
 use Rattle.occam_table.proofs.occam_check_rows.Tie as tie
 

@@ -18,7 +18,7 @@ use Rattle.writing.specs.Writing.{printedIn}
 use Rattle.paper.specs.Pages.{taskOf, maxPage}
 use Rattle.meaning.proofs.AnswerLaws.{accepted-none, rejected-some}
 use Rattle.table.proofs.AcceptedRows.{rows-held}
-use Rattle.tasks.proofs.Stages.{bytes-refused, rows-done}
+use Rattle.entries.proofs.Stages.{bytes-refused, rows-done}
 use Rattle.paper.proofs.Ranges.{rows-in}
 use Rattle.paper.proofs.table_page.Statement.{statement}
 use Rattle.paper.proofs.table_page.Tie as tie

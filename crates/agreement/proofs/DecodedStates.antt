@@ -1,0 +1,82 @@
+-- Results can be read back: decoding what `encode` left gives the state, so equal buffers mean equal states.
+use mathlib.Core.Path.{_≡_, refl, sym, ap, ap₂, _∙_}
+use mathlib.Core.Bool.{true}
+use mathlib.Core.Option.{some}
+use mathlib.Core.List.{List, [], _∷_, _++_, map}
+use Prim.Native.Nat.{ℕ, zero, suc, _<_}
+use native.Mathlib.Omega.{arith}
+use native.Mathlib.Decide.{decLt}
+use lib.IntN.{pos}
+use lib.ListN.{length, getD, length-append, length-map, List·getD-append}
+use lib.Seq.{ext-getD, getD-at}
+use Rattle.meaning.specs.Limits.{maxRows, maxCells, maxPorts}
+use Rattle.meaning.specs.Basics.{allBelow}
+use Rattle.meaning.specs.Rows.{rowCount}
+use Rattle.meaning.specs.Declarations.{totalCells, totalPorts, capacityAt, channels}
+use Rattle.meaning.specs.State.{Message}
+use Rattle.meaning.specs.Buffers.{mark, numberIn, decoded, encode}
+use Rattle.meaning.specs.Decode.{givenIn, decode}
+use Rattle.meaning.specs.PrintedForms.{Each, each-none, each-more}
+use Rattle.meaning.proofs.LentLaws.{lent-whole}
+use Rattle.agreement.specs.BufferClaims.{IsNumber, DecodedState, EqualBuffers}
+use Rattle.agreement.proofs.AsDeclared.{reached-as-declared}
+use Rattle.agreement.proofs.GivenLists.{left-given}
+use Rattle.agreement.proofs.HostOutputs.{map-append, output-count}
+use Rattle.agreement.proofs.MissingMarks.{decoded-cells}
+use Rattle.agreement.proofs.TableLimits.{limited}
+
+-- a list of numbers comes back
+numbers-back : (l : List Message) → Each IsNumber l → map some (map numberIn l) ≡ l
+numbers-back [] each-none = refl
+numbers-back (m ∷ l) (each-more (z, e) h) = ap₂ (λ (x : Message) (k : List Message). x ∷ k) (rw e) (numbers-back l h)
+
+-- the numbers below n
+below-length : (n : ℕ) → length (allBelow (λ port. true) n) ≡ n
+unfolding allBelow
+below-length zero = refl
+below-length (suc n) = omega (arith, length-append (allBelow (λ port. true) n) (n ∷ []), below-length n)
+
+-- a list made of the numbers below n
+made-at : {A : Type 0} (f : ℕ → A) (d : A) (n i : ℕ) → i < n → getD (map f (allBelow (λ port. true) n)) i d ≡ f i
+unfolding allBelow
+made-at f d zero i h = absurd (omega arith)
+made-at {A} f d (suc n) i h = ap (λ (l : List A). getD l i d) (map-append f all (n ∷ [])) ∙ go (decLt i n) (made-at f d n i)
+  where
+    all : List ℕ
+    all = allBelow (λ port. true) n
+
+    size : length (map f all) ≡ n
+    size = length-map all f ∙ below-length n
+
+    go : Dec (i < n) → (i < n → getD (map f all) i d ≡ f i) → getD (map f all ++ (f n ∷ [])) i d ≡ f i
+    go (yes l) k = List·getD-append (map f all) (f n ∷ []) d i (omega (arith, size)) ∙ k l
+    go (no l) k = let e : n ≡ i = omega arith in getD-at (map f all) (f n) [] d i (size ∙ e) ∙ ap f e
+
+pub decoded-state : DecodedState
+unfolding decode encode
+decoded-state rows sheet s ok (l, o) b =
+    let D = reached-as-declared rows sheet s ok (l, o) in
+    let L = limited rows ok in
+    let states = lent-whole 0 maxRows (rowCount rows) (s .states) (b .states) (D .states) (L .states) in
+    let cells =
+    ap₂ decoded (lent-whole (pos 0) maxCells (totalCells rows) (map numberIn (s .store .cells)) (b .cells) (length-map (s .store .cells) numberIn ∙ D .cells) (L .cells))
+    (lent-whole 0 maxCells (totalCells rows) (map mark (s .store .cells)) (b .marks) (length-map (s .store .cells) mark ∙ D .cells) (L .cells))
+    ∙ decoded-cells (s .store .cells) in
+    let places = lent-whole 0 maxPorts (totalPorts 1 rows) (s .store .places) (b .places) (D .places) (L .places) in
+    let outputs = ext-getD [] (map list all) (s .store .outputs) (length-map all list ∙ below-length (totalPorts 2 rows) ∙ sym (D .outputs))
+    (λ i h. let k : i < totalPorts 2 rows = omega (arith, length-map all list, below-length (totalPorts 2 rows), h) in made-at list [] (totalPorts 2 rows) i k ∙ given i k) in
+    λ i. record { states = states i; store = record { cells = cells i; places = places i; outputs = outputs i } }
+  where
+    all : List ℕ
+    all = allBelow (λ port. true) (totalPorts 2 rows)
+
+    list : ℕ → List Message
+    list port = map some (givenIn rows port (encode rows s b))
+
+    given : (port : ℕ) → port < totalPorts 2 rows → list port ≡ getD (s .store .outputs) port []
+    given port h =
+        ap (map some) (left-given rows ok sheet l s o b port (omega (arith, output-count rows, length-map (channels rows 2) (capacityAt rows), h)) .0)
+        ∙ numbers-back (getD (s .store .outputs) port []) (reached-as-declared rows sheet s ok (l, o) .numbers port)
+
+pub equal-buffers : EqualBuffers
+equal-buffers rows sheet other s t ok r q b c e = sym (decoded-state rows sheet s ok r b) ∙ ap (decode rows) e ∙ decoded-state rows other t ok q c

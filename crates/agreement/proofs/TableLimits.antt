@@ -1,0 +1,38 @@
+-- An accepted table is within the limits: its rows, cells, host channels and capacities.
+use mathlib.Core.Path.{_≡_}
+use mathlib.Core.Option.{none}
+use mathlib.Core.List.{List}
+use Prim.Native.Nat.{ℕ, zero, suc, _<_, _≤_}
+use native.Mathlib.Omega.{arith}
+use lib.IntN.{ℤ}
+use Rattle.meaning.specs.Limits.{maxRows, maxCells, maxPorts, maxCapacity}
+use Rattle.meaning.specs.Rows.{rowCount, declarations}
+use Rattle.meaning.specs.Declarations.{sumBelow, cellsAt, portsAt, capacityAt, totalCells, totalPorts}
+use Rattle.meaning.specs.Faults.{WithinLimits}
+use Rattle.meaning.specs.Answers.{check}
+use Rattle.agreement.proofs.VerdictExact.{verdict-exact}
+
+pub record Limited (rows : List ℤ) : Type 0 where
+  pub states : rowCount rows ≤ maxRows
+  pub cells : totalCells rows ≤ maxCells
+  pub places : totalPorts 1 rows ≤ maxPorts
+  pub outputs : totalPorts 2 rows ≤ maxPorts
+  pub numbers : sumBelow (capacityAt rows) (declarations rows) ≤ maxCapacity
+
+-- a bound of each sum up to a row is one of the whole sum
+whole-sum : (f : ℕ → ℕ) (limit n : ℕ) → ((r : ℕ) → r < n → sumBelow f (suc r) ≤ limit) → sumBelow f n ≤ limit
+unfolding sumBelow
+whole-sum f limit zero h = omega arith
+whole-sum f limit (suc n) h = h n (omega arith)
+
+pub limited : (rows : List ℤ) → check rows ≡ none → Limited rows
+unfolding WithinLimits totalCells totalPorts
+limited rows ok =
+    let (whole, _, _, each, _) = verdict-exact rows .0 ok in
+    record {
+      states = whole .1;
+      cells = whole-sum (cellsAt rows) maxCells (declarations rows) (λ r h. each r h .0);
+      places = whole-sum (portsAt 1 rows) maxPorts (declarations rows) (λ r h. each r h .2);
+      outputs = whole-sum (portsAt 2 rows) maxPorts (declarations rows) (λ r h. each r h .3);
+      numbers = whole-sum (capacityAt rows) maxCapacity (declarations rows) (λ r h. each r h .4);
+    }

@@ -1,0 +1,96 @@
+-- A list in a lent buffer: what stands at each position, below the limit and past it, and the buffer's length.
+use mathlib.Core.Path.{_≡_, refl, sym, ap, _∙_}
+use mathlib.Core.Option.{some, Option·none-ne-some, Option·some-injective}
+use mathlib.Core.List.{List, [], _∷_, _++_}
+use Prim.Native.Nat.{ℕ, zero, suc, _+_, _<_, _≤_}
+use native.Mathlib.Omega.{arith}
+use lib.ListN.{length, getD, take, drop, replicate, length-append, length-drop, length-replicate, take-append-drop, List·getD-append}
+use lib.Seq.{length-take-le, take-append-le, drop-append-le, take-take, take-append-seam, getD-take}
+use Rattle.meaning.specs.Intent.{entry}
+use Rattle.meaning.specs.Buffers.{sized, lent}
+
+module _ {A : Type 0} where
+  -- an entry, by its position
+  pub entry-at : (l : List A) (i : ℕ) (d : A) → i < length l → entry l i ≡ some (getD l i d)
+  entry-at [] i d h = absurd (omega arith)
+  entry-at (x ∷ l) zero d h = refl
+  entry-at (x ∷ l) (suc i) d h = entry-at l i d (omega arith)
+
+  pub entry-is : (l : List A) (i : ℕ) (d v : A) → entry l i ≡ some v → (i < length l) × (getD l i d ≡ v)
+  entry-is [] i d v e = absurd (Option·none-ne-some v e)
+  entry-is (x ∷ l) zero d v e = (omega arith, Option·some-injective x v e)
+  entry-is (x ∷ l) (suc i) d v e = let (h, g) = entry-is l i d v e in (omega arith, g)
+
+  entry-append : (l m : List A) (i : ℕ) → entry (l ++ m) (length l + i) ≡ entry m i
+  entry-append [] m i = ap (entry m) (omega arith)
+  entry-append (x ∷ l) m i = let e : suc (length l) + i ≡ suc (length l + i) = omega arith in ap (entry (x ∷ l ++ m)) e ∙ entry-append l m i
+
+  entry-drop : (n i : ℕ) (l : List A) → entry (drop n l) i ≡ entry l (n + i)
+  entry-drop zero i l = ap (entry l) (omega arith)
+  entry-drop (suc n) i [] = refl
+  entry-drop (suc n) i (x ∷ l) = let e : suc (n + i) ≡ suc n + i = omega arith in entry-drop n i l ∙ ap (entry (x ∷ l)) e
+
+module _ {A : Type 0} (d : A) where
+  -- filled up, a list has its own elements
+  filled : (n i : ℕ) (xs : List A) → getD (xs ++ replicate n d) i d ≡ getD xs i d
+  filled zero i [] = refl
+  filled (suc n) zero [] = refl
+  filled (suc n) (suc i) [] = filled n i []
+  filled n zero (x ∷ xs) = refl
+  filled n (suc i) (x ∷ xs) = filled n i xs
+
+  pub sized-length : (n : ℕ) (xs : List A) → length (sized n d xs) ≡ n
+  unfolding sized
+  sized-length n xs = length-take-le n (xs ++ replicate n d) (omega (arith, length-append xs (replicate n d), length-replicate n d))
+
+  -- a list at a length
+  pub sized-at : (n i : ℕ) (xs : List A) → i < n → getD (sized n d xs) i d ≡ getD xs i d
+  unfolding sized
+  sized-at n i xs h = getD-take n (xs ++ replicate n d) i d h ∙ filled n i xs
+
+  -- a list at a length that it does not pass, up to its own
+  pub sized-front : (n : ℕ) (xs : List A) → length xs ≤ n → take (length xs) (sized n d xs) ≡ xs
+  unfolding sized
+  sized-front n xs h = take-take (length xs) n (xs ++ replicate n d) h ∙ take-append-seam xs (replicate n d)
+
+  -- an element of a lent buffer
+  pub lent-at : (n i : ℕ) (xs old : List A) → i < n → getD (lent n d xs old) i d ≡ getD xs i d
+  unfolding lent
+  lent-at n i xs old h = List·getD-append (sized n d xs) (drop n old) d i (omega (arith, sized-length n xs)) ∙ sized-at n i xs h
+
+  -- below the limit: the list's element, and d where the list has none
+  pub lent-holds : (n i : ℕ) (xs old : List A) → i < n → entry (lent n d xs old) i ≡ some (getD xs i d)
+  unfolding lent
+  lent-holds n i xs old h =
+      entry-at (lent n d xs old) i d (omega (arith, sized-length n xs, length-append (sized n d xs) (drop n old))) ∙ ap some (lent-at n i xs old h)
+
+  -- past the limit: what was there
+  pub lent-past : (n i : ℕ) (xs old : List A) → entry (lent n d xs old) (n + i) ≡ entry old (n + i)
+  unfolding lent
+  lent-past n i xs old =
+      ap (λ (k : ℕ). entry (sized n d xs ++ drop n old) (k + i)) (sym (sized-length n xs)) ∙ entry-append (sized n d xs) (drop n old) i ∙ entry-drop n i old
+
+  pub lent-length : (n : ℕ) (xs old : List A) → n ≤ length old → length (lent n d xs old) ≡ length old
+  unfolding lent
+  lent-length n xs old h = omega (arith, length-append (sized n d xs) (drop n old), sized-length n xs, length-drop n old)
+
+  -- a list of k that fits stands at the front
+  pub lent-whole : (limit k : ℕ) (xs old : List A) → length xs ≡ k → k ≤ limit → take k (lent limit d xs old) ≡ xs
+  unfolding lent
+  lent-whole limit k xs old e h =
+      ap (λ (j : ℕ). take j (lent limit d xs old)) (sym e)
+      ∙ take-append-le (length xs) (sized limit d xs) (drop limit old) (omega (arith, sized-length limit xs, e))
+      ∙ sized-front limit xs (omega (arith, e))
+
+  -- a part of the front
+  front : (off n : ℕ) (p q : List A) → off + n ≤ length p → take n (drop off (p ++ q)) ≡ take n (drop off p)
+  front off n p q h = ap (take n) (drop-append-le off p q (omega arith)) ∙ take-append-le n (drop off p) q (omega (arith, length-drop off p))
+
+  -- a part of a lent buffer
+  pub lent-part : (off n m : ℕ) (xs old : List A) → off + n ≤ m → take n (drop off (lent m d xs old)) ≡ take n (drop off (xs ++ replicate m d))
+  unfolding lent sized
+  lent-part off n m xs old h =
+      let e = sized-length m xs in
+      front off n (sized m d xs) (drop m old) (omega arith)
+      ∙ sym (front off n (sized m d xs) (drop m (xs ++ replicate m d)) (omega arith))
+      ∙ ap (λ (l : List A). take n (drop off l)) (take-append-drop m (xs ++ replicate m d))

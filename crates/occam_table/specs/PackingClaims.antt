@@ -1,0 +1,37 @@
+-- One number, one answer, as types: what a C caller may conclude from the number of an exported function.
+use mathlib.Core.Path.{_≡_}
+use mathlib.Core.List.{List}
+use Prim.Native.Nat.{ℕ, _≤_}
+use lib.IntN.{ℤ}
+use Rattle.meaning.specs.Buffers.{Buffers}
+use Rattle.meaning.specs.Answers.{Task, check, checkBytes, verdictOf, reply, replyToBytes}
+use Rattle.meaning.specs.declared.Answer.{Answer}
+use Rattle.meaning.specs.declared.Answer.the-variants.{Refused, Ran}
+use Rattle.meaning.specs.declared.Verdict.{Verdict}
+use Rattle.meaning.specs.declared.Verdict.the-variants.{Accepted, Rejected}
+use Rattle.occam_table.specs.Packing.{verdictNumber, answerNumber}
+
+-- the answers that can be given: a run, or "one of eleven numbered refusals"
+abbrev pub PossibleAnswer : Answer → Type 0
+PossibleAnswer (Refused number place) = (1 ≤ number) × (number ≤ 11)
+PossibleAnswer (Ran outcome steps) = Unit {0}
+
+-- the verdicts that can be given: accepted, or one of the refusals 2 to 9
+abbrev pub PossibleVerdict : Verdict → Type 0
+PossibleVerdict Accepted = Unit {0}
+PossibleVerdict (Rejected number place) = (2 ≤ number) × (number ≤ 9)
+
+-- two such answers with one number are one answer; so are two verdicts
+abbrev pub AnswersTold : Type 0
+AnswersTold = (a b : Answer) → PossibleAnswer a → PossibleAnswer b → answerNumber a ≡ answerNumber b → a ≡ b
+
+abbrev pub VerdictsTold : Type 0
+VerdictsTold = (v w : Verdict) → PossibleVerdict v → PossibleVerdict w → verdictNumber v ≡ verdictNumber w → v ≡ w
+
+-- every call and every check gives such a one
+abbrev pub CallsPossible : Type 0
+CallsPossible = ((t : Task) (b : Buffers) → PossibleAnswer (reply t b .answer))
+    × ((table sheet choices : List ℕ) (budget : ℕ) (b : Buffers) → PossibleAnswer (replyToBytes table sheet choices budget b .answer))
+
+abbrev pub ChecksPossible : Type 0
+ChecksPossible = ((rows : List ℤ) → PossibleVerdict (verdictOf (check rows))) × ((table : List ℕ) → PossibleVerdict (verdictOf (checkBytes table)))

@@ -1,0 +1,38 @@
+// Answers as one number.
+ghost use mathlib.Core.Path.{_≡_};
+ghost use Rattle.occam_table.specs.Packing.{outcomeNumber, verdictNumber, answerNumber};
+use meaning::Answer;
+use meaning::Outcome;
+use meaning::Verdict;
+
+// A verdict's number: 0, or the refusal's with its place.
+pub fn verdict_number(v: Verdict) -> u64
+    ensures { λ n. ⌜ n ≡ verdictNumber v ⌝ }
+{
+    match v {
+        Verdict::Accepted => 0,
+        Verdict::Rejected(number, place) => number as u64 + 65536 * (place as u64),
+    }
+}
+
+// An outcome's number.
+fn outcome_number(o: Outcome) -> u64
+    ensures { λ n. ⌜ n ≡ outcomeNumber o ⌝ }
+{
+    match o {
+        Outcome::Ended => 1,
+        Outcome::Stuck => 2,
+        Outcome::Broken => 3,
+        Outcome::Spent => 4,
+    }
+}
+
+// An answer's number: the refusal's with its place, or the outcome's with the steps.
+pub fn answer_number(a: Answer) -> u64
+    ensures { λ n. ⌜ n ≡ answerNumber a ⌝ }
+{
+    match a {
+        Answer::Refused(number, place) => number as u64 + 65536 * (place as u64),
+        Answer::Ran(outcome, steps) => 256 * outcome_number(outcome) + 65536 * (steps as u64),
+    }
+}
