@@ -29,6 +29,7 @@ use Rattle.meaning.specs.Step.{targetOf, Live, live, Allows, assignment, while-
 use Rattle.meaning.specs.Order.{Rest}
 use Rattle.meaning.specs.Buffers.{Buffers}
 use Rattle.agreement.specs.Statements.{NoAlt}
+use Rattle.agreement.specs.BufferClaims.{LongEnough}
 
 -- both of two tests
 both-true : (a b : Bool) → a && b ≡ true → (a ≡ true) × (b ≡ true)
@@ -279,3 +280,6 @@ emptySheet = 10 ∷ []
 abbrev pub lentBuffers : Buffers
 lentBuffers =
     record { cells = replicate 256 (pos 0); marks = replicate 256 0; states = replicate 1024 0; places = replicate 8 0; numbers = replicate 1024 (pos 0); counts = replicate 8 0 }
+
+pub long-enough : LongEnough lentBuffers
+long-enough = record { cells = omega arith; marks = omega arith; states = omega arith; places = omega arith; numbers = omega arith; counts = omega arith }
