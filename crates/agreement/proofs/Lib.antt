@@ -77,7 +77,10 @@ pub mod OrdersCoherent
 pub mod Answered
 pub mod Calls
 pub mod Claims
+pub mod Decided
+pub mod Fitting
 pub mod OperatorsExact
+pub mod OperandsInTurn
 pub mod ChoicesUsedUp
 pub mod WhileReset
 pub mod RefusalPlaces

@@ -167,9 +167,9 @@ pub counterexample : (¬ OneStepDiamond) × (¬ Demand3)
 unfolding computesAnswers
 counterexample = (
   λ h. apart (h rows sheet (refl, (bytes, (refl, refl))) (no-alt rows refl) start ([], record { beginning = start; begins = begins; order = halt }) (own 5) (own 10) read stopped
-  (λ e. let d : _≡_ {A = ℕ} 5 10 = ap rowIn e in omega arith) reads stops),
+      (λ e. let d : _≡_ {A = ℕ} 5 10 = ap rowIn e in omega arith) reads stops),
   λ h.
-  let answers = h rows bytes refl refl (no-alt rows refl) (own 5 ∷ own 10 ∷ []) ended order (rests P sheet ended at-rest) .1 in
-  let e : _≡_ {A = ℕ} 3 1 = ap (λ (r : Reply). outcomeNumber (r .answer)) (answers (1 ∷ []) 2 lentBuffers refl (omega arith) .0 (omega arith)) in
-  omega arith,
+      let answers = h rows bytes refl refl (no-alt rows refl) (own 5 ∷ own 10 ∷ []) ended order (rests P sheet ended at-rest) .1 in
+      let e : _≡_ {A = ℕ} 3 1 = ap (λ (r : Reply). outcomeNumber (r .answer)) (answers (1 ∷ []) 2 lentBuffers refl (omega arith) .0 (omega arith)) in
+      omega arith,
 )

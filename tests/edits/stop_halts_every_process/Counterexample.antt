@@ -98,8 +98,8 @@ pub counterexample : (¬ Demand3) × (¬ OneStepDiamond)
 unfolding computesAnswers
 counterexample = (
   λ h.
-  let e : 2 ≤ 1 = h rows emptySheet refl refl (no-alt rows refl) (own 5 ∷ []) stopped one at-rest .0 (own 10 ∷ own 5 ∷ []) both other .0 in
-  omega arith,
+      let e : 2 ≤ 1 = h rows emptySheet refl refl (no-alt rows refl) (own 5 ∷ []) stopped one at-rest .0 (own 10 ∷ own 5 ∷ []) both other .0 in
+      omega arith,
   λ h. apart (h rows sheet (refl, (emptySheet, (refl, refl))) (no-alt rows refl) start ([], record { beginning = start; begins = begins; order = halt }) (own 5) (own 10) stopped assigned
-  (λ e. let d : _≡_ {A = ℕ} 5 10 = ap rowIn e in omega arith) stops assigns),
+      (λ e. let d : _≡_ {A = ℕ} 5 10 = ap rowIn e in omega arith) stops assigns),
 )

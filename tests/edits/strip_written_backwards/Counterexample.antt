@@ -70,10 +70,10 @@ pub counterexample : (¬ EncodeHolds) × (¬ DecodedState)
 unfolding computesAnswers decode
 counterexample = (
   λ h.
-  let holds = h rows [] twice refl (own 3 ∷ own 7 ∷ [], order) lentBuffers long-enough .0 in
-  let e : _≡_ {A = ℕ} 2 1 = ap (λ (o : Option ℤ). natAbs (Option·getD o (pos 0))) (holds .strip 0 refl 0 (pos 1) refl) in
-  omega arith,
+      let holds = h rows [] twice refl (own 3 ∷ own 7 ∷ [], order) lentBuffers long-enough .0 in
+      let e : _≡_ {A = ℕ} 2 1 = ap (λ (o : Option ℤ). natAbs (Option·getD o (pos 0))) (holds .strip 0 refl 0 (pos 1) refl) in
+      omega arith,
   λ h.
-  let e : _≡_ {A = ℕ} 2 1 = ap (λ (s : State). natAbs (Option·getD (getD (getD (s .store .outputs) 0 []) 0 none) (pos 0))) (h rows [] twice refl (own 3 ∷ own 7 ∷ [], order) lentBuffers) in
-  omega arith,
+      let e : _≡_ {A = ℕ} 2 1 = ap (λ (s : State). natAbs (Option·getD (getD (getD (s .store .outputs) 0 []) 0 none) (pos 0))) (h rows [] twice refl (own 3 ∷ own 7 ∷ [], order) lentBuffers) in
+      omega arith,
 )

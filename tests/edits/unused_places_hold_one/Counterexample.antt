@@ -32,7 +32,7 @@ unfolding computesAnswers
 counterexample = (
   λ h. let e : _≡_ {A = ℕ} 1 0 = h rows start lentBuffers 0 (omega arith) .0 in omega arith,
   λ h.
-  let holds = h rows [] start refl ([], order) lentBuffers long-enough .0 in
-  let e : _≡_ {A = ℕ} 1 0 = ap (λ (o : Option ℕ). Option·getD o 7) (holds .unused-state 1 (omega arith) (omega arith)) in
-  omega arith,
+      let holds = h rows [] start refl ([], order) lentBuffers long-enough .0 in
+      let e : _≡_ {A = ℕ} 1 0 = ap (λ (o : Option ℕ). Option·getD o 7) (holds .unused-state 1 (omega arith) (omega arith)) in
+      omega arith,
 )

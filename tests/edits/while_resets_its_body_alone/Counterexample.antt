@@ -51,11 +51,11 @@ pub counterexample : (¬ OrdersCoherent) × (¬ MembersTell)
 unfolding computesAnswers
 counterexample = (
   λ h.
-  let idle = h rows refl [] (own 0 ∷ []) passed order .rows-coherent .beneath-idle sequence 2 (also (node skip 4 empty) empty) (beneath itself first) refl in
-  let e : _≡_ {A = ℕ} 2 0 = idle 4 (List·Memᴰ·head refl) in
-  omega arith,
+      let idle = h rows refl [] (own 0 ∷ []) passed order .rows-coherent .beneath-idle sequence 2 (also (node skip 4 empty) empty) (beneath itself first) refl in
+      let e : _≡_ {A = ℕ} 2 0 = idle 4 (List·Memᴰ·head refl) in
+      omega arith,
   λ h.
-  let idle = h rows refl [] (own 0 ∷ []) passed order (loop (literal (pos 1)) 2) 0 (also (node sequence 2 (also (node skip 4 empty) empty)) empty) itself (and-then refl no-more) in
-  let e : _≡_ {A = ℕ} 2 0 = idle 4 (List·Memᴰ·tail (List·Memᴰ·head refl)) in
-  omega arith,
+      let idle = h rows refl [] (own 0 ∷ []) passed order (loop (literal (pos 1)) 2) 0 (also (node sequence 2 (also (node skip 4 empty) empty)) empty) itself (and-then refl no-more) in
+      let e : _≡_ {A = ℕ} 2 0 = idle 4 (List·Memᴰ·tail (List·Memᴰ·head refl)) in
+      omega arith,
 )
