@@ -82,6 +82,12 @@ pub mod TreeIdle
 pub mod Answered
 pub mod Calls
 pub mod Claims
+pub mod Decided
+pub mod Fitting
+pub mod OperatorsExact
+pub mod OperandsInTurn
+pub mod ChoicesUsedUp
+pub mod WhileReset
 pub mod RefusalPlaces
 pub mod AsDeclared
 pub mod HostOutputs

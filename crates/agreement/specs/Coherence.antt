@@ -89,3 +89,9 @@ EndedOrBroken = (rows : List ℤ) → check rows ≡ none → (sheet : Sheet) (l
 abbrev pub MembersTell : Type 0
 MembersTell = (rows : List ℤ) → check rows ≡ none → (sheet : Sheet) (l : List Label) (s : State) → OrderOf rows sheet l s
     → (a : Action) (r : ℕ) (ms : Members) → Inside (whole (program rows)) (node a r ms) → All 0 (s .states) ms → AllIdle (s .states) (rowsBeneath ms)
+
+-- "when a WHILE's body ends, every row beneath the WHILE becomes idle": in no such state has the body of a running WHILE ended
+abbrev pub WhileReset : Type 0
+WhileReset = (rows : List ℤ) → check rows ≡ none → (sheet : Sheet) (l : List Label) (s : State) → OrderOf rows sheet l s
+    → (e : Expr) (b r : ℕ) (ms : Members) → Inside (whole (program rows)) (node (loop e b) r ms) → getD (s .states) r 0 ≡ 1
+    → (body : Process) → Among body ms → stateOf (s .states) body ≢ 2

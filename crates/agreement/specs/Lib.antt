@@ -6,5 +6,7 @@ pub mod VerdictClaims
 pub mod Coherence
 pub mod TreeClaims
 pub mod CallClaims
+pub mod ValueClaims
+pub mod ChoiceClaims
 pub mod RefusalClaims
 pub mod BufferClaims

@@ -1,0 +1,38 @@
+-- When the list of choices is used up, 0 is meant: zeros at its end change nothing.
+use mathlib.Core.Path.{_≡_, refl, ap}
+use mathlib.Core.List.{List, [], _∷_, _++_}
+use Prim.Native.Nat.{ℕ, zero, suc}
+use lib.ListN.{replicate}
+use Rattle.meaning.specs.State.{State, Program, program}
+use Rattle.meaning.specs.Settle.{start}
+use Rattle.meaning.specs.Labels.{Label}
+use Rattle.meaning.specs.Readings.{Sheet}
+use Rattle.meaning.specs.Ready.{ready, after}
+use Rattle.meaning.specs.Order.{chosenStep}
+use Rattle.meaning.specs.Run.{Result, goFrom, go, run}
+use Rattle.meaning.specs.Sheet.{readings}
+use Rattle.meaning.specs.Buffers.{Buffers}
+use Rattle.meaning.specs.Answers.{Task, replyOf, unless, ran, firstFault, bufferFault, stages, result, reply}
+use Rattle.agreement.specs.ChoiceClaims.{withZeros, ZeroIsMeant}
+
+module _ (P : Program) (sheet : Sheet) where
+  with-zeros : (budget n k : ℕ) (choices : List ℕ) (s : State) (l : List Label) → goFrom P sheet budget n (choices ++ replicate k 0) s l ≡ goFrom P sheet budget n choices s l
+  unfolding goFrom chosenStep
+  with-zeros zero n k choices s [] = refl
+  with-zeros (suc budget) n k choices s [] = refl
+  with-zeros zero n k choices s (x ∷ l) = refl
+  with-zeros (suc budget) n zero [] s (x ∷ l) = refl
+  with-zeros (suc budget) n (suc k) [] s (x ∷ l) = let t = after P sheet (chosenStep [] x l) s in with-zeros budget (suc n) k [] t (ready P sheet t)
+  with-zeros (suc budget) n zero (c ∷ cs) s (x ∷ l) = let t = after P sheet (chosenStep (c ∷ cs) x l) s in with-zeros budget (suc n) zero cs t (ready P sheet t)
+  with-zeros (suc budget) n (suc k) (c ∷ cs) s (x ∷ l) = let t = after P sheet (chosenStep (c ∷ cs) x l) s in with-zeros budget (suc n) (suc k) cs t (ready P sheet t)
+
+run-with-zeros : (t : Task) (n : ℕ) → let sheet = readings (t .rows) (t .sheet) in run (t .rows) sheet (withZeros n t .choices) (t .budget) ≡ run (t .rows) sheet (t .choices) (t .budget)
+unfolding run go
+run-with-zeros t n =
+    let P = program (t .rows) in
+    let sheet = readings (t .rows) (t .sheet) in
+    with-zeros P sheet (t .budget) 0 n (t .choices) (start P) (ready P sheet (start P))
+
+pub zero-is-meant : ZeroIsMeant
+unfolding reply result firstFault
+zero-is-meant t n b = ap (λ (r : Result). replyOf (t .rows) b (unless (bufferFault b) (unless (firstFault stages t) (ran r)))) (run-with-zeros t n)

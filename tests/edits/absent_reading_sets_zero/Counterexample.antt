@@ -1,0 +1,74 @@
+-- An absent reading sets its target to 0: after an input from the host of such a reading the cell holds a number that nobody gave.
+use mathlib.Core.Path.{_≡_, refl, sym, ap, _∙_}
+use mathlib.Core.Logic.{_⊎_, inl, inr}
+use mathlib.Core.Option.{Option, none, some, Option·getD}
+use mathlib.Core.List.{List, [], _∷_}
+use Prim.Native.Nat.{ℕ, zero, suc}
+use native.Mathlib.Omega.{arith}
+use lib.IntN.{ℤ, pos}
+use lib.ListN.{getD}
+use Rattle.meaning.specs.State.{Message, State, Program, program}
+use Rattle.meaning.specs.Labels.{Label, own}
+use Rattle.meaning.specs.Readings.{Sheet, entry}
+use Rattle.meaning.specs.SettlingRules.{rest}
+use Rattle.meaning.specs.Step.{live, host, host-read, Step}
+use Rattle.meaning.proofs.Computes.{computes}
+use Rattle.agreement.specs.MissingClaims.{cellOf, Delivers, by-assignment, by-communication, by-reading, by-option-reading, by-option-communication, ReadsAbsent, input-absent, SetByNumber, AbsentUnsets}
+use Rattle.counterexample.specs.Concrete.{present, rowIn, other-step, other-action, idle-by-test, step}
+
+abbrev rows : List ℤ
+rows =
+    pos 2 ∷ pos 1 ∷ pos 1 ∷ pos 0
+    ∷ pos 1 ∷ pos 1 ∷ pos 0 ∷ pos 0
+    ∷ pos 23 ∷ pos 0 ∷ pos 3 ∷ pos 4
+    ∷ pos 10 ∷ pos 0 ∷ pos 0 ∷ pos 0
+    ∷ pos 11 ∷ pos 1 ∷ pos 5 ∷ pos 0
+    ∷ pos 10 ∷ pos 0 ∷ pos 0 ∷ pos 0
+    ∷ []
+
+abbrev P : Program
+P = program rows
+
+-- one reading, absent
+abbrev sheet : Sheet
+sheet = (none ∷ []) ∷ []
+
+abbrev start : State
+start = record { states = 0 ∷ 0 ∷ 1 ∷ 0 ∷ 0 ∷ 0 ∷ []; store = record { cells = none ∷ []; places = 0 ∷ []; outputs = [] } }
+
+abbrev read : State
+read = record { states = 0 ∷ 0 ∷ 2 ∷ 0 ∷ 0 ∷ 0 ∷ []; store = record { cells = some (pos 0) ∷ []; places = 1 ∷ []; outputs = [] } }
+
+reads : Step P sheet start (own 2) read
+unfolding computes
+reads = step P sheet (host-read (live refl refl (idle-by-test (start .states) [] refl)) (host refl refl refl refl refl)) rest refl refl
+
+-- every reading of the sheet is absent
+only-absent : (port n : ℕ) (v : Message) → entry (getD sheet port []) n ≡ some v → present v ≡ 0
+only-absent zero zero v e = ap (λ (o : Option Message). present (Option·getD o none)) (sym e)
+only-absent zero (suc n) v e = absurd (let d : _≡_ {A = ℕ} 0 1 = ap present e in omega arith)
+only-absent (suc port) n v e = absurd (let d : _≡_ {A = ℕ} 0 1 = ap present e in omega arith)
+
+absent : ReadsAbsent P sheet start (own 2) 0
+unfolding computes
+absent = input-absent (live refl refl (idle-by-test (start .states) [] refl)) (host refl refl refl refl refl)
+
+-- nobody gives the cell a number
+nobody : {x : Label} {a : ℕ} {m : Message} → Delivers P sheet start x a m → x ≡ own 2 → m ≡ some (pos 0) → ⊥
+unfolding computes
+nobody (by-assignment l i v) x m = other-action P start 2 l (ap rowIn x) refl
+nobody (by-communication l o i s) x m = other-step refl x
+nobody (by-reading {n} {i} {v} l (host c d t p e)) x m = let q : _≡_ {A = ℕ} 1 0 = sym (ap present m) ∙ only-absent (i .channel .port) n v e in omega arith
+nobody (by-option-reading l c b h i o) x m = other-step refl x
+nobody (by-option-communication l c b k h i o s) x m = other-step refl x
+
+pub counterexample : (¬ SetByNumber) × (¬ AbsentUnsets)
+unfolding computes
+counterexample = (
+  λ h. given (h P sheet start (own 2) read reads 0 (pos 0) refl),
+  λ h. let e : _≡_ {A = ℕ} 1 0 = ap present (h rows sheet start (own 2) 0 absent .1 read reads) in omega arith,
+)
+  where
+    given : (cellOf start 0 ≡ some (pos 0)) ⊎ Delivers P sheet start (own 2) 0 (some (pos 0)) → ⊥
+    given (inl e) = let d : _≡_ {A = ℕ} 0 1 = ap present e in omega arith
+    given (inr d) = nobody d refl refl
