@@ -21,6 +21,7 @@ use Rattle.meaning.specs.Run.{run}
 use Rattle.meaning.specs.Sheet.{sheetFault, readings}
 use Rattle.meaning.specs.Buffers.{Buffers, tooShort, mark, numberIn, encode}
 use Rattle.meaning.specs.Refusals.{Refusal}
+use Rattle.meaning.specs.TableBytes.{rowsOf}
 use Rattle.meaning.specs.Stages.{budgetFault, bufferFault}
 use Rattle.meaning.specs.Answers.{Task, Result, refused, ran, unless, check, result, Reply, replyOf, reply}
 use Rattle.meaning.specs.declared.Outcome.the-variants.{Spent}
