@@ -9,9 +9,9 @@ use lib.ListN.{replicate}
 use Rattle.meaning.specs.Texts.{bytes}
 use Rattle.meaning.specs.declared.Answer.the-variants.{Refused, Ran}
 use Rattle.meaning.specs.declared.Outcome.the-variants.{Stuck, Spent}
-use Rattle.meaning.specs.TableBytes.{rowsOf}
 use Rattle.meaning.specs.Buffers.{Buffers}
 use Rattle.meaning.specs.Decode.{decode}
+use Rattle.meaning.specs.TableBytes.{rowsOf}
 use Rattle.meaning.specs.Answers.{Reply, reply, replyToBytes}
 use Rattle.meaning.proofs.ComputesAnswers.{computesAnswers}
 
