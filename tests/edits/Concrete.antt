@@ -10,7 +10,7 @@ use native.Mathlib.Decide.{ℕ-discrete}
 use lib.IntN.{ℤ, pos, negsuc}
 use lib.ListN.{getD, replicate}
 use lib.Dec.{eqb}
-use borrow.Author.Tests.{eqb-true, eqb-false, eq-eqb}
+use borrow.Author.Tests.{eqb-true, eqb-false, eq-eqb, not-true}
 use Rattle.meaning.specs.declared.Answer.{Answer}
 use Rattle.meaning.specs.declared.Answer.the-variants.{Refused, Ran}
 use Rattle.meaning.specs.declared.Outcome.the-variants.{Ended, Stuck, Broken, Spent}
@@ -19,7 +19,7 @@ use Rattle.meaning.specs.declared.Value.the-variants.{Number, Missing}
 use Rattle.meaning.specs.declared.Index.{Index}
 use Rattle.meaning.specs.declared.Index.the-variants.{At, Fails}
 use Rattle.meaning.specs.Rows.{ifElse, rowCount, kindAt}
-use Rattle.meaning.specs.Tree.{Action, stop, skip, sequence, parallel, assign, receive, send, conditional, loop, alternation, Process, node, Members, empty, also, actionOf}
+use Rattle.meaning.specs.Tree.{Action, stop, skip, sequence, parallel, assign, receive, send, conditional, loop, alternation, Process, node, Members, empty, also, orStop, actionOf}
 use Rattle.meaning.specs.Values.{value, index}
 use Rattle.meaning.specs.State.{Message, State, Program, processAt, whole, stateOf, changeStates, writeAll, Effect}
 use Rattle.meaning.specs.Labels.{Label, own, pass, take, takeFrom}
@@ -271,6 +271,20 @@ action-at P s r (live e u k) n = ap (λ (p : ℕ). actionOf (processAt P p)) (sy
 
 pub other-action : (P : Program) (s : State) (r : ℕ) {q : ℕ} {a : Action} → Live P s q a → q ≡ r → eqb (sortOf (actionOf (processAt P r))) (sortOf a) ≡ false → ⊥
 other-action P s r {q} {a} l n t = other-sort (actionOf (processAt P r)) a t (action-at P s r l n)
+
+-- no row of a table has an action of a sort: so none is live
+abbrev pub noneOfSort : ℕ → List Process → Bool
+noneOfSort n [] = not (eqb 0 n)
+noneOfSort n (p ∷ l) = not (eqb (sortOf (actionOf p)) n) && noneOfSort n l
+
+none-of-sort : (n : ℕ) (l : List Process) → noneOfSort n l ≡ true → (r : ℕ) → sortOf (actionOf (getD l r (orStop none))) ≡ n → ⊥
+none-of-sort n [] t r e = eqb-false 0 n (not-true (eqb 0 n) t) e
+none-of-sort n (p ∷ l) t zero e = eqb-false (sortOf (actionOf p)) n (not-true (eqb (sortOf (actionOf p)) n) (both-true (not (eqb (sortOf (actionOf p)) n)) (noneOfSort n l) t .0)) e
+none-of-sort n (p ∷ l) t (suc r) e = none-of-sort n l (both-true (not (eqb (sortOf (actionOf p)) n)) (noneOfSort n l) t .1) r e
+
+pub none-live : (P : Program) (s : State) {r : ℕ} {a : Action} → noneOfSort (sortOf a) (P .processes) ≡ true → Live P s r a → ⊥
+unfolding processAt
+none-live P s {r} {a} t (live e u k) = none-of-sort (sortOf a) (P .processes) t r (ap (λ (p : Process). sortOf (actionOf p)) e)
 
 -- a sheet for a table with no role 1 channel: one empty line
 abbrev pub emptySheet : List ℕ

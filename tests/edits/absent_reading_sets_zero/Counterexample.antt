@@ -7,14 +7,18 @@ use Prim.Native.Nat.{ℕ, zero, suc}
 use native.Mathlib.Omega.{arith}
 use lib.IntN.{ℤ, pos}
 use lib.ListN.{getD}
+use Rattle.meaning.specs.declared.Outcome.the-variants.{Ended}
 use Rattle.meaning.specs.State.{Message, State, Program, program}
 use Rattle.meaning.specs.Labels.{Label, own}
 use Rattle.meaning.specs.Readings.{Sheet, entry}
 use Rattle.meaning.specs.SettlingRules.{rest}
 use Rattle.meaning.specs.Step.{live, host, host-read, Step}
+use Rattle.meaning.specs.Answers.{Task}
 use Rattle.meaning.proofs.Computes.{computes}
+use Rattle.meaning.proofs.ComputesAnswers.{computesAnswers}
 use Rattle.agreement.specs.MissingClaims.{cellOf, Delivers, by-assignment, by-communication, by-reading, by-option-reading, by-option-communication, ReadsAbsent, input-absent, SetByNumber, AbsentUnsets}
-use Rattle.counterexample.specs.Concrete.{present, rowIn, other-step, other-action, idle-by-test, step}
+use Rattle.agreement.specs.CallClaims.{MissingAnswered}
+use Rattle.counterexample.specs.Concrete.{present, none-live, lentBuffers, idle-by-test, step}
 
 abbrev rows : List ℤ
 rows =
@@ -53,22 +57,30 @@ absent : ReadsAbsent P sheet start (own 2) 0
 unfolding computes
 absent = input-absent (live refl refl (idle-by-test (start .states) [] refl)) (host refl refl refl refl refl)
 
--- nobody gives the cell a number
-nobody : {x : Label} {a : ℕ} {m : Message} → Delivers P sheet start x a m → x ≡ own 2 → m ≡ some (pos 0) → ⊥
-unfolding computes
-nobody (by-assignment l i v) x m = other-action P start 2 l (ap rowIn x) refl
-nobody (by-communication l o i s) x m = other-step refl x
-nobody (by-reading {n} {i} {v} l (host c d t p e)) x m = let q : _≡_ {A = ℕ} 1 0 = sym (ap present m) ∙ only-absent (i .channel .port) n v e in omega arith
-nobody (by-option-reading l c b h i o) x m = other-step refl x
-nobody (by-option-communication l c b k h i o s) x m = other-step refl x
+-- in no state a step gives the cell a number
+nobody : (s : State) {x : Label} {a : ℕ} {m : Message} → Delivers P sheet s x a m → m ≡ some (pos 0) → ⊥
+unfolding computesAnswers
+nobody s (by-assignment l i v) m = none-live P s refl l
+nobody s (by-communication l o i e) m = none-live P s refl o
+nobody s (by-reading {n} {i} {v} l (host c d t p e)) m = let q : _≡_ {A = ℕ} 1 0 = sym (ap present m) ∙ only-absent (i .channel .port) n v e in omega arith
+nobody s (by-option-reading l c b h i o) m = none-live P s refl l
+nobody s (by-option-communication l c b k h i o e) m = none-live P s refl l
 
-pub counterexample : (¬ SetByNumber) × (¬ AbsentUnsets)
-unfolding computes
+-- the call: the lines `0` and an empty one
+abbrev task : Task
+task = record { rows = rows; sheet = 48 ∷ 10 ∷ 10 ∷ []; choices = []; budget = 5 }
+
+pub counterexample : (¬ SetByNumber) × (¬ AbsentUnsets) × (¬ MissingAnswered)
+unfolding computesAnswers
 counterexample = (
   λ h. given (h P sheet start (own 2) read reads 0 (pos 0) refl),
   λ h. let e : _≡_ {A = ℕ} 1 0 = ap present (h rows sheet start (own 2) 0 absent .1 read reads) in omega arith,
+  λ h.
+      let (ran, cells) = h task lentBuffers Ended 1 refl in
+      let handed = cells 0 (omega arith) .0 (λ e. let d : _≡_ {A = ℕ} 1 0 = e in omega arith) .1 in
+      nobody (handed .at) (handed .handed) refl,
 )
   where
     given : (cellOf start 0 ≡ some (pos 0)) ⊎ Delivers P sheet start (own 2) 0 (some (pos 0)) → ⊥
     given (inl e) = let d : _≡_ {A = ℕ} 0 1 = ap present e in omega arith
-    given (inr d) = nobody d refl refl
+    given (inr d) = nobody start d refl
