@@ -5,3 +5,4 @@ pub mod SettlingClaims
 pub mod VerdictClaims
 pub mod Coherence
 pub mod CallClaims
+pub mod RowsOfSteps

@@ -5,7 +5,7 @@ ghost use lib.ListN.{length, getD, replicate};
 ghost use Rattle.meaning.specs.Basics.{among};
 ghost use Rattle.meaning.specs.Rows.{rowCount};
 ghost use Rattle.meaning.specs.Tree.{partAt};
-ghost use Rattle.agreement.proofs.OptionRows.{rowsOf};
+ghost use Rattle.agreement.specs.RowsOfSteps.{rowsOfOptions};
 ghost use Rattle.notes.specs.Marks.{firstNote, noteAt, ownerNotes};
 use layout::nodes::natural;
 use layout::nodes::operand;
@@ -36,7 +36,7 @@ pub fn clear_notes(notes: &mut [u16])
 
 // Notes `note` at every option from row `first` on that has no note yet.
 fn note_options(rows: &[i32], first: usize, note: u16, owners: &mut [u16])
-    ensures { λ _. ⌜ ((j : ℕ) → j < length (now (owners .entry)) → getD (now (owners .exit)) j 0 ≡ firstNote (among j (rowsOf (partAt (now (rows .entry)) first .branches))) note (getD (now (owners .entry)) j 0)) ⌝ }
+    ensures { λ _. ⌜ ((j : ℕ) → j < length (now (owners .entry)) → getD (now (owners .exit)) j 0 ≡ firstNote (among j (rowsOfOptions (partAt (now (rows .entry)) first .branches))) note (getD (now (owners .entry)) j 0)) ⌝ }
 {
     let mut t = first;
     while t < rows.len() / 4 {
