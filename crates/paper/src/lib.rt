@@ -85,7 +85,7 @@ fn table_page(table: &[u8], sheet: &[u8], out: &mut [u8]) -> usize
 }
 
 // What the sheet runner prints for standard input, at the start of a lent buffer: how many bytes. 98,304 bytes hold all of it.
-pub fn answer_page(input: &[u8], out: &mut [u8]) -> usize
+fn answer_page(input: &[u8], out: &mut [u8]) -> usize
     ensures { λ n. ⌜ (n, now (out .exit)) ≡ printedIn (runner (now (input .entry))) (now (out .entry)) ⌝ }
     ensures { λ n. ⌜ length (runner (now (input .entry))) ≤ maxPage ⌝ }
 {
