@@ -10,3 +10,4 @@ pub mod ValueClaims
 pub mod ChoiceClaims
 pub mod RefusalClaims
 pub mod BufferClaims
+pub mod RowsOfSteps

@@ -14,7 +14,7 @@ use Rattle.meaning.specs.Rows.{rowCount, nodeAt}
 use Rattle.meaning.specs.Tree.{Process, Part, noPart, partOf, partAt, orStop, actionOf}
 use Rattle.meaning.specs.State.{State, program, processAt}
 use Rattle.meaning.specs.Intent.{Sheet, intent}
-use Rattle.agreement.proofs.OptionRows.{rowsOf, optionRows}
+use Rattle.agreement.proofs.OptionRows.{optionRows, rowsOfOptions}
 use Rattle.meaning.specs.PartClaims.{higherPart}
 use Rattle.agreement.proofs.TableTree.{part-at, part-past, process-is, Known, every-row}
 use Rattle.machine.specs.RowSteps.{isOption, ownStepBy, waitingAt, ownStep}
@@ -31,7 +31,7 @@ module _ (rows : List ℤ) where
   ofProcess (some p) = optionRows (actionOf p)
 
   abbrev PartOk : ℕ → Part → Type 0
-  PartOk r p = Options (rowsOf (p .branches)) × Options (ofProcess (p .process))
+  PartOk r p = Options (rowsOfOptions (p .branches)) × Options (ofProcess (p .process))
 
   no-options : Options []
   no-options j m = absurd (List·Memᴰ·not-nil m)
@@ -60,7 +60,7 @@ module _ (rows : List ℤ) where
   part-ok r at h (Alt a) e = (no-options, h a .0)
   part-ok r at h (Member a b) e = nothing r
   part-ok r at h (Choice a b c) e = nothing r
-  part-ok r at h (Alternative a b c) e = (one-more r (rowsOf (at b .branches)) e (h b .0), no-options)
+  part-ok r at h (Alternative a b c) e = (one-more r (rowsOfOptions (at b .branches)) e (h b .0), no-options)
   part-ok r at h (Guard a b) e = nothing r
   part-ok r at h Other e = nothing r
 

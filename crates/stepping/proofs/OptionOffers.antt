@@ -17,7 +17,7 @@ use Rattle.meaning.specs.Tree.{AltOption, Action, stop, skip, sequence, paralle
 use Rattle.meaning.specs.State.{program, processAt}
 use Rattle.meaning.specs.Intent.{Offer}
 use Rattle.meaning.specs.Ready.{optionRow}
-use Rattle.agreement.proofs.OptionRows.{rowsOf, optionRows}
+use Rattle.agreement.proofs.OptionRows.{rowsOfOptions, optionRows}
 use Rattle.agreement.proofs.Active.{offerAt}
 use Rattle.agreement.proofs.TableTree.{above, part-at, part-past, process-is}
 use Rattle.layout.specs.Operands.{operandAt}
@@ -83,7 +83,7 @@ module _ (rows : List ℤ) where
       go (no l) = rw (part-past rows r (omega arith)) tt
 
   -- the rows of an action's options
-  pub rows-of-options : (k : Action) → rowsOf (optionsOf k) ≡ optionRows k
+  pub rows-of-options : (k : Action) → rowsOfOptions (optionsOf k) ≡ optionRows k
   rows-of-options stop = refl
   rows-of-options skip = refl
   rows-of-options sequence = refl
@@ -124,13 +124,13 @@ module _ (rows : List ℤ) where
     twice false (some x) = refl
 
     -- the offer of row j is what the option of row j offers by itself
-    pub offer-of-row : (bs : List AltOption) → OfRows bs → offerAt j (concat (map f bs)) ≡ ifElse (among j (rowsOf bs)) (offerAt j (f (optionAt rows j))) none
+    pub offer-of-row : (bs : List AltOption) → OfRows bs → offerAt j (concat (map f bs)) ≡ ifElse (among j (rowsOfOptions bs)) (offerAt j (f (optionAt rows j))) none
     unfolding concat any
     offer-of-row [] h = refl
     offer-of-row (b ∷ l) h = append (f b) (concat (map f l)) ∙ ap (first (offerAt j (f b))) (offer-of-row l (h .1)) ∙ go (eqb j (b .row)) refl
       where
-        go : (t : Bool) → eqb j (b .row) ≡ t → first (offerAt j (f b)) (ifElse (any (eqb j) (rowsOf l)) (offerAt j (f (optionAt rows j))) none) ≡ ifElse (t || any (eqb j) (rowsOf l)) (offerAt j (f (optionAt rows j))) none
+        go : (t : Bool) → eqb j (b .row) ≡ t → first (offerAt j (f b)) (ifElse (any (eqb j) (rowsOfOptions l)) (offerAt j (f (optionAt rows j))) none) ≡ ifElse (t || any (eqb j) (rowsOfOptions l)) (offerAt j (f (optionAt rows j))) none
         go true e =
             let q : f b ≡ f (optionAt rows j) = ap f (h .0 ∙ ap (optionAt rows) (sym (eqb-true j (b .row) e))) in
-            rw q (twice (any (eqb j) (rowsOf l)) (offerAt j (f (optionAt rows j))))
+            rw q (twice (any (eqb j) (rowsOfOptions l)) (offerAt j (f (optionAt rows j))))
         go false e = rw (other (b .row) (f b) (own b) (λ q. eqb-false j (b .row) e (sym q)))
