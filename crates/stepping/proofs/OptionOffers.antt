@@ -19,7 +19,8 @@ use Rattle.meaning.specs.Intent.{Offer}
 use Rattle.meaning.specs.Ready.{optionRow}
 use Rattle.agreement.proofs.OptionRows.{rowsOfOptions, optionRows}
 use Rattle.agreement.proofs.Active.{offerAt}
-use Rattle.agreement.proofs.TableTree.{above, part-at, part-past, process-is}
+use Rattle.meaning.specs.PartClaims.{higherPart}
+use Rattle.agreement.proofs.TableTree.{part-at, part-past, process-is}
 use Rattle.layout.specs.Operands.{operandAt}
 use Rattle.layout.proofs.Parts.{operand-higher}
 use Rattle.offers.specs.Rows.{optionAt}
@@ -47,14 +48,14 @@ module _ (rows : List ℤ) where
       go (yes l) k = here l (eqb (kindAt rows t) 42) refl k
       go (no l) k = past t (omega arith)
 
-  higher-known : (r a : ℕ) → OfRows (above rows r a .branches)
+  higher-known : (r a : ℕ) → OfRows (higherPart rows r a .branches)
   higher-known r a = go (ltb r a)
     where
       go : (t : Bool) → OfRows (ifElse t (partAt rows a) noPart .branches)
       go true = branches-known (rowCount rows) a (omega arith)
       go false = tt
 
-  node-known : (r : ℕ) (k : Node) → OfRows (optionsOf (actionOf (orStop (partOf rows r (above rows r) k .process))))
+  node-known : (r : ℕ) (k : Node) → OfRows (optionsOf (actionOf (orStop (partOf rows r (higherPart rows r) k .process))))
   node-known r (Literal x) = tt
   node-known r (Element a b) = tt
   node-known r (Monadic a b) = tt
