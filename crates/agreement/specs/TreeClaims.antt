@@ -2,7 +2,7 @@
 use mathlib.Core.Path.{_≡_}
 use mathlib.Core.Logic.{_⊎_, _↔_}
 use mathlib.Core.Option.{none}
-use mathlib.Core.List.{List, List·Memᴰ}
+use mathlib.Core.List.{List, [], _∷_, List·Memᴰ}
 use Prim.Native.Nat.{ℕ, _<_}
 use lib.IntN.{ℤ}
 use lib.ListN.{getD}
@@ -16,6 +16,11 @@ use Rattle.meaning.specs.Ready.{Label}
 use Rattle.meaning.specs.Order.{OrderOf}
 use Rattle.meaning.specs.Answers.{check}
 use Rattle.agreement.specs.Coherence.{AllIdle}
+
+-- no number stands in the list twice
+pub data EachOnce : List ℕ → Type 0 where
+  once-none : EachOnce []
+  once-more : {x : ℕ} {l : List ℕ} → ¬ List·Memᴰ x l → EachOnce l → EachOnce (x ∷ l)
 
 module _ (rows : List ℤ) where
   -- "a process one of kind 20 to 34"
@@ -36,6 +41,10 @@ BeneathInTree = (rows : List ℤ) → check rows ≡ none → (r : ℕ) → r < 
 abbrev pub RowsOfTree : Type 0
 RowsOfTree = (rows : List ℤ) → check rows ≡ none → (b : ℕ)
     → List·Memᴰ b (rowsIn (whole (program rows))) ↔ ((b < rowCount rows) × IsProcess rows b × ¬ OfGuard rows b)
+
+-- and each is in it once
+abbrev pub RowsOnce : Type 0
+RowsOnce = (rows : List ℤ) → check rows ≡ none → EachOnce (rowsIn (whole (program rows)))
 
 -- "other rows are 0", "The rows of guards stay 0"
 abbrev pub OtherRowsIdle : Type 0
