@@ -35,12 +35,12 @@ module _ (rows : List ℤ) where
 -- the rows beneath the process at row r, in the tree, are the process rows beneath row r that are not of guards
 abbrev pub BeneathInTree : Type 0
 BeneathInTree = (rows : List ℤ) → check rows ≡ none → (r : ℕ) → r < rowCount rows → IsProcess rows r → (b : ℕ)
-    → List·Memᴰ b (rowsBeneath (membersIn (processAt (program rows) r))) ↔ (Beneath rows r b × IsProcess rows b × ¬ OfGuard rows b)
+    → List·Memᴰ b (rowsBeneath (membersIn (processAt (program rows) r))) ↔ (Beneath rows r b × IsProcess rows b × (¬ OfGuard rows b))
 
 -- the rows of the whole tree are the table's process rows that are not of guards
 abbrev pub RowsOfTree : Type 0
 RowsOfTree = (rows : List ℤ) → check rows ≡ none → (b : ℕ)
-    → List·Memᴰ b (rowsIn (whole (program rows))) ↔ ((b < rowCount rows) × IsProcess rows b × ¬ OfGuard rows b)
+    → List·Memᴰ b (rowsIn (whole (program rows))) ↔ ((b < rowCount rows) × IsProcess rows b × (¬ OfGuard rows b))
 
 -- and each is in it once
 abbrev pub RowsOnce : Type 0
@@ -49,7 +49,7 @@ RowsOnce = (rows : List ℤ) → check rows ≡ none → EachOnce (rowsIn (whole
 -- "other rows are 0", "The rows of guards stay 0"
 abbrev pub OtherRowsIdle : Type 0
 OtherRowsIdle = (rows : List ℤ) → check rows ≡ none → (sheet : Sheet) (l : List Label) (s : State) → OrderOf rows sheet l s
-    → (x : ℕ) → ¬ IsProcess rows x ⊎ OfGuard rows x → getD (s .states) x 0 ≡ 0
+    → (x : ℕ) → (¬ IsProcess rows x) ⊎ OfGuard rows x → getD (s .states) x 0 ≡ 0
 
 -- "every row beneath it is idle": of the rows in the tree, and so of all rows of the table beneath row r
 abbrev pub BeneathIdle : Type 0
