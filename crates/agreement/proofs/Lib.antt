@@ -78,6 +78,7 @@ pub mod DataKept
 pub mod OrdersSettle
 pub mod OrdersCoherent
 pub mod TreeExact
+pub mod TreeOnce
 pub mod TreeIdle
 pub mod Answered
 pub mod Calls

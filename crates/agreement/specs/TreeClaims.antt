@@ -2,7 +2,7 @@
 use mathlib.Core.Path.{_≡_}
 use mathlib.Core.Logic.{_⊎_, _↔_}
 use mathlib.Core.Option.{none}
-use mathlib.Core.List.{List, List·Memᴰ}
+use mathlib.Core.List.{List, [], _∷_, List·Memᴰ}
 use Prim.Native.Nat.{ℕ, _<_}
 use lib.IntN.{ℤ}
 use lib.ListN.{getD}
@@ -17,6 +17,11 @@ use Rattle.meaning.specs.Order.{OrderOf}
 use Rattle.meaning.specs.Answers.{check}
 use Rattle.agreement.specs.Coherence.{AllIdle}
 
+-- no number stands in the list twice
+pub data EachOnce : List ℕ → Type 0 where
+  once-none : EachOnce []
+  once-more : {x : ℕ} {l : List ℕ} → ¬ List·Memᴰ x l → EachOnce l → EachOnce (x ∷ l)
+
 module _ (rows : List ℤ) where
   -- "a process one of kind 20 to 34"
   abbrev pub IsProcess : ℕ → Type 0
@@ -30,17 +35,21 @@ module _ (rows : List ℤ) where
 -- the rows beneath the process at row r, in the tree, are the process rows beneath row r that are not of guards
 abbrev pub BeneathInTree : Type 0
 BeneathInTree = (rows : List ℤ) → check rows ≡ none → (r : ℕ) → r < rowCount rows → IsProcess rows r → (b : ℕ)
-    → List·Memᴰ b (rowsBeneath (membersIn (processAt (program rows) r))) ↔ (Beneath rows r b × IsProcess rows b × ¬ OfGuard rows b)
+    → List·Memᴰ b (rowsBeneath (membersIn (processAt (program rows) r))) ↔ (Beneath rows r b × IsProcess rows b × (¬ OfGuard rows b))
 
 -- the rows of the whole tree are the table's process rows that are not of guards
 abbrev pub RowsOfTree : Type 0
 RowsOfTree = (rows : List ℤ) → check rows ≡ none → (b : ℕ)
-    → List·Memᴰ b (rowsIn (whole (program rows))) ↔ ((b < rowCount rows) × IsProcess rows b × ¬ OfGuard rows b)
+    → List·Memᴰ b (rowsIn (whole (program rows))) ↔ ((b < rowCount rows) × IsProcess rows b × (¬ OfGuard rows b))
+
+-- and each is in it once
+abbrev pub RowsOnce : Type 0
+RowsOnce = (rows : List ℤ) → check rows ≡ none → EachOnce (rowsIn (whole (program rows)))
 
 -- "other rows are 0", "The rows of guards stay 0"
 abbrev pub OtherRowsIdle : Type 0
 OtherRowsIdle = (rows : List ℤ) → check rows ≡ none → (sheet : Sheet) (l : List Label) (s : State) → OrderOf rows sheet l s
-    → (x : ℕ) → ¬ IsProcess rows x ⊎ OfGuard rows x → getD (s .states) x 0 ≡ 0
+    → (x : ℕ) → (¬ IsProcess rows x) ⊎ OfGuard rows x → getD (s .states) x 0 ≡ 0
 
 -- "every row beneath it is idle": of the rows in the tree, and so of all rows of the table beneath row r
 abbrev pub BeneathIdle : Type 0

@@ -1,6 +1,7 @@
 -- The stages 4, 5 and 6 find nothing exactly if every place is right.
 use mathlib.Core.Path.{_≡_, sym, _∙_}
-use mathlib.Core.Logic.{_↔_}
+use mathlib.Core.Logic.{_⊎_, inl, inr, _↔_}
+use mathlib.Core.Bool.{Bool}
 use mathlib.Core.List.{List}
 use mathlib.Core.Option.{Option, none, some, Option·map, Option·some-ne-none}
 use Prim.Native.Nat.{ℕ, suc, _<_}
@@ -10,8 +11,8 @@ use Rattle.meaning.specs.Rows.{rowCount, declarations}
 use Rattle.meaning.specs.TableBytes.{Refusal}
 use Rattle.meaning.specs.Verdict.{formFault, treeFault, limitFault}
 use Rattle.meaning.specs.Faults.{WellFormed, WellPlaced, WithinLimits}
-use Rattle.meaning.specs.StageClaims.{Finds, FormStage, TreeStage, LimitStage}
-use Rattle.meaning.proofs.Decides.{not-wrong}
+use Rattle.meaning.specs.StageClaims.{Finds, FormStage, TreeStage, LimitStage, PlacesDecided}
+use Rattle.meaning.proofs.Decides.{Faults, right, wrong, not-wrong}
 use Rattle.meaning.proofs.FaultLaws.{well-formed, form-stage, within-limits, limit-stage}
 use Rattle.meaning.proofs.TreeLaws.{well-placed, tree-stage}
 
@@ -35,3 +36,11 @@ module _ (rows : List ℤ) where
   pub limit-none : (limitFault rows ≡ none) ↔ ((r : ℕ) → r < declarations rows → WithinLimits rows r)
   unfolding LimitStage
   limit-none = finds-none 6 (WithinLimits rows) (λ r. not-wrong (within-limits rows r)) (declarations rows) (limitFault rows) (limit-stage rows)
+
+pub places-decided : PlacesDecided
+unfolding PlacesDecided
+places-decided rows r = (either (well-formed rows r), either (well-placed rows r), either (within-limits rows r))
+  where
+    either : {A : Type 0} {t : Bool} → Faults A t → A ⊎ (¬ A)
+    either (right a) = inl a
+    either (wrong a) = inr a

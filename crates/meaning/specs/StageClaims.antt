@@ -1,5 +1,6 @@
 -- What is claimed of the stages 4, 5 and 6: each answers with the lowest place at fault; the rows that stage 5 passes are one tree.
 use mathlib.Core.Path.{_≡_}
+use mathlib.Core.Logic.{_⊎_}
 use mathlib.Core.List.{List}
 use mathlib.Core.Option.{Option, none, Option·map}
 use Prim.Native.Nat.{ℕ, suc, _<_}
@@ -24,7 +25,13 @@ TreeStage = (rows : List ℤ) → Finds 5 (WellPlaced rows) (suc (rowCount rows)
 unfoldable pub LimitStage : Type 0
 LimitStage = (rows : List ℤ) → Finds 6 (WithinLimits rows) (declarations rows) (limitFault rows)
 
--- then the rows after the declarations are one tree: all others are beneath the root, and by one way (`Once`)
+-- of every place it is decided whether it is right; so all places below the lowest that is not are right
+unfoldable pub PlacesDecided : Type 0
+PlacesDecided =
+    (rows : List ℤ) (r : ℕ)
+    → (WellFormed rows r ⊎ (¬ WellFormed rows r)) × (WellPlaced rows r ⊎ (¬ WellPlaced rows r)) × (WithinLimits rows r ⊎ (¬ WithinLimits rows r))
+
+-- the rows that stage 5 passes are one tree from the root: all after it are beneath it, and by one way (`Once`)
 unfoldable pub OneTree : Type 0
 OneTree =
     (rows : List ℤ)
