@@ -17,9 +17,9 @@ use Rattle.meaning.specs.Intent.{Sheet, entry}
 use Rattle.meaning.specs.Buffers.{Buffers, tooShort, encode}
 use Rattle.meaning.specs.Decode.{decode}
 use Rattle.meaning.specs.PrintedForms.{Each}
-use Rattle.meaning.specs.Answers.{Task, check, reply, replyToBytes}
+use Rattle.meaning.specs.Answers.{Task, check, Reply, reply, replyToBytes}
 use Rattle.agreement.specs.Statements.{Reached}
-use Rattle.agreement.specs.CallClaims.{Call, taskOfBytes, RanAs}
+use Rattle.agreement.specs.CallClaims.{taskOfBytes, RanAs}
 
 -- "Each lent buffer must be as long as its limit above"
 pub record LongEnough (b : Buffers) : Type 0 where
@@ -119,7 +119,7 @@ EqualBuffers = (rows : List ℤ) (sheet other : Sheet) (s t : State) → check r
     → (b c : Buffers) → encode rows s b ≡ encode rows t c → s ≡ t
 
 -- a call that ran has left the state that its order comes to, and that state comes back
-abbrev pub LeavesState : Call → Task → Type 0
+abbrev pub LeavesState : (Buffers → Reply) → Task → Type 0
 LeavesState call t = (b : Buffers) (outcome : Outcome) (steps : ℕ) → call b .answer ≡ Ran outcome steps
     → (run : RanAs t b (call b) outcome steps) × BuffersHold (t .rows) (run .end) b (call b .buffers) × (decode (t .rows) (call b .buffers) ≡ run .end)
 

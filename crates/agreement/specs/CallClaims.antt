@@ -21,16 +21,15 @@ use Rattle.meaning.specs.Order.{OrderOf, RestOf, outcomeOf, ChosenOf}
 use Rattle.agreement.specs.Statements.{StepOf}
 use Rattle.agreement.specs.MissingClaims.{Delivers}
 
--- a call: what it answers and leaves, by the buffers lent to it. The two entries take a task on rows, or a table's bytes
-abbrev pub Call : Type 0
-Call = Buffers → Reply
+-- Each statement is made once of a call, as what it answers and leaves by the buffers lent to it, and then for the two entries: for a task
+-- on rows, and for a table's bytes.
 
 -- the task on the rows of a table's bytes
 abbrev pub taskOfBytes : List ℕ → List ℕ → List ℕ → ℕ → Task
 taskOfBytes table sheet choices budget = record { rows = rowsOf table; sheet = sheet; choices = choices; budget = budget }
 
 -- "A refusal changes no buffer lent to us"
-abbrev pub Untouched : Call → Type 0
+abbrev pub Untouched : (Buffers → Reply) → Type 0
 Untouched call = (b : Buffers) (number place : ℕ) → call b .answer ≡ Refused number place → call b .buffers ≡ b
 
 abbrev pub RefusedUntouched : Type 0
@@ -40,7 +39,7 @@ abbrev pub RefusedUntouchedBytes : Type 0
 RefusedUntouchedBytes = (table sheet choices : List ℕ) (budget : ℕ) → Untouched (replyToBytes table sheet choices budget)
 
 -- "a lent buffer is too short": refused by 1, whatever else is at fault, faulty bytes included
-abbrev pub RefusesShort : Call → Type 0
+abbrev pub RefusesShort : (Buffers → Reply) → Type 0
 RefusesShort call = (b : Buffers) → tooShort b ≡ true → call b ≡ record { answer = Refused 1 0; buffers = b }
 
 abbrev pub ShortRefused : Type 0
@@ -72,7 +71,7 @@ pub record RanAs (t : Task) (b : Buffers) (r : Reply) (outcome : Outcome) (steps
   pub spent-exactly : (outcome ≡ Spent) ↔ ((steps ≡ t .budget) × ((x : Label) × ((s : State) × StepOf (t .rows) (readings (t .rows) (t .sheet)) end x s)))
 
 -- demand 2 about calls: every answered run is that of an order of allowed steps
-abbrev pub RunsOrder : Call → Task → Type 0
+abbrev pub RunsOrder : (Buffers → Reply) → Task → Type 0
 RunsOrder call t = (b : Buffers) (outcome : Outcome) (steps : ℕ) → call b .answer ≡ Ran outcome steps → RanAs t b (call b) outcome steps
 
 abbrev pub RunAnswered : Type 0
@@ -87,7 +86,7 @@ RanUnrefused = (table sheet choices : List ℕ) (budget : ℕ) (b : Buffers) (ou
     → replyToBytes table sheet choices budget b .answer ≡ Ran outcome steps → bytesFault table ≡ none
 
 -- demand 2 about calls: "Every step so allowed can be chosen": every order of at most 65,536 steps is that of a call with some 16-bit choices
-abbrev pub TakesOrder : (List ℕ → ℕ → Call) → List ℤ → List ℕ → Type 0
+abbrev pub TakesOrder : (List ℕ → ℕ → Buffers → Reply) → List ℤ → List ℕ → Type 0
 TakesOrder call rows sheet = (l : List Label) (s : State) → OrderOf rows (readings rows sheet) l s → length l ≤ maxBudget → (b : Buffers) → tooShort b ≡ false
     → (choices : List ℕ) × ((c : ℕ) → List·Memᴰ c choices → c < 65536)
     × ((outcome : Outcome) × (call choices (length l) b ≡ record { answer = Ran outcome (length l); buffers = encode rows s b }))
@@ -118,7 +117,7 @@ HandedCells t b r outcome steps = (run : RanAs t b r outcome steps) × ((i : ℕ
     let z = getD (r .buffers .cells) i (pos 0) in
     (m ≢ 0 → (m ≡ 1) × HandedTo (t .rows) (t .sheet) (run .labels) i z) × (m ≡ 0 → z ≡ pos 0))
 
-abbrev pub KeepsMissing : Call → Task → Type 0
+abbrev pub KeepsMissing : (Buffers → Reply) → Task → Type 0
 KeepsMissing call t = (b : Buffers) (outcome : Outcome) (steps : ℕ) → call b .answer ≡ Ran outcome steps → HandedCells t b (call b) outcome steps
 
 abbrev pub MissingAnswered : Type 0
