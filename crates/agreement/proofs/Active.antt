@@ -11,20 +11,7 @@ use Rattle.meaning.specs.State.{Message, Write, writeCell, Effect}
 use Rattle.meaning.specs.Intent.{Offer, openOffer, inputOffer, Intent, waits, moves, inputsFrom, outputsTo, selects}
 use Rattle.meaning.specs.Ready.{Label, own, pass, take, takeFrom, ownEffect, meeting, meetEffect, passEffect, takeEffect, takeFromEffect, optionRow, offerEffectAt, offerEffect, effectOf}
 use Rattle.meaning.specs.Step.{becomes, effect}
-
--- the rows of a step
-pub data RowOf : Label → ℕ → Type 0 where
-  its : {r : ℕ} → RowOf (own r) r
-  receiver : {i o : ℕ} → RowOf (pass i o) i
-  sender : {i o : ℕ} → RowOf (pass i o) o
-  chooser : {r j : ℕ} → RowOf (take r j) r
-  selector : {r j o : ℕ} → RowOf (takeFrom r j o) r
-  giver : {r j o : ℕ} → RowOf (takeFrom r j o) o
-
--- the first offer of an option
-abbrev pub offerAt : ℕ → List Offer → Option Offer
-offerAt j [] = none
-offerAt j (o ∷ l) = ifElse (eqb (optionRow o) j) (some o) (offerAt j l)
+pub use Rattle.agreement.specs.RowsOfSteps.{RowOf, its, receiver, sender, chooser, selector, giver, offerAt}
 
 eqb-is : (m n : ℕ) → eqb m n ≡ true → m ≡ n
 eqb-is m n e = eqb→eq m n (subst (λ (t : Bool). T t) (sym e) tt)

@@ -11,11 +11,9 @@ use lib.ListN.{length, getD}
 use lib.Dec.{ltb}
 use borrow.Author.Tests.{ltb-false}
 use Rattle.meaning.specs.declared.Outcome.{Outcome}
-use Rattle.meaning.specs.declared.Answer.{Answer}
 use Rattle.meaning.specs.declared.Answer.the-variants.{Refused, Ran}
 use Rattle.meaning.specs.Basics.{ifElse}
 use Rattle.meaning.specs.Limits.{maxBudget, maxCells}
-use Rattle.meaning.specs.TableBytes.{rowsOf}
 use Rattle.meaning.specs.State.{Message, State}
 use Rattle.meaning.specs.Ready.{Label}
 use Rattle.meaning.specs.Run as R
@@ -23,10 +21,11 @@ use Rattle.meaning.specs.Run.{run}
 use Rattle.meaning.specs.Sheet.{sheetFault, readings}
 use Rattle.meaning.specs.Buffers.{Buffers, tooShort, mark, numberIn, encode}
 use Rattle.meaning.specs.Refusals.{Refusal}
+use Rattle.meaning.specs.TableBytes.{rowsOf}
 use Rattle.meaning.specs.Stages.{budgetFault, bufferFault}
 use Rattle.meaning.specs.Answers.{Task, Result, refused, ran, unless, check, result, Reply, replyOf, reply}
 use Rattle.meaning.specs.declared.Outcome.the-variants.{Spent}
-use Rattle.meaning.specs.Order.{OrderOf, RestOf}
+use Rattle.meaning.specs.Order.{RestOf}
 use Rattle.meaning.proofs.AnswerLaws.{result-stages, result-of-bytes, reply-stages, reply-to-bytes}
 use Rattle.agreement.specs.Statements.{StepOf}
 use Rattle.agreement.specs.CallClaims.{RefusedUntouched, BytesAsRows, RanAs, RunAnswered, OrderAnswered, HandedTo, MissingAnswered}

@@ -1,8 +1,9 @@
 -- When the list of choices is used up, 0 is meant: zeros at its end change nothing.
-use mathlib.Core.Path.{_≡_, refl, ap}
+use mathlib.Core.Path.{_≡_, refl, sym, ap, _∙_}
 use mathlib.Core.List.{List, [], _∷_, _++_}
 use Prim.Native.Nat.{ℕ, zero, suc}
 use lib.ListN.{replicate}
+use Rattle.meaning.specs.Limits.{maxBudget}
 use Rattle.meaning.specs.State.{State, Program, program}
 use Rattle.meaning.specs.Settle.{start}
 use Rattle.meaning.specs.Labels.{Label}
@@ -10,9 +11,11 @@ use Rattle.meaning.specs.Readings.{Sheet}
 use Rattle.meaning.specs.Ready.{ready, after}
 use Rattle.meaning.specs.Order.{chosenStep}
 use Rattle.meaning.specs.Run.{Result, goFrom, go, run}
-use Rattle.meaning.specs.Sheet.{readings}
+use Rattle.meaning.specs.Sheet.{sheetFault, readings}
 use Rattle.meaning.specs.Buffers.{Buffers}
-use Rattle.meaning.specs.Answers.{Task, replyOf, unless, ran, firstFault, bufferFault, stages, result, reply}
+use Rattle.meaning.specs.Stages.{bufferFault, budgetFault}
+use Rattle.meaning.specs.Answers.{Task, check, replyOf, unless, ran, result, reply}
+use Rattle.meaning.proofs.AnswerLaws.{result-stages, reply-stages}
 use Rattle.agreement.specs.ChoiceClaims.{withZeros, ZeroIsMeant}
 
 module _ (P : Program) (sheet : Sheet) where
@@ -33,6 +36,11 @@ run-with-zeros t n =
     let sheet = readings (t .rows) (t .sheet) in
     with-zeros P sheet (t .budget) 0 n (t .choices) (start P) (ready P sheet (start P))
 
+result-with-zeros : (t : Task) (n : ℕ) → result (withZeros n t) ≡ result t
+result-with-zeros t n =
+    result-stages (withZeros n t)
+    ∙ ap (λ (r : Result). unless (check (t .rows)) (unless (sheetFault (t .rows) (t .sheet)) (unless (budgetFault maxBudget (t .budget)) (ran r)))) (run-with-zeros t n)
+    ∙ sym (result-stages t)
+
 pub zero-is-meant : ZeroIsMeant
-unfolding reply result firstFault
-zero-is-meant t n b = ap (λ (r : Result). replyOf (t .rows) b (unless (bufferFault b) (unless (firstFault stages t) (ran r)))) (run-with-zeros t n)
+zero-is-meant t n b = reply-stages (withZeros n t) b ∙ ap (λ r. replyOf (t .rows) b (unless (bufferFault b) r)) (result-with-zeros t n) ∙ sym (reply-stages t b)

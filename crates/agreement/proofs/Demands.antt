@@ -4,9 +4,12 @@ use mathlib.Core.Option.{none}
 use native.Mathlib.Omega.{arith}
 use Rattle.meaning.specs.Accepted.{Accepted}
 use Rattle.meaning.specs.Answers.{check}
-use Rattle.agreement.specs.Statements.{ReadyExactly, AfterIsStep, EveryOrderChosen, OneStepDiamond, ListsGrow}
+use Rattle.agreement.specs.Statements.{AllowedExactly, ReadyExactly, AfterIsStep, EveryOrderChosen, OneStepDiamond, ListsGrow}
 use Rattle.agreement.proofs.Reached.{ready-steps}
-use Rattle.agreement.proofs.Steps.{ready-allowed, allowed-ready}
+use Rattle.agreement.proofs.Steps.{distinct-options, ready-effect, effect-ready, ready-allowed, allowed-ready}
+use Rattle.agreement.proofs.Allowed.{allowed}
+use Rattle.agreement.proofs.Takeable.{takeable}
+use Rattle.agreement.proofs.MissingSteps.{one-effect}
 use Rattle.agreement.proofs.Separate.{table-inv}
 use Rattle.agreement.proofs.TableFit.{fit, rows-limit}
 use Rattle.agreement.proofs.TableOptions.{option-rows}
@@ -18,6 +21,15 @@ pub use Rattle.agreement.proofs.RowsAscend.{rows-ascend, ready-listed}
 pub use Rattle.agreement.proofs.Elements.{one-per-element}
 pub use Rattle.agreement.proofs.RunTakesOrder.{run-takes-order}
 pub use Rattle.agreement.proofs.Answered.{demand3, demand3-bytes}
+
+pub allowed-exactly : AllowedExactly
+allowed-exactly rows sheet s n x = (
+  (
+    λ m. (let (e, q) = ready-effect rows sheet s x m in (e, allowed (program rows) sheet s x e q)),
+    λ (e, h). effect-ready rows sheet s n x e (takeable (program rows) sheet s (distinct-options rows sheet s) x e h),
+  ),
+  one-effect rows sheet s x,
+)
 
 pub ready-exactly : ReadyExactly
 ready-exactly rows ok sheet s (l, o) x =

@@ -10,6 +10,7 @@ use Rattle.meaning.specs.Settle.{settled}
 use Rattle.meaning.specs.Intent.{Sheet, openOffer, inputOffer, Intent, intent}
 use Rattle.meaning.specs.Ready.{Label, effectOf, intentAt}
 use Rattle.meaning.specs.Step.{Step}
+pub use Rattle.agreement.specs.RowsOfSteps.{NoneOf}
 use Rattle.agreement.proofs.Commute.{own, At}
 use Rattle.agreement.proofs.Parts.{Part, Differ, Cross, leap, leap-stays, leap-comm}
 use Rattle.agreement.proofs.Takeable.{DistinctOptions}
@@ -45,11 +46,7 @@ cross-of : (x y : Label) → RowsApart x y → (l m : List StateChange) → Made
 cross-of x y d [] m h g = tt
 cross-of x y d (c ∷ l) m h g = (differ-of x y d (c .by) (h .0) (record { b = c .by; x = c .at; v = c .become }) refl m g, cross-of x y d l m (h .1) g)
 
--- a row that is none of a step's rows
-abbrev pub NoneOf : Label → ℕ → Type 0
-NoneOf x r = (q : ℕ) → RowOf x q → q ≢ r
-
--- makes none of its changes
+-- a row that is none of a step's rows makes none of its changes
 cross-row : (x : Label) (r : ℕ) → NoneOf x r → (l : List StateChange) → MadeBy x l → Cross (partsOf l) (record { b = r; x = r; v = 2 } ∷ [])
 cross-row x r d [] h = tt
 cross-row x r d (c ∷ l) h = ((d (c .by) (h .0), tt), cross-row x r d l (h .1))

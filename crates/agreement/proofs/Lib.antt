@@ -53,6 +53,8 @@ pub mod FewReady
 pub mod Choosable
 pub mod Demands
 pub mod UsageRows
+pub mod UsageLists
+pub mod UsageReferences
 pub mod UsageTree
 pub mod UsageParts
 pub mod UsageWithin
@@ -66,6 +68,7 @@ pub mod UsageFirst
 pub mod VerdictStages
 pub mod UsageExact
 pub mod VerdictExact
+pub mod TreeRows
 pub mod RowsAscend
 pub mod Elements
 pub mod RunTakesOrder
@@ -74,6 +77,8 @@ pub mod KnownStates
 pub mod DataKept
 pub mod OrdersSettle
 pub mod OrdersCoherent
+pub mod TreeExact
+pub mod TreeIdle
 pub mod Answered
 pub mod Calls
 pub mod Claims

@@ -126,8 +126,10 @@ delivered-holds rows sheet s x t h a m d l =
 -- an input of an absent reading takes place and leaves its target unset
 pub absent-unsets : AbsentUnsets
 absent-unsets rows sheet s x a r =
-    let d = delivery-of-absent rows sheet s x a r in (
-      λ ok (l, o). let (e, h, q) = stores rows sheet s x a none d in (settled (program rows) e s, allowed-step rows sheet (fit rows ok) s (table-inv rows sheet (fit rows ok) l s o) x e h),
+    let d = delivery-of-absent rows sheet s x a r in
+    let (e, h, q) = stores rows sheet s x a none d in (
+      (e, h),
+      λ ok (l, o). (settled (program rows) e s, allowed-step rows sheet (fit rows ok) s (table-inv rows sheet (fit rows ok) l s o) x e h),
       λ t h. ap (λ (c : List Message). getD c a none) (stored-at rows sheet s x a none t h d) ∙ none-stored (s .store .cells) a,
     )
 

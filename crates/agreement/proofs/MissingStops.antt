@@ -92,6 +92,7 @@ module _ (rows : List ℤ) (sheet : Sheet) (s : State) (r reason : ℕ) (a : Act
 -- a running row that lacks a value has one step, the stop
 pub lacking-only-stops : LackingOnlyStops
 lacking-only-stops rows sheet s r reason a g h = (
+  stopping g h,
   λ ok (l, o). (settled (program rows) (stopEffect r reason) s, allowed-step rows sheet (fit rows ok) s (table-inv rows sheet (fit rows ok) l s o) (own r) (stopEffect r reason) (stopping g h)),
   only-stops rows sheet s r reason a g h,
 )

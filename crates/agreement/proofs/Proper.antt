@@ -20,7 +20,7 @@ use Rattle.meaning.specs.Intent.{Sheet, entry, Offer, openOffer, inputOffer, In
 use Rattle.meaning.specs.Usage.{changesBy, inputsBy, ofGuard, ofGuards, changes, inputs, outputs}
 use Rattle.agreement.proofs.Commute.{Child, Legal, own, child}
 use Rattle.agreement.proofs.Fit.{ChoicesIn, OptionsIn, Starts, HostAt, GuardAt, GuardsAt, HostsAt}
-use Rattle.agreement.proofs.OptionRows.{rowsOf, optionRows}
+use Rattle.agreement.proofs.OptionRows.{rowsOfOptions, optionRows}
 use Rattle.agreement.proofs.Footprint.{index-counts}
 use Rattle.agreement.proofs.Near.{host-counts}
 
@@ -174,7 +174,7 @@ module _ (source sink : ℕ → ℕ) where
       guarded-proper none H he ha = tt
       guarded-proper (some i) H he ha = reception-proper i H he ha
 
-      looks-proper : (bs : List AltOption) → GuardsAt source bs → OptionsIn bs ms → ((j : ℕ) → List·Memᴰ j (rowsOf bs) → List·Memᴰ j (optionRows k))
+      looks-proper : (bs : List AltOption) → GuardsAt source bs → OptionsIn bs ms → ((j : ℕ) → List·Memᴰ j (rowsOfOptions bs) → List·Memᴰ j (optionRows k))
           → ((e : ℕ) → List·Memᴰ e (ofGuards inputsBy bs) → List·Memᴰ e (inputs k)) → ((a : ℕ) → List·Memᴰ a (ofGuards changesBy bs) → List·Memᴰ a (changes k)) → Looks (looks sheet bs x)
       looks-proper [] H S hj he ha = tt
       looks-proper (b ∷ l) H S hj he ha =

@@ -196,8 +196,8 @@ table-place rows (not-whole h) = (rows-not-whole {count = min (rowCount rows) ma
 table-place rows (not-formed w l) = (misformed-row (l .0, w .1), λ e. omega arith)
 table-place rows (not-placed {r} w f l) = let k = l .0 in (misplaced-row {r = r} (omega arith) (w .1), λ e. omega arith)
 table-place rows (over-limit {r} w f t l) = (passing-declaration {r = r} (l .0) ((let k = l .0 in let m = few-declarations rows in omega arith), w .1), λ e. omega arith)
-table-place rows (clash w f t l c a b) =
-    let (low, high, par, row) = clash-par rows c in
+table-place rows (clash w f t l c) =
+    let (low, high, par, row) = clash-par rows (c .0 .1) in
     (clashing-par low high par (row, w .1), λ e. omega arith)
 
 pub rows-refused : RowsRefused

@@ -120,19 +120,25 @@ module _ (rows : List ℤ) (sheet : Sheet) (s : State) where
   unfolding after
   after-is x e q = rw q
 
--- a step is ready exactly if a rule allows it
+  -- a step is ready exactly if a rule allows it
+  pub ready-effect : (x : Label) → List·Memᴰ x (ready (program rows) sheet s) → (e : Effect) × (effectOf x (intentAt (program rows) sheet s) ≡ some e)
+  ready-effect x m = ready-can (program rows) sheet s (λ r l h. differ (rowCount rows) 0 l (offers-rise r l h)) x m
+
+  pub effect-ready : length (s .states) ≡ rowCount rows → (x : Label) (e : Effect) → effectOf x (intentAt (program rows) sheet s) ≡ some e → List·Memᴰ x (ready (program rows) sheet s)
+  effect-ready n x e q =
+      can-ready (program rows) sheet s (λ r l h. differ (rowCount rows) 0 l (offers-rise r l h)) (λ r l h o m. rw n (limited (rowCount rows) 0 l (offers-rise r l h) o m)) x e q
+
+-- and leads to the state that the machine goes to, where orders come
 module _ (rows : List ℤ) (sheet : Sheet) (F : Fit (program rows) (rowCount rows)) (s : State) (i : Inv (program rows) (rowCount rows) F sheet s) where
   pub ready-allowed : (x : Label) → List·Memᴰ x (ready (program rows) sheet s) → Step (program rows) sheet s x (after (program rows) sheet x s)
   ready-allowed x m =
-      let (e, q) = ready-can (program rows) sheet s (λ r l h. differ (rowCount rows) 0 l (offers-rise rows sheet s r l h)) x m in
+      let (e, q) = ready-effect rows sheet s x m in
       rw (after-is rows sheet s x e q) (effect-step (program rows) (rowCount rows) F sheet s i x e q)
 
   pub allowed-ready : (x : Label) (t : State) → Step (program rows) sheet s x t → List·Memᴰ x (ready (program rows) sheet s) × (t ≡ after (program rows) sheet x s)
   allowed-ready x t h =
-      let (e, q, z) = step-effect (program rows) (rowCount rows) F sheet (distinct-options rows sheet) s x t i h in (
-        can-ready (program rows) sheet s (λ r l h. differ (rowCount rows) 0 l (offers-rise rows sheet s r l h)) (λ r l h o m. rw (i .size) (limited (rowCount rows) 0 l (offers-rise rows sheet s r l h) o m)) x e q,
-        z ∙ sym (after-is rows sheet s x e q),
-      )
+      let (e, q, z) = step-effect (program rows) (rowCount rows) F sheet (distinct-options rows sheet) s x t i h in
+      (effect-ready rows sheet s (i .size) x e q, z ∙ sym (after-is rows sheet s x e q))
 
   -- what a rule allows is taken to the state that the walk leaves
   pub allowed-step : (x : Label) (e : Effect) → Allows (program rows) sheet s x e → Step (program rows) sheet s x (settled (program rows) e s)

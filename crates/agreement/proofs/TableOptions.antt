@@ -8,7 +8,7 @@ use lib.IntN.{ℤ}
 use Rattle.meaning.specs.declared.Node.{Node}
 use Rattle.meaning.specs.declared.Node.the-variants.{Literal, Element, Monadic, Dyadic, Stop, Skip, Assignment, Input, Output, Seq, Par, If, While, Alt, Member, Choice, Option as Alternative, Guard, Other}
 use Rattle.meaning.specs.Rows.{rowCount, nodeAt}
-use Rattle.meaning.specs.Faults.{of-a, of-b, Refers}
+use Rattle.meaning.specs.References.{of-a, of-b, Refers}
 use Rattle.meaning.specs.Tree.{Action, Process, node, Members, Part, noPart, partOf, partAt, orStop, actionOf, rowsIn}
 use Rattle.meaning.specs.State.{program, processAt, whole}
 use Rattle.meaning.specs.Answers.{check}
@@ -16,8 +16,9 @@ use Rattle.meaning.proofs.AnswerLaws.{RightRows, accepted}
 use Rattle.meaning.proofs.ReferenceCounts.{a-not-b}
 use Rattle.agreement.proofs.Again.{Out}
 use Rattle.agreement.proofs.Reach.{Sub}
-use Rattle.agreement.proofs.OptionRows.{rowsOf, optionRows, OptionRows}
-use Rattle.agreement.proofs.TableTree.{above, process-is, Known, every-row}
+use Rattle.agreement.proofs.OptionRows.{optionRows, OptionRows, rowsOfOptions}
+use Rattle.meaning.specs.PartClaims.{higherPart}
+use Rattle.agreement.proofs.TableTree.{process-is, Known, every-row}
 use Rattle.agreement.proofs.TableReferences.{members-shape, option-shape, Fields, fields-are, refers-to, once}
 use Rattle.agreement.proofs.TableApart.{row-sub}
 use Rattle.agreement.proofs.TableFit.{inside-stands}
@@ -48,21 +49,21 @@ module _ (rows : List ℤ) (A : RightRows rows) where
   From c j = Chain c j × (partAt rows j .process ≡ none)
 
   abbrev OptionsOk : ℕ → Part → Type 0
-  OptionsOk r p = ((j : ℕ) → List·Memᴰ j (rowsOf (p .branches)) → From r j) × ((j : ℕ) → List·Memᴰ j (optionsOf (p .process)) → (c : ℕ) × Refers rows r of-a c × From c j)
+  OptionsOk r p = ((j : ℕ) → List·Memᴰ j (rowsOfOptions (p .branches)) → From r j) × ((j : ℕ) → List·Memᴰ j (optionsOf (p .process)) → (c : ℕ) × Refers rows r of-a c × From c j)
 
   nothing : (r : ℕ) → OptionsOk r noPart
   nothing r = (λ j m. absurd (List·Memᴰ·not-nil m), λ j m. absurd (List·Memᴰ·not-nil m))
 
   module _ (r : ℕ) (l : r < rowCount rows) (at : ℕ → Part) (known : (b : ℕ) → Known rows OptionsOk r b (at b)) where
-    of-alt : (a j : ℕ) → Fields rows r (Alt a) → (q : Part) → Known rows OptionsOk r a q → List·Memᴰ j (rowsOf (q .branches)) → (c : ℕ) × Refers rows r of-a c × From c j
+    of-alt : (a j : ℕ) → Fields rows r (Alt a) → (q : Part) → Known rows OptionsOk r a q → List·Memᴰ j (rowsOfOptions (q .branches)) → (c : ℕ) × Refers rows r of-a c × From c j
     of-alt a j f q (inl e) m = absurd (List·Memᴰ·not-nil (rw e at m))
     of-alt a j f q (inr h) m = (a, refers-to rows A r 34 a (members-shape 34 42) of-a l (f .0) tt (f .1) (h .1), h .3 .0 j m)
 
-    later : (b j : ℕ) → (b < rowCount rows → Refers rows r of-b b) → (q : Part) → Known rows OptionsOk r b q → List·Memᴰ j (rowsOf (q .branches)) → From r j
+    later : (b j : ℕ) → (b < rowCount rows → Refers rows r of-b b) → (q : Part) → Known rows OptionsOk r b q → List·Memᴰ j (rowsOfOptions (q .branches)) → From r j
     later b j f q (inl e) m = absurd (List·Memᴰ·not-nil (rw e at m))
     later b j f q (inr h) m = let g = h .3 .0 j m in (chain-from r (f (h .1)) (g .0), g .1)
 
-    of-option : (a b c : ℕ) → partAt rows r ≡ partOf rows r at (Alternative a b c) → Fields rows r (Alternative a b c) → (j : ℕ) → List·Memᴰ j (r ∷ rowsOf (at b .branches)) → From r j
+    of-option : (a b c : ℕ) → partAt rows r ≡ partOf rows r at (Alternative a b c) → Fields rows r (Alternative a b c) → (j : ℕ) → List·Memᴰ j (r ∷ rowsOfOptions (at b .branches)) → From r j
     of-option a b c e f j (List·Memᴰ·head i) = rw i (this, ap (λ (q : Part). q .process) e)
     of-option a b c e f j (List·Memᴰ·tail m) = later b j (refers-to rows A r 42 b option-shape of-b l (f .0) tt (f .2)) (at b) (known b) m
 
@@ -88,7 +89,7 @@ module _ (rows : List ℤ) (A : RightRows rows) where
     part-ok Other e f = nothing r
 
   every-part : (r : ℕ) → OptionsOk r (partAt rows r)
-  every-part = every-row rows OptionsOk nothing (λ r l e h. part-ok r l (above rows r) h (nodeAt rows r) e (fields-are rows r))
+  every-part = every-row rows OptionsOk nothing (λ r l e h. part-ok r l (higherPart rows r) h (nodeAt rows r) e (fields-are rows r))
 
   -- the options of a process inside the whole
   options-at : (k : Action) (r : ℕ) (ms : Members) → Sub k r ms (whole (program rows)) → (j : ℕ) → List·Memᴰ j (optionRows k) → (c : ℕ) × Refers rows r of-a c × From c j

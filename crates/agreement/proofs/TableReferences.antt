@@ -1,10 +1,10 @@
 -- In an accepted table: where the fields of a row lead, that a row is referred to once, and that what two fields lead to has no row in common.
 use mathlib.Core.Path.{_≡_, refl, sym, ap, subst, _∙_}
 use mathlib.Core.Logic.{_≢_, _⊎_, inl, inr}
-use mathlib.Core.Bool.{Bool, true, false, _&&_}
+use mathlib.Core.Bool.{Bool, true, false, not, _&&_}
 use mathlib.Core.Option.{none, some, Option·some-ne-none}
 use mathlib.Core.List.{List, [], _∷_}
-use Prim.Native.Nat.{ℕ, _<_, _≤_, _%_}
+use Prim.Native.Nat.{ℕ, suc, _<_, _≤_, _%_}
 use native.Mathlib.Omega.{arith}
 use native.Mathlib.Decide.{decLt}
 use lib.IntN.{ℤ, pos}
@@ -16,7 +16,8 @@ use Rattle.meaning.specs.declared.Node.the-variants.{Literal, Element, Monadic,
 use Rattle.meaning.specs.Rows.{ifElse, rowCount, naturalOf, kindAt, declarations, nodeAt}
 use Rattle.meaning.specs.TableBytes.{Refusal, numbersFault}
 use Rattle.meaning.specs.Kinds.{Field, unused, value, within, elements, capacity, variable, channel, reference, link, Shape, shape, shapeOf, shapes, shapeIn, expression, process}
-use Rattle.meaning.specs.Faults.{Place, of-a, of-b, fieldOf, numberOf, IsTarget, RefersBy, Leads, Refers, Once, Placed, WellPlaced}
+use Rattle.meaning.specs.References.{Place, of-a, of-b, of-c, fieldOf, numberOf, IsTarget, RefersBy, Refers}
+use Rattle.meaning.specs.Faults.{Leads, Once, Placed, WellPlaced}
 use Rattle.meaning.proofs.AnswerLaws.{RightRows}
 use Rattle.meaning.proofs.OneTreeLaw.{declared, declares-only}
 use Rattle.meaning.proofs.ReferenceCounts.{bounds}
@@ -49,7 +50,14 @@ Leading (channel roles) = ⊥
 Leading (reference kinds) = Unit {0}
 Leading (link kinds) = Unit {0}
 
-if-else : (P : Node → Type 0) {x y : Node} (t : Bool) → (t ≡ true → P x) → P y → P (ifElse t x y)
+-- a reference that is not a guard's: neither field c of an option nor field b of a guard
+abbrev pub unguarded : ℕ → Place → Bool
+unguarded k of-a = true
+unguarded k of-b = not (eqb k 43)
+unguarded k of-c = not (eqb k 42)
+
+-- the node that a test chooses
+pub if-else : (P : Node → Type 0) {x y : Node} (t : Bool) → (t ≡ true → P x) → P y → P (ifElse t x y)
 if-else P true f h = f refl
 if-else P false f h = h
 
@@ -107,6 +115,40 @@ module _ (rows : List ℤ) where
       (if-else (Fields r) (eqb k 43) (λ e. tt)
       tt)))))))))))))))))
 
+  undeclared : (r : ℕ) → 2 < kindAt rows r → declarations rows ≤ r
+  undeclared r g = go (decLt r (declarations rows))
+    where
+      go : Dec (r < declarations rows) → declarations rows ≤ r
+      go (yes l) = absurd (either (declared rows r l))
+        where
+          either : (kindAt rows r ≡ 1) ⊎ (kindAt rows r ≡ 2) → ⊥
+          either (inl e) = omega arith
+          either (inr e) = omega arith
+      go (no l) = omega arith
+
+  -- of rows that stage 5 passes, and that are not too many
+  module _ (few : rowCount rows ≤ 1024) (placed : (r : ℕ) → r < suc (rowCount rows) → WellPlaced rows r) where
+    -- a row after the declarations is placed as the stage 5 asks
+    pub row-placed : (r : ℕ) → declarations rows ≤ r → r < rowCount rows → Placed rows r
+    unfolding WellPlaced
+    row-placed r d l = placed r (omega arith) .1 (d, l)
+
+    -- a field leads to where it may
+    pub row-leads : (r k : ℕ) (s : Shape) → r < rowCount rows → Shaped r k s → (p : Place) → Leads rows r (fieldOf s p) (numberOf rows r p)
+    unfolding Placed
+    row-leads r k s l h p = row-placed r (undeclared r (rw (h .0) (h .1))) l .0 s (rw (h .0) (h .2)) p
+
+    pub to-row : (r b : ℕ) (f : Field) (z : ℤ) → Leading f → Leads rows r f z → naturalOf z ≡ b → b < rowCount rows → RefersBy rows r f z b
+    unfolding Leads RefersBy
+    to-row r b (reference ks) z u h e l = let i : h .0 ≡ b = sym (ap naturalOf (h .1)) ∙ e in (h .1 ∙ ap pos i, subst (IsTarget rows r ks) i (h .2))
+    to-row r b (link ks) z u (inl n) e l = absurd (let i : 4294967295 ≡ b = sym (ap naturalOf n) ∙ e in omega (arith, few))
+    to-row r b (link ks) z u (inr h) e l = let i : h .0 ≡ b = sym (ap naturalOf (h .1)) ∙ e in (h .1 ∙ ap pos i, subst (IsTarget rows r ks) i (h .2))
+
+    -- so where a field may refer to a row and holds one, it does refer to it
+    pub row-refers : (r k b : ℕ) (s : Shape) (p : Place) → r < rowCount rows → Shaped r k s → Leading (fieldOf s p) → Holding r p b → b < rowCount rows → Refers rows r p b
+    unfolding Refers
+    row-refers r k b s p l h u e m = (s, rw (h .0) (h .2), to-row r b (fieldOf s p) (numberOf rows r p) u (row-leads r k s l h p) e m)
+
   module _ (A : RightRows rows) where
     pub few-rows : rowCount rows ≤ 1024
     unfolding numbersFault
@@ -117,37 +159,14 @@ module _ (rows : List ℤ) where
         go true false e f h = absurd (Option·some-ne-none f h)
         go false t e f h = absurd (Option·some-ne-none f h)
 
-    -- a row after the declarations is placed as the stage 5 asks
     pub placed-at : (r : ℕ) → declarations rows ≤ r → r < rowCount rows → Placed rows r
-    unfolding WellPlaced
-    placed-at r d l = A .2 r (omega arith) .1 (d, l)
+    placed-at = row-placed few-rows (A .2)
 
-    undeclared : (r : ℕ) → 2 < kindAt rows r → declarations rows ≤ r
-    undeclared r g = go (decLt r (declarations rows))
-      where
-        go : Dec (r < declarations rows) → declarations rows ≤ r
-        go (yes l) = absurd (either (declared rows r l))
-          where
-            either : (kindAt rows r ≡ 1) ⊎ (kindAt rows r ≡ 2) → ⊥
-            either (inl e) = omega arith
-            either (inr e) = omega arith
-        go (no l) = omega arith
-
-    -- a field leads to where it may
     pub leads-at : (r k : ℕ) (s : Shape) → r < rowCount rows → Shaped r k s → (p : Place) → Leads rows r (fieldOf s p) (numberOf rows r p)
-    unfolding Placed
-    leads-at r k s l h p = placed-at r (undeclared r (rw (h .0) (h .1))) l .0 s (rw (h .0) (h .2)) p
+    leads-at = row-leads few-rows (A .2)
 
-    to-row : (r b : ℕ) (f : Field) (z : ℤ) → Leading f → Leads rows r f z → naturalOf z ≡ b → b < rowCount rows → RefersBy rows r f z b
-    unfolding Leads RefersBy
-    to-row r b (reference ks) z u h e l = let i : h .0 ≡ b = sym (ap naturalOf (h .1)) ∙ e in (h .1 ∙ ap pos i, subst (IsTarget rows r ks) i (h .2))
-    to-row r b (link ks) z u (inl n) e l = absurd (let i : 4294967295 ≡ b = sym (ap naturalOf n) ∙ e in omega (arith, few-rows))
-    to-row r b (link ks) z u (inr h) e l = let i : h .0 ≡ b = sym (ap naturalOf (h .1)) ∙ e in (h .1 ∙ ap pos i, subst (IsTarget rows r ks) i (h .2))
-
-    -- so where a field may refer to a row and holds one, it does refer to it
     pub refers-to : (r k b : ℕ) (s : Shape) (p : Place) → r < rowCount rows → Shaped r k s → Leading (fieldOf s p) → Holding r p b → b < rowCount rows → Refers rows r p b
-    unfolding Refers
-    refers-to r k b s p l h u e m = (s, rw (h .0) (h .2), to-row r b (fieldOf s p) (numberOf rows r p) u (leads-at r k s l h p) e m)
+    refers-to = row-refers few-rows (A .2)
 
     pub refers-up : (r c : ℕ) (p : Place) → Refers rows r p c → (r < c) × (c < rowCount rows)
     unfolding Refers
@@ -170,22 +189,22 @@ module _ (rows : List ℤ) where
             (e ∙ sym g, f ∙ sym j)
         go (no l) (no m) = absurd (placed-at c (omega arith) (b .1) .2 (omega arith) r p h)
 
-    -- row c itself, and the rows beneath it
+    -- row c itself, and the rows beneath it but for those of guards
     pub data Desc (c : ℕ) : ℕ → Type 0 where
       self : Desc c c
-      down : {y x : ℕ} (p : Place) → Desc c y → Refers rows y p x → Desc c x
+      down : {y x : ℕ} (p : Place) → Desc c y → Refers rows y p x → unguarded (kindAt rows y) p ≡ true → Desc c x
 
     pub desc-le : {c x : ℕ} → Desc c x → c ≤ x
     desc-le {c} self = omega arith
-    desc-le (down {y} {x} p h r) = let l = desc-le h in let u = refers-up y x p r in omega arith
+    desc-le (down {y} {x} p h r u) = let l = desc-le h in let u = refers-up y x p r in omega arith
 
-    pub desc-from : {r c x : ℕ} (p : Place) → Refers rows r p c → Desc c x → Desc r x
-    desc-from p e self = down p self e
-    desc-from p e (down o h r) = down o (desc-from p e h) r
+    pub desc-from : {r c x : ℕ} (p : Place) → Refers rows r p c → unguarded (kindAt rows r) p ≡ true → Desc c x → Desc r x
+    desc-from p e u self = down p self e u
+    desc-from p e u (down o h r v) = down o (desc-from p e u h) r v
 
     -- two rows that one row refers to have nothing beneath in common
     pub parted : (r : ℕ) {c c′ x : ℕ} (p o : Place) → Refers rows r p c → Refers rows r o c′ → c ≢ c′ → Desc c x → Desc c′ x → ⊥
     parted r p o e e′ ne self self = ne refl
-    parted r {c} {c′} p o e e′ ne self (down {y} i h q) = let l = desc-le h in let s = once r y c p i e q .0 in let u = refers-up r c′ o e′ in omega arith
-    parted r {c} {c′} p o e e′ ne (down {y} i h q) self = let l = desc-le h in let s = once r y c′ o i e′ q .0 in let u = refers-up r c p e in omega arith
-    parted r {c′} p o e e′ ne (down {y} {x} i h q) (down {y = z} j h′ q′) = parted r p o e e′ ne h (rw (once y z x i j q q′ .0) h′)
+    parted r {c} {c′} p o e e′ ne self (down {y} i h q v) = let l = desc-le h in let s = once r y c p i e q .0 in let u = refers-up r c′ o e′ in omega arith
+    parted r {c} {c′} p o e e′ ne (down {y} i h q v) self = let l = desc-le h in let s = once r y c′ o i e′ q .0 in let u = refers-up r c p e in omega arith
+    parted r {c′} p o e e′ ne (down {y} {x} i h q v) (down {y = z} j h′ q′ v′) = parted r p o e e′ ne h (rw (once y z x i j q q′ .0) h′)

@@ -1,5 +1,6 @@
 -- In an accepted table the rows of a process are each another and below the number of rows: each is referred to once, by a lower row.
-use mathlib.Core.Path.{_≡_, sym, subst}
+use mathlib.Core.Path.{_≡_, refl, sym, ap, _∙_, subst}
+use mathlib.Core.Bool.{true}
 use mathlib.Core.Logic.{inl, inr, ⊎-elim}
 use mathlib.Core.Option.{Option, none, some}
 use mathlib.Core.List.{List, [], _∷_, List·Memᴰ, List·Memᴰ·head, List·Memᴰ·tail, List·Memᴰ·append-cases, List·Memᴰ·not-nil}
@@ -8,19 +9,20 @@ use native.Mathlib.Omega.{arith}
 use lib.IntN.{ℤ}
 use Rattle.meaning.specs.declared.Node.{Node}
 use Rattle.meaning.specs.declared.Node.the-variants.{Literal, Element, Monadic, Dyadic, Stop, Skip, Assignment, Input, Output, Seq, Par, If, While, Alt, Member, Choice, Option as Alternative, Guard, Other}
-use Rattle.meaning.specs.Rows.{rowCount, nodeAt}
+use Rattle.meaning.specs.Rows.{rowCount, kindAt, nodeAt}
 use Rattle.meaning.specs.Kinds.{Shape}
-use Rattle.meaning.specs.Faults.{Place, of-a, of-b, fieldOf, Refers}
+use Rattle.meaning.specs.References.{Place, of-a, of-b, fieldOf, Refers}
 use Rattle.meaning.specs.Tree.{Action, stop, skip, sequence, parallel, assign, receive, send, conditional, loop, alternation, Process, node, Members, empty, Part, noPart, andMember, receiveOf, partOf, partAt, rowsIn, rowsBeneath}
 use Rattle.meaning.specs.Declarations.{variableAt, sinkAt}
 use Rattle.meaning.proofs.AnswerLaws.{RightRows}
 use Rattle.meaning.proofs.ReferenceCounts.{a-not-b}
 use Rattle.agreement.proofs.Frame.{Off}
 use Rattle.agreement.proofs.Again.{Out, Sound, SoundM}
-use Rattle.agreement.proofs.TableTree.{above, Known, every-row}
-use Rattle.agreement.proofs.TableReferences.{members-shape, while-shape, member-shape, choice-shape, option-shape, Leading, Shaped, Holding, Fields, fields-are, refers-to, refers-up, once, Desc, self, desc-le, desc-from, parted}
+use Rattle.meaning.specs.PartClaims.{higherPart}
+use Rattle.agreement.proofs.TableTree.{Known, every-row}
+use Rattle.agreement.proofs.TableReferences.{members-shape, while-shape, member-shape, choice-shape, option-shape, Leading, unguarded, Shaped, Holding, Fields, fields-are, refers-to, refers-up, once, Desc, self, desc-le, desc-from, parted}
 
-abbrev rowsOf : Option Process → List ℕ
+abbrev pub rowsOf : Option Process → List ℕ
 rowsOf none = []
 rowsOf (some p) = rowsIn p
 
@@ -45,14 +47,14 @@ module _ (rows : List ℤ) (A : RightRows rows) where
 
   -- all these rows are at a row to which field p of row r refers, or beneath it
   abbrev By : ℕ → Place → List ℕ → Type 0
-  By r p R = (x : ℕ) → List·Memᴰ x R → (b : ℕ) × Refers rows r p b × Desc rows A b x
+  By r p R = (x : ℕ) → List·Memᴰ x R → (b : ℕ) × Refers rows r p b × (unguarded (kindAt rows r) p ≡ true) × Desc rows A b x
 
   by-down : (r : ℕ) (p : Place) (R : List ℕ) → By r p R → Down r R
-  by-down r p R f x m = let (b, g, d) = f x m in desc-from rows A p g d
+  by-down r p R f x m = let (b, g, u, d) = f x m in desc-from rows A p g u d
 
   -- a row of its own before members that hang at a field
   row-out : (r : ℕ) (p : Place) (R : List ℕ) → By r p R → Out r R
-  row-out r p R f m = let (b, g, d) = f r m in let l = desc-le rows A d in let u = refers-up rows A r b p g in omega arith
+  row-out r p R f m = let (b, g, v, d) = f r m in let l = desc-le rows A d in let u = refers-up rows A r b p g in omega arith
 
   with-row : (r : ℕ) (R : List ℕ) → Down r R → Down r (r ∷ R)
   with-row r R f x (List·Memᴰ·head e) = rw e self
@@ -60,8 +62,8 @@ module _ (rows : List ℤ) (A : RightRows rows) where
 
   apart : (r : ℕ) (p o : Place) (R Q : List ℕ) → (p ≡ o → ⊥) → By r p R → By r o Q → Off R Q
   apart r p o R Q ne f g x m n =
-      let (b, i, d) = f x m in
-      let (c, j, e) = g x n in
+      let (b, i, u, d) = f x m in
+      let (c, j, v, e) = g x n in
       parted rows A r p o i j (λ s. ne (once rows A r r b p o i (subst (λ (y : ℕ). Refers rows r o y) (sym s) j) .1)) d e
 
   abbrev ProcessBy : ℕ → Place → Option Process → Type 0
@@ -99,19 +101,19 @@ module _ (rows : List ℤ) (A : RightRows rows) where
 
   module _ (r : ℕ) (l : r < rowCount rows) (at : ℕ → Part) (known : (b : ℕ) → Known rows RowsOk r b (at b)) where
     -- what stands at the row that a field holds hangs at that field
-    process-by : (k : ℕ) (s : Shape) (p : Place) (b : ℕ) → Shaped rows r k s → Leading (fieldOf s p) → Holding rows r p b → ProcessBy r p (at b .process)
-    process-by k s p b h u e = go (at b) (known b)
+    process-by : (k : ℕ) (s : Shape) (p : Place) (b : ℕ) → Shaped rows r k s → Leading (fieldOf s p) → unguarded k p ≡ true → Holding rows r p b → ProcessBy r p (at b .process)
+    process-by k s p b h u v e = go (at b) (known b)
       where
         go : (q : Part) → Known rows RowsOk r b q → ProcessBy r p (q .process)
         go q (inl z) = rw z (λ x m. absurd (List·Memᴰ·not-nil m), tt)
-        go q (inr i) = (λ x m. (b, refers-to rows A r k b s p l h u e (i .1), i .3 .0 x m), i .3 .1)
+        go q (inr i) = (λ x m. (b, refers-to rows A r k b s p l h u e (i .1), ap (λ (j : ℕ). unguarded j p) (h .0) ∙ v, i .3 .0 x m), i .3 .1)
 
-    members-by : (k : ℕ) (s : Shape) (p : Place) (b : ℕ) → Shaped rows r k s → Leading (fieldOf s p) → Holding rows r p b → MembersBy r p (at b .members)
-    members-by k s p b h u e = go (at b) (known b)
+    members-by : (k : ℕ) (s : Shape) (p : Place) (b : ℕ) → Shaped rows r k s → Leading (fieldOf s p) → unguarded k p ≡ true → Holding rows r p b → MembersBy r p (at b .members)
+    members-by k s p b h u v e = go (at b) (known b)
       where
         go : (q : Part) → Known rows RowsOk r b q → MembersBy r p (q .members)
         go q (inl z) = rw z (none-by r p)
-        go q (inr i) = (λ x m. (b, refers-to rows A r k b s p l h u e (i .1), i .3 .2 x m), i .3 .3)
+        go q (inr i) = (λ x m. (b, refers-to rows A r k b s p l h u e (i .1), ap (λ (j : ℕ). unguarded j p) (h .0) ∙ v, i .3 .2 x m), i .3 .3)
 
     part-ok : (k : Node) → Fields rows r k → RowsOk r (partOf rows r at k)
     part-ok (Literal x) f = nothing r
@@ -123,19 +125,23 @@ module _ (rows : List ℤ) (A : RightRows rows) where
     part-ok (Assignment a b c) f = alone r (assign (variableAt rows a) (at b .expr) (at c .expr)) l
     part-ok (Input a b c) f = alone r (receive (receiveOf rows r at a b c)) l
     part-ok (Output a b c) f = alone r (send (sinkAt rows a) (at b .expr) (at c .expr)) l
-    part-ok (Seq a) f = group r sequence of-a (at a .members) l (members-by 30 (members-shape 30 40) of-a a (f .0) tt (f .1))
-    part-ok (Par a) f = group r parallel of-a (at a .members) l (members-by 31 (members-shape 31 40) of-a a (f .0) tt (f .1))
-    part-ok (If a) f = group r (conditional (at a .tests)) of-a (at a .members) l (members-by 32 (members-shape 32 41) of-a a (f .0) tt (f .1))
-    part-ok (While a b) f = group r (loop (at a .expr) b) of-b (andMember (at b .process) empty) l (single r of-b (at b .process) (process-by 33 while-shape of-b b (f .0) tt (f .1)))
-    part-ok (Alt a) f = group r (alternation (at a .branches)) of-a (at a .members) l (members-by 34 (members-shape 34 42) of-a a (f .0) tt (f .1))
-    part-ok (Member a b) f = linked r (at a .process) (at b .members) (process-by 40 member-shape of-a a (f .0) tt (f .1)) (members-by 40 member-shape of-b b (f .0) tt (f .2))
-    part-ok (Choice a b c) f = linked r (at a .process) (at b .members) (process-by 41 choice-shape of-a a (f .0) tt (f .1)) (members-by 41 choice-shape of-b b (f .0) tt (f .2))
-    part-ok (Alternative a b c) f = linked r (at a .process) (at b .members) (process-by 42 option-shape of-a a (f .0) tt (f .1)) (members-by 42 option-shape of-b b (f .0) tt (f .2))
+    part-ok (Seq a) f = group r sequence of-a (at a .members) l (members-by 30 (members-shape 30 40) of-a a (f .0) tt refl (f .1))
+    part-ok (Par a) f = group r parallel of-a (at a .members) l (members-by 31 (members-shape 31 40) of-a a (f .0) tt refl (f .1))
+    part-ok (If a) f = group r (conditional (at a .tests)) of-a (at a .members) l (members-by 32 (members-shape 32 41) of-a a (f .0) tt refl (f .1))
+    part-ok (While a b) f = group r (loop (at a .expr) b) of-b (andMember (at b .process) empty) l (single r of-b (at b .process) (process-by 33 while-shape of-b b (f .0) tt refl (f .1)))
+    part-ok (Alt a) f = group r (alternation (at a .branches)) of-a (at a .members) l (members-by 34 (members-shape 34 42) of-a a (f .0) tt refl (f .1))
+    part-ok (Member a b) f = linked r (at a .process) (at b .members) (process-by 40 member-shape of-a a (f .0) tt refl (f .1)) (members-by 40 member-shape of-b b (f .0) tt refl (f .2))
+    part-ok (Choice a b c) f = linked r (at a .process) (at b .members) (process-by 41 choice-shape of-a a (f .0) tt refl (f .1)) (members-by 41 choice-shape of-b b (f .0) tt refl (f .2))
+    part-ok (Alternative a b c) f = linked r (at a .process) (at b .members) (process-by 42 option-shape of-a a (f .0) tt refl (f .1)) (members-by 42 option-shape of-b b (f .0) tt refl (f .2))
     part-ok (Guard a b) f = nothing r
     part-ok Other f = nothing r
 
   every-part : (r : ℕ) → RowsOk r (partAt rows r)
-  every-part = every-row rows RowsOk nothing (λ r l e h. part-ok r l (above rows r) h (nodeAt rows r) (fields-are rows r))
+  every-part = every-row rows RowsOk nothing (λ r l e h. part-ok r l (higherPart rows r) h (nodeAt rows r) (fields-are rows r))
+
+  -- the rows of the process at a row are that row, or beneath it and not of guards
+  pub down-at : (r x : ℕ) → List·Memᴰ x (rowsOf (partAt rows r .process)) → Desc rows A r x
+  down-at r = every-part r .0
 
   -- the rows of the process at a row are each another, and below the number of rows
   pub sound-at : (r : ℕ) → SoundO (partAt rows r .process) (rowCount rows)

@@ -14,9 +14,10 @@ use borrow.Author.Tests.{ltb-true}
 use Rattle.meaning.specs.declared.Node.{Node}
 use Rattle.meaning.specs.declared.Node.the-variants.{Literal, Element, Monadic, Dyadic, Stop, Skip, Assignment, Input, Output, Seq, Par, If, While, Alt, Member, Choice, Option as Alternative, Guard, Other}
 use Rattle.meaning.specs.Rows.{ifElse, rowCount, nodeAt, lastRows, atRow}
-use Rattle.meaning.proofs.HigherRows.{atRow-at, atRow-past}
 use Rattle.meaning.specs.Tree.{Action, stop, skip, sequence, parallel, assign, receive, send, conditional, loop, alternation, Process, node, Members, empty, also, Part, noPart, andMember, receiveOf, partOf, partAt, parts, orStop, rowOf, membersIn}
+use Rattle.meaning.specs.PartClaims.{higherPart}
 use Rattle.meaning.specs.Declarations.{variableAt, sinkAt}
+use Rattle.meaning.proofs.PartLaws.{part-unfolds}
 use Rattle.meaning.specs.State.{program, processAt}
 use Rattle.agreement.proofs.Reach.{Sub, SubM, self, inside, front, back}
 use Rattle.agreement.proofs.Settled.{PlainA, Plain, PlainM}
@@ -38,17 +39,11 @@ occupied : {k : Action} {r : ℕ} {ms : Members} (ps : Members) → SubM k r ms 
 occupied (also p ps) h = tt
 
 module _ (rows : List ℤ) where
-  -- what stands at a row, if row r may refer to it
-  abbrev pub above : ℕ → ℕ → Part
-  above r b = ifElse (ltb r b) (partAt rows b) noPart
-
-  pub part-at : (r : ℕ) → r < rowCount rows → partAt rows r ≡ partOf rows r (above r) (nodeAt rows r)
-  unfolding partAt
-  part-at r l = atRow-at noPart (λ r at. partOf rows r at (nodeAt rows r)) (rowCount rows) r l
+  pub part-at : (r : ℕ) → r < rowCount rows → partAt rows r ≡ partOf rows r (higherPart rows r) (nodeAt rows r)
+  part-at r = part-unfolds rows r .0
 
   pub part-past : (r : ℕ) → rowCount rows ≤ r → partAt rows r ≡ noPart
-  unfolding partAt
-  part-past r l = atRow-past noPart (λ r at. partOf rows r at (nodeAt rows r)) (rowCount rows) r l
+  part-past r = part-unfolds rows r .1
 
   pub process-is : (r : ℕ) → processAt (program rows) r ≡ orStop (partAt rows r .process)
   unfolding processAt program parts partAt atRow
@@ -60,7 +55,7 @@ module _ (rows : List ℤ) where
 
   -- what holds of a row if it holds of the rows that it may refer to, and where nothing stands, holds of every row
   module _ (Q : ℕ → Part → Type 0) (nothing : (r : ℕ) → Q r noPart)
-      (step : (r : ℕ) → r < rowCount rows → partAt rows r ≡ partOf rows r (above r) (nodeAt rows r) → ((b : ℕ) → Known Q r b (above r b)) → Q r (partOf rows r (above r) (nodeAt rows r))) where
+      (step : (r : ℕ) → r < rowCount rows → partAt rows r ≡ partOf rows r (higherPart rows r) (nodeAt rows r) → ((b : ℕ) → Known Q r b (higherPart rows r b)) → Q r (partOf rows r (higherPart rows r) (nodeAt rows r))) where
     known : (r b : ℕ) (t : Bool) → ltb r b ≡ t → Dec (b < rowCount rows) → ((c : ℕ) → r < c → Q c (partAt rows c)) → Known Q r b (ifElse t (partAt rows b) noPart)
     known r b true e (yes l) f = inr (ltb-true r b e, l, refl, f b (ltb-true r b e))
     known r b true e (no l) f = inl (part-past b (omega arith))
@@ -141,7 +136,7 @@ module _ (rows : List ℤ) where
   of-known r b p (inr h) = h .3
 
   every-part : (r : ℕ) → PartOk r (partAt rows r)
-  every-part = every-row PartOk (λ r. (nothing, none-in)) (λ r l e h. part-ok r (above r) (λ b. of-known r b (above r b) (h b)) (nodeAt rows r) e)
+  every-part = every-row PartOk (λ r. (nothing, none-in)) (λ r l e h. part-ok r (higherPart rows r) (λ b. of-known r b (higherPart rows r b) (h b)) (nodeAt rows r) e)
 
   -- a process inside that of a row stands at its own row
   pub stands : (r : ℕ) (k : Action) (q : ℕ) (ms : Members) → SubO k q ms (partAt rows r .process) → partAt rows q .process ≡ some (node k q ms)

@@ -10,7 +10,7 @@ use Rattle.meaning.specs.Rows.{rowCount, naturalAt, nodeAt}
 use Rattle.meaning.specs.Declarations.{cellsAt, elementsAt, variableAt, sourceAt, sinkAt}
 use Rattle.meaning.specs.Tree.{Target, Receive, Part, partOf, partAt}
 use Rattle.meaning.specs.Usage.{countsFor, changesBy}
-use Rattle.meaning.specs.Faults.{IsTarget}
+use Rattle.meaning.specs.References.{IsTarget}
 use Rattle.meaning.specs.Clash.{Changes, by-assignment, by-input, Stands, stands, Inputs, inputs, Outputs, outputs}
 use Rattle.agreement.proofs.UsageRows.{node-of-kind, ToExpr, Fits}
 use Rattle.agreement.proofs.UsageParts.{part-is}

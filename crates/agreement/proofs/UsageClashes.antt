@@ -15,7 +15,9 @@ use Rattle.meaning.specs.Usage.{gather, changes, uses, cellClash, inputClash, o
 use Rattle.meaning.specs.Clash.{Within, Changes, by-assignment, by-input, Inputs, inputs, Outputs, outputs, Changed, Used, InputFrom, OutputTo}
 use Rattle.meaning.proofs.Decides.{Decides, decides-iff, decides-or, decides-any}
 use Rattle.meaning.proofs.ReferenceCounts.{decides-among}
+use Rattle.agreement.specs.VerdictClaims.{Passed}
 use Rattle.agreement.proofs.UsageRows.{Fits}
+use Rattle.agreement.proofs.UsageReferences.{passed-fits}
 use Rattle.agreement.proofs.UsageTree.{Mark, InProcess, InOption, in-process}
 use Rattle.agreement.proofs.UsageWithin.{Bears, at-process, Some, within-below, at-some}
 use Rattle.agreement.proofs.UsageGather.{markChanges, markUses, markInputs, markOutputs, gathers-changes, gathers-uses, gathers-inputs, gathers-outputs}
@@ -35,22 +37,25 @@ module _ (rows : List ℤ) where
   abbrev In : (ℕ → ℕ → ℕ → Type 0) → ℕ → ℕ → ℕ → Type 0
   In R p v i = (r : ℕ) × Within rows p r × R r v i
 
-  module _ (fits : (r : ℕ) → r < rowCount rows → Fits rows r (nodeAt rows r)) where
+  module _ (passed : Passed rows) where
+    fits : (r : ℕ) → r < rowCount rows → Fits rows r (nodeAt rows r)
+    fits = passed-fits rows passed
+
     -- a mark of number n is in the process exactly if the place of that number is one of which R holds in it
     located : (n : ℕ) (M : Mark) (size : ℕ → ℕ) (R : ℕ → ℕ → ℕ → Type 0) → ((r : ℕ) → r < rowCount rows → Bears rows M (nodeAt rows r) ↔ Of n size R r)
         → (p : ℕ) (x : Process) → IsProcess p x → InProcess M x ↔ ((v : ℕ) × ((i : ℕ) × Numbers size n v i × In R p v i))
     located n M size R each p x h = (λ m. to (some-in .0 (subst (InOption M) (sym (h .2)) m)), λ s. subst (InOption M) (h .2) (some-in .1 (from s)))
       where
-        some-in : InOption M (partAt rows p .process) ↔ Some rows M fits p
-        some-in = (λ m. at-some rows M fits p (h .0) .0 (in-process m), λ s. at-process rows M fits p (h .0) (h .1) (at-some rows M fits p (h .0) .1 s))
+        some-in : InOption M (partAt rows p .process) ↔ Some rows M passed p
+        some-in = (λ m. at-some rows M passed p (h .0) .0 (in-process m), λ s. at-process rows M passed p (h .0) (h .1) (at-some rows M passed p (h .0) .1 s))
 
-        to : Some rows M fits p → (v : ℕ) × ((i : ℕ) × Numbers size n v i × In R p v i)
-        to s = let o = each (s .0) (within-below rows M fits (h .0) (s .1)) .0 (s .2) in (o .0, (o .1 .0, o .1 .1, (s .0, s .1, o .1 .2)))
+        to : Some rows M passed p → (v : ℕ) × ((i : ℕ) × Numbers size n v i × In R p v i)
+        to s = let o = each (s .0) (within-below rows M passed (h .0) (s .1)) .0 (s .2) in (o .0, (o .1 .0, o .1 .1, (s .0, s .1, o .1 .2)))
 
-        from : ((v : ℕ) × ((i : ℕ) × Numbers size n v i × In R p v i)) → Some rows M fits p
+        from : ((v : ℕ) × ((i : ℕ) × Numbers size n v i × In R p v i)) → Some rows M passed p
         from s =
             let d = s .1 .2 in
-            (d .0, d .1, each (d .0) (within-below rows M fits (h .0) (d .1)) .1 (s .0, (s .1 .0, s .1 .1, d .2)))
+            (d .0, d .1, each (d .0) (within-below rows M passed (h .0) (d .1)) .1 (s .0, (s .1 .0, s .1 .1, d .2)))
 
     -- a number in common is a place in common
     shared : (size : ℕ → ℕ) (R S : ℕ → ℕ → ℕ → Type 0) (l m : List ℕ) (p q : ℕ)

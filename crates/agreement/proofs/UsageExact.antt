@@ -9,17 +9,16 @@ use native.Mathlib.Omega.{arith}
 use lib.IntN.{ℤ}
 use lib.ListN.{length, getD}
 use lib.Dec.{eqb}
-use Rattle.meaning.specs.Basics.{ifElse}
+use Rattle.meaning.specs.Basics.{ifElse, Lowest}
 use Rattle.meaning.specs.Rows.{rowCount, nodeAt, atRow}
 use Rattle.meaning.specs.Tree.{noPart, partOf, parts, partAt}
 use Rattle.meaning.specs.Usage.{Comparison, comparisonsOf, comparisons, clashes, cellClash, inputClash, outputClash, firstClash, refusal, usageFault}
-use Rattle.meaning.specs.Clash.{Components, components, Clash, cell, input, output, UsageFaults, UsagePasses}
+use Rattle.meaning.specs.Clash.{Components, components, Clash, cell, input, output}
 use Rattle.meaning.proofs.HigherRows.{lastRows-length}
-use Rattle.agreement.specs.VerdictClaims.{Passed, UsageExact}
-use Rattle.agreement.proofs.UsageRows.{Fits, fits}
+use Rattle.meaning.proofs.LowestLaws.{lowest-one}
+use Rattle.agreement.specs.VerdictClaims.{Passed, NoClash, LowestClash, UsagePasses, UsageFaults, UsageExact}
 use Rattle.agreement.proofs.UsageClashes.{Cells, BothInput, BothOutput, decides-cells, decides-inputs, decides-outputs}
-use Rattle.agreement.proofs.UsageFirst.{orElse, first-append, FromRow, from-row}
-use Rattle.agreement.proofs.VerdictStages.{whole-passes, form-passes, tree-passes}
+use Rattle.agreement.proofs.UsageFirst.{member-par, orElse, first-append, FromRow, from-row}
 
 -- a clash's test, by its number
 seven : (c : Comparison) → c .number ≡ 7 → clashes c ≡ cellClash (c .pair .one) (c .pair .other)
@@ -40,7 +39,7 @@ nine c e =
     let p = c .pair .one in let q = c .pair .other in
     ap (λ (k : ℕ). ifElse (eqb k 7) (cellClash p q) (ifElse (eqb k 8) (inputClash p q) (outputClash p q))) e
 
-module _ (rows : List ℤ) (right : (r : ℕ) → r < rowCount rows → Fits rows r (nodeAt rows r)) where
+module _ (rows : List ℤ) (passed : Passed rows) where
   turn : {r p q : ℕ} → Components rows r p q → Components rows r q p
   turn (components i j ne e f) = components j i (λ h. ne (sym h)) f e
 
@@ -49,9 +48,9 @@ module _ (rows : List ℤ) (right : (r : ℕ) → r < rowCount rows → Fits row
   Between R r = (p : ℕ) × ((q : ℕ) × Components rows r p q × R p q)
 
   abbrev CellsEither : ℕ → ℕ → Type 0
-  CellsEither p q = Cells rows right p q ⊎ Cells rows right q p
+  CellsEither p q = Cells rows passed p q ⊎ Cells rows passed q p
 
-  by-number : {r k : ℕ} → Clash rows r k → ((k ≡ 7) × Between CellsEither r) ⊎ (((k ≡ 8) × Between (BothInput rows right) r) ⊎ ((k ≡ 9) × Between (BothOutput rows right) r))
+  by-number : {r k : ℕ} → Clash rows r k → ((k ≡ 7) × Between CellsEither r) ⊎ (((k ≡ 8) × Between (BothInput rows passed) r) ⊎ ((k ≡ 9) × Between (BothOutput rows passed) r))
   by-number (cell {p} {q} {v} {i} c a b) = inl (refl, (p, (q, c, inl (v, (i, a, b)))))
   by-number (input {p} {q} {c = v} {i} c a b) = inr (inl (refl, (p, (q, c, (v, (i, a, b))))))
   by-number (output {p} {q} {c = v} {i} c a b) = inr (inr (refl, (p, (q, c, (v, (i, a, b))))))
@@ -59,7 +58,7 @@ module _ (rows : List ℤ) (right : (r : ℕ) → r < rowCount rows → Fits row
   sevens : (r : ℕ) → Clash rows r 7 ↔ Between CellsEither r
   sevens r = (λ h. to (by-number h), from)
     where
-      to : ((_≡_ {A = ℕ} 7 7) × Between CellsEither r) ⊎ (((_≡_ {A = ℕ} 7 8) × Between (BothInput rows right) r) ⊎ ((_≡_ {A = ℕ} 7 9) × Between (BothOutput rows right) r)) → Between CellsEither r
+      to : ((_≡_ {A = ℕ} 7 7) × Between CellsEither r) ⊎ (((_≡_ {A = ℕ} 7 8) × Between (BothInput rows passed) r) ⊎ ((_≡_ {A = ℕ} 7 9) × Between (BothOutput rows passed) r)) → Between CellsEither r
       to (inl h) = h .1
       to (inr (inl h)) = absurd (let e = h .0 in omega arith)
       to (inr (inr h)) = absurd (let e = h .0 in omega arith)
@@ -67,18 +66,18 @@ module _ (rows : List ℤ) (right : (r : ℕ) → r < rowCount rows → Fits row
       from : Between CellsEither r → Clash rows r 7
       from h = ⊎-elim (λ c. cell (h .1 .1) (c .1 .1) (c .1 .2)) (λ c. cell (turn (h .1 .1)) (c .1 .1) (c .1 .2)) (h .1 .2)
 
-  eights : (r : ℕ) → Clash rows r 8 ↔ Between (BothInput rows right) r
+  eights : (r : ℕ) → Clash rows r 8 ↔ Between (BothInput rows passed) r
   eights r = (λ h. to (by-number h), λ h. input (h .1 .1) (h .1 .2 .1 .1) (h .1 .2 .1 .2))
     where
-      to : ((_≡_ {A = ℕ} 8 7) × Between CellsEither r) ⊎ (((_≡_ {A = ℕ} 8 8) × Between (BothInput rows right) r) ⊎ ((_≡_ {A = ℕ} 8 9) × Between (BothOutput rows right) r)) → Between (BothInput rows right) r
+      to : ((_≡_ {A = ℕ} 8 7) × Between CellsEither r) ⊎ (((_≡_ {A = ℕ} 8 8) × Between (BothInput rows passed) r) ⊎ ((_≡_ {A = ℕ} 8 9) × Between (BothOutput rows passed) r)) → Between (BothInput rows passed) r
       to (inl h) = absurd (let e = h .0 in omega arith)
       to (inr (inl h)) = h .1
       to (inr (inr h)) = absurd (let e = h .0 in omega arith)
 
-  nines : (r : ℕ) → Clash rows r 9 ↔ Between (BothOutput rows right) r
+  nines : (r : ℕ) → Clash rows r 9 ↔ Between (BothOutput rows passed) r
   nines r = (λ h. to (by-number h), λ h. output (h .1 .1) (h .1 .2 .1 .1) (h .1 .2 .1 .2))
     where
-      to : ((_≡_ {A = ℕ} 9 7) × Between CellsEither r) ⊎ (((_≡_ {A = ℕ} 9 8) × Between (BothInput rows right) r) ⊎ ((_≡_ {A = ℕ} 9 9) × Between (BothOutput rows right) r)) → Between (BothOutput rows right) r
+      to : ((_≡_ {A = ℕ} 9 7) × Between CellsEither r) ⊎ (((_≡_ {A = ℕ} 9 8) × Between (BothInput rows passed) r) ⊎ ((_≡_ {A = ℕ} 9 9) × Between (BothOutput rows passed) r)) → Between (BothOutput rows passed) r
       to (inl h) = absurd (let e = h .0 in omega arith)
       to (inr (inl h)) = absurd (let e = h .0 in omega arith)
       to (inr (inr h)) = h .1
@@ -104,22 +103,30 @@ module _ (rows : List ℤ) (right : (r : ℕ) → r < rowCount rows → Fits row
   first-seven : First 7 (firstClash (comparisonsOf 7 (parts rows)))
   first-seven =
       at-start 7 (firstClash (comparisonsOf 7 (parts rows)))
-      (from-row rows right 7 cellClash seven CellsEither (decides-cells rows right) (λ p q h. ⊎-elim inr inl h) sevens (parts rows) 0 parts-length (λ k l. parts-at k))
+      (from-row rows passed 7 cellClash seven CellsEither (decides-cells rows passed) (λ p q h. ⊎-elim inr inl h) sevens (parts rows) 0 parts-length (λ k l. parts-at k))
 
   first-eight : First 8 (firstClash (comparisonsOf 8 (parts rows)))
   first-eight =
       at-start 8 (firstClash (comparisonsOf 8 (parts rows)))
-      (from-row rows right 8 inputClash eight (BothInput rows right) (decides-inputs rows right) (λ p q h. (h .0, (h .1 .0, h .1 .2, h .1 .1))) eights (parts rows) 0 parts-length (λ k l. parts-at k))
+      (from-row rows passed 8 inputClash eight (BothInput rows passed) (decides-inputs rows passed) (λ p q h. (h .0, (h .1 .0, h .1 .2, h .1 .1))) eights (parts rows) 0 parts-length (λ k l. parts-at k))
 
   first-nine : First 9 (firstClash (comparisonsOf 9 (parts rows)))
   first-nine =
       at-start 9 (firstClash (comparisonsOf 9 (parts rows)))
-      (from-row rows right 9 outputClash nine (BothOutput rows right) (decides-outputs rows right) (λ p q h. (h .0, (h .1 .0, h .1 .2, h .1 .1))) nines (parts rows) 0 parts-length (λ k l. parts-at k))
+      (from-row rows passed 9 outputClash nine (BothOutput rows passed) (decides-outputs rows passed) (λ p q h. (h .0, (h .1 .0, h .1 .2, h .1 .1))) nines (parts rows) 0 parts-length (λ k l. parts-at k))
 
   -- the lowest row of the lowest number
   abbrev pub Least : Option (ℕ × ℕ) → Type 0
-  Least none = (r k : ℕ) → ¬ Clash rows r k
-  Least (some f) = Clash rows (f .1) (f .0) × ((q : ℕ) → q < f .1 → ¬ Clash rows q (f .0)) × ((q k : ℕ) → k < f .0 → ¬ Clash rows q k)
+  Least none = NoClash rows
+  Least (some f) = LowestClash rows (f .0) (f .1)
+
+  par-below : {r p q : ℕ} → Components rows r p q → r < rowCount rows
+  par-below (components i j ne f g) = member-par rows i .2
+
+  clash-below : {r k : ℕ} → Clash rows r k → r < rowCount rows
+  clash-below (cell c a b) = par-below c
+  clash-below (input c a b) = par-below c
+  clash-below (output c a b) = par-below c
 
   -- the numbers of clashes are 7, 8 and 9
   none-below : (n q j : ℕ) → (7 < n → ¬ Clash rows q 7) → (8 < n → ¬ Clash rows q 8) → (9 < n → ¬ Clash rows q 9) → j < n → ¬ Clash rows q j
@@ -130,7 +137,7 @@ module _ (rows : List ℤ) (right : (r : ℕ) → r < rowCount rows → Fits row
 
   -- found as number k, where lower numbers have none
   found : (k : ℕ) (c : Comparison) → First k (some c) → ((q j : ℕ) → j < k → ¬ Clash rows q j) → Least (some (c .number, c .row))
-  found k c h f = let e = sym (h .0) in subst (λ (j : ℕ). Least (some (j, c .row))) e (h .1, h .2, f)
+  found k c h f = let e = sym (h .0) in subst (λ (j : ℕ). Least (some (j, c .row))) e ((clash-below (h .1), h .1, h .2), f)
 
   least-of : (o p q : Option Comparison) → First 7 o → First 8 p → First 9 q → Least (refusal (orElse o (orElse p q)))
   least-of (some c) p q f g h = found 7 c f (λ r j. none-below 7 r j (λ l. absurd (omega arith)) (λ l. absurd (omega arith)) (λ l. absurd (omega arith)))
@@ -155,41 +162,32 @@ module _ (rows : List ℤ) (right : (r : ℕ) → r < rowCount rows → Fits row
       number = go (decLt (f .0) (g .0)) (decLt (g .0) (f .0))
         where
           go : Dec (f .0 < g .0) → Dec (g .0 < f .0) → f .0 ≡ g .0
-          go (yes l) b = absurd (k .2 (f .1) (f .0) l (h .0))
-          go (no l) (yes m) = absurd (h .2 (g .1) (g .0) m (k .0))
+          go (yes l) b = absurd (k .1 (f .1) (f .0) l (h .0 .1))
+          go (no l) (yes m) = absurd (h .1 (g .1) (g .0) m (k .0 .1))
           go (no l) (no m) = omega arith
 
       row : f .1 ≡ g .1
-      row = go (decLt (f .1) (g .1)) (decLt (g .1) (f .1))
-        where
-          go : Dec (f .1 < g .1) → Dec (g .1 < f .1) → f .1 ≡ g .1
-          go (yes l) b = absurd (k .1 (f .1) l (subst (Clash rows (f .1)) number (h .0)))
-          go (no l) (yes m) = absurd (h .1 (g .1) m (subst (Clash rows (g .1)) (sym number) (k .0)))
-          go (no l) (no m) = omega arith
+      row = lowest-one (λ q. Clash rows q (g .0)) (rowCount rows) (f .1) (g .1) (subst (λ (n : ℕ). Lowest (λ q. Clash rows q n) (rowCount rows) (some (f .1))) number (h .0)) (k .0)
 
   pub passes-is : (usageFault rows ≡ none) ↔ Least none
   passes-is = (λ e. subst Least e usage-least, λ h. go (usageFault rows) usage-least h)
     where
       go : (o : Option (ℕ × ℕ)) → Least o → Least none → o ≡ none
       go none h k = refl
-      go (some f) h k = absurd (k (f .1) (f .0) (h .0))
+      go (some f) h k = absurd (k (f .1) (f .0) (h .0 .1))
 
   pub faults-is : (f : ℕ × ℕ) → (usageFault rows ≡ some f) ↔ Least (some f)
   faults-is f = (λ e. subst Least e usage-least, λ h. go (usageFault rows) usage-least h)
     where
       go : (o : Option (ℕ × ℕ)) → Least o → Least (some f) → o ≡ some f
-      go none h k = absurd (h (f .1) (f .0) (k .0))
+      go none h k = absurd (h (f .1) (f .0) (k .0 .1))
       go (some g) h k = ap some (least-one g f h k)
 
--- the rows of a table that the earlier stages pass lead to where they may
-pub passed-fits : (rows : List ℤ) → Passed rows → (r : ℕ) → r < rowCount rows → Fits rows r (nodeAt rows r)
-passed-fits rows p = fits rows (whole-passes rows .0 (p .0) .1) (form-passes rows .0 (p .1)) (tree-passes rows .0 (p .2))
+pub usage-passes : UsagePasses
+usage-passes rows p = passes-is rows p
 
-pub usage-passes : UsagePasses Passed
-usage-passes rows p = passes-is rows (passed-fits rows p)
-
-pub usage-faults : UsageFaults Passed
-usage-faults rows p number r = faults-is rows (passed-fits rows p) (number, r)
+pub usage-faults : UsageFaults
+usage-faults rows p number r = faults-is rows p (number, r)
 
 pub usage-exact : UsageExact
 usage-exact = (usage-passes, usage-faults)

@@ -11,16 +11,19 @@ use lib.IntN.{ℤ}
 use lib.ListN.{length, getD}
 use Rattle.meaning.specs.declared.Node.{Node}
 use Rattle.meaning.specs.declared.Node.the-variants.{Literal, Element, Monadic, Dyadic, Stop, Skip, Assignment, Input, Output, Seq, Par, If, While, Alt, Member, Choice, Option as Alternative, Guard, Other}
-use Rattle.meaning.specs.Rows.{ifElse, rowCount, nodeAt}
+use Rattle.meaning.specs.Rows.{ifElse, rowCount, naturalAt, nodeAt}
 use Rattle.meaning.specs.Tree.{Process, Part, noPart, partOf, partAt}
 use Rattle.meaning.specs.Usage.{Pair, pairs, Comparison, ofProcess, comparisonsOf, clashes, firstClash}
-use Rattle.meaning.specs.Clash.{references, IsMember, first, next, Components, components, Clash}
+use Rattle.meaning.specs.Clash.{IsMember, first, next, Components, components, Clash}
 use Rattle.meaning.proofs.Decides.{Decides, holding, failing}
+use Rattle.agreement.specs.VerdictClaims.{Passed}
+use Rattle.agreement.proofs.TableReferences.{Fields, fields-are}
 use Rattle.agreement.proofs.UsageRows.{Fits}
+use Rattle.agreement.proofs.UsageReferences.{first-node, process-node, passed-fits, first-refers}
 use Rattle.agreement.proofs.UsageParts.{part-is}
 use Rattle.agreement.proofs.UsageNames.{test-true}
 use Rattle.agreement.proofs.UsageClashes.{IsProcess}
-use Rattle.agreement.proofs.UsageMembers.{Chain, process-at, chain-at, Apart, apart, pairs-to, member-from, pairs-from}
+use Rattle.agreement.proofs.UsageMembers.{Chain, process-at, chain-at, Apart, apart, member-is, pairs-to, member-from, pairs-from}
 
 -- what the search through a list of comparisons gives
 data Search (l : List Comparison) : Option Comparison → Type 0 where
@@ -103,14 +106,10 @@ module _ (rows : List ℤ) where
   looks k r (Guard a b) = no-par refl refl
   looks k r Other = no-par refl refl
 
-  member-below : {r m : ℕ} → IsMember rows r m → m < rowCount rows
-  member-below (first e h) = h .2
-  member-below (next h e g) = g .2
-
   -- a row with members is a PAR within the table
   pub member-par : {r m : ℕ} → IsMember rows r m → (a : ℕ) × (nodeAt rows r ≡ Par a) × (r < rowCount rows)
-  member-par (first {m} e h) = (m, e, (let u = h .1 in let v = h .2 in omega arith))
-  member-par (next h e g) = member-par h
+  member-par {r} (first {m} k h) = let f = first-node rows r m k h in let u = f .2 in let v = f .3 in (m, f .0, omega arith)
+  member-par (next i h) = member-par i
 
   par-one : (r a c : ℕ) → nodeAt rows r ≡ Par a → nodeAt rows r ≡ Par c → c ≡ a
   unfolding parOf
@@ -121,9 +120,12 @@ module _ (rows : List ℤ) where
   FromRow number j none = (q : ℕ) → j ≤ q → ¬ Clash rows q number
   FromRow number j (some c) = (c .number ≡ number) × (j ≤ c .row) × Clash rows (c .row) number × ((q : ℕ) → j ≤ q → q < c .row → ¬ Clash rows q number)
 
-  module _ (fits : (r : ℕ) → r < rowCount rows → Fits rows r (nodeAt rows r)) (number : ℕ) (test : Process → Process → Bool) (tests : (c : Comparison) → c .number ≡ number → clashes c ≡ test (c .pair .one) (c .pair .other))
+  module _ (passed : Passed rows) (number : ℕ) (test : Process → Process → Bool) (tests : (c : Comparison) → c .number ≡ number → clashes c ≡ test (c .pair .one) (c .pair .other))
       (Rel : ℕ → ℕ → Type 0) (decides-rel : (p q : ℕ) (x y : Process) → IsProcess rows p x → IsProcess rows q y → Decides (Rel p q) (test x y)) (turned : (p q : ℕ) → Rel p q → Rel q p)
       (clash-is : (r : ℕ) → Clash rows r number ↔ ((p : ℕ) × ((q : ℕ) × Components rows r p q × Rel p q))) where
+    fits : (r : ℕ) → r < rowCount rows → Fits rows r (nodeAt rows r)
+    fits = passed-fits rows passed
+
     -- what is found at one row
     abbrev AtRow : ℕ → Option Comparison → Type 0
     AtRow r none = ¬ Clash rows r number
@@ -142,11 +144,11 @@ module _ (rows : List ℤ) where
       chain = chain-at rows fits (rowCount rows) a (omega arith) (subst (Fits rows r) e (fits r l) .1)
 
       first-member : a < rowCount rows → IsMember rows r a
-      first-member i = first e (subst (λ (x : Node). List·Memᴰ a (references x)) (sym e) (List·Memᴰ·head refl), subst (Fits rows r) e (fits r l) .0, i)
+      first-member i = first (subst (Fields rows r) e (fields-are rows r) .0 .0) (first-refers rows passed r a l e i)
 
       -- a pair that clashes is a clash of components
       pair-clash : (d : Pair) → List·Memᴰ d (pairs 0 (partAt rows a .members)) → test (d .one) (d .other) ≡ true → Clash rows r number
-      pair-clash d m t = go (pairs-to rows r 0 chain first-member d m)
+      pair-clash d m t = go (pairs-to rows passed r 0 chain first-member d m)
         where
           go : Apart rows r (d .one) (d .other) → Clash rows r number
           go (apart {p} {q} c u v) = clash-is r .1 (p, (q, c, holds-true (decides-rel p q (d .one) (d .other) u v) t))
@@ -156,14 +158,18 @@ module _ (rows : List ℤ) where
       clash-pair h = let w = clash-is r .0 h in go (w .0) (w .1 .0) (w .1 .1) (w .1 .2)
         where
           runs : (p m b : ℕ) → IsMember rows r m → nodeAt rows m ≡ Member p b → (x : Process) × IsProcess rows p x
-          runs p m b i f = let w = subst (Fits rows m) f (fits m (member-below i)) in process-at rows fits p (w .0 .1) (w .0 .2)
+          runs p m b i f = let w = subst (Fits rows m) f (fits m (member-is rows i .1)) in process-at rows fits p (w .0 .1) (w .0 .2)
 
           go : (p q : ℕ) → Components rows r p q → Rel p q → (d : Pair) × List·Memᴰ d (pairs 0 (partAt rows a .members)) × (test (d .one) (d .other) ≡ true)
-          go p q (components {m} {n} {b} {c} i j ne f g) rel =
-              let x = runs p m b i f in
-              let y = runs q n c j g in
+          go p q (components {m} {n} i j ne f g) rel =
+              let b = naturalAt rows m 2 in
+              let c = naturalAt rows n 2 in
+              let f′ = process-node rows m p (member-is rows i .0) f in
+              let g′ = process-node rows n q (member-is rows j .0) g in
+              let x = runs p m b i f′ in
+              let y = runs q n c j g′ in
               let one-par : (k : ℕ) → nodeAt rows r ≡ Par k → k ≡ a = λ k u. par-one r a k e u in
-              let s = pairs-from rows 0 (x .0) (y .0) chain (member-from rows r a one-par i) (member-from rows r a one-par j) ne (p, (b, member-below i, f, x .1)) (q, (c, member-below j, g, y .1)) in (
+              let s = pairs-from rows 0 (x .0) (y .0) chain (member-from rows r a one-par i) (member-from rows r a one-par j) ne (p, (b, member-is rows i .1, f′, x .1)) (q, (c, member-is rows j .1, g′, y .1)) in (
                 s .0,
                 s .1,
                 ⊎-elim

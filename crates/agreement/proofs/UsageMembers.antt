@@ -13,9 +13,12 @@ use Rattle.meaning.specs.Rows.{rowCount, naturalAt, kindAt, nodeAt}
 use Rattle.meaning.specs.Kinds.{processes}
 use Rattle.meaning.specs.Tree.{Process, Members, empty, also, Part, andMember, partOf, partAt}
 use Rattle.meaning.specs.Usage.{Pair, pairsWith, pairs}
-use Rattle.meaning.specs.Clash.{references, Refers, IsMember, first, next, Components, components}
+use Rattle.meaning.specs.Clash.{IsMember, first, next, Components, components}
+use Rattle.meaning.proofs.PartLaws.{part-unfolds}
+use Rattle.agreement.specs.VerdictClaims.{Passed}
 use Rattle.agreement.proofs.UsageRows.{node-of-kind, Fits}
-use Rattle.agreement.proofs.UsageParts.{part-by-kind, part-past, part-is}
+use Rattle.agreement.proofs.UsageReferences.{first-node, next-node, process-refers, next-refers}
+use Rattle.agreement.proofs.UsageParts.{part-by-kind, part-is}
 use Rattle.agreement.proofs.UsageClashes.{IsProcess}
 
 -- the process and the next of a member
@@ -60,11 +63,11 @@ module _ (rows : List ℤ) where
         (h .0, (l, m, h .1))
 
     pub chain-at : (k m : ℕ) → rowCount rows ≤ m + k → (m < rowCount rows → List·Memᴰ (kindAt rows m) (40 ∷ [])) → Chain m (partAt rows m .members)
-    chain-at zero m d h = subst (λ (x : Part). Chain m (x .members)) (sym (part-past rows m (omega arith))) (end (omega arith))
+    chain-at zero m d h = subst (λ (x : Part). Chain m (x .members)) (sym (part-unfolds rows m .1 (omega arith))) (end (omega arith))
     chain-at (suc k) m d h = go (decLt m (rowCount rows)) (λ b g i. chain-at k b g i)
       where
         go : Dec (m < rowCount rows) → ((b : ℕ) → rowCount rows ≤ b + k → (b < rowCount rows → List·Memᴰ (kindAt rows b) (40 ∷ [])) → Chain b (partAt rows b .members)) → Chain m (partAt rows m .members)
-        go (no l) f = subst (λ (x : Part). Chain m (x .members)) (sym (part-past rows m (omega arith))) (end l)
+        go (no l) f = subst (λ (x : Part). Chain m (x .members)) (sym (part-unfolds rows m .1 (omega arith))) (end l)
         go (yes l) f =
             let p = naturalAt rows m 1 in
             let b = naturalAt rows m 2 in
@@ -79,21 +82,26 @@ module _ (rows : List ℤ) where
   pub data Apart (r : ℕ) (x y : Process) : Type 0 where
     apart : {p q : ℕ} → Components rows r p q → IsProcess rows p x → IsProcess rows q y → Apart r x y
 
+  -- the members of a PAR are members, and rows of the table
+  pub member-is : {r m : ℕ} → IsMember rows r m → (kindAt rows m ≡ 40) × (m < rowCount rows)
+  member-is {r} {m} (first k h) = let f = first-node rows r m k h in (f .1, f .3)
+  member-is {r} (next {m} {n} i h) = let f = next-node rows m n (member-is i .0) h in (f .1, f .3)
+
   -- a pair is of two members
-  module _ (r : ℕ) where
+  module _ (passed : Passed rows) (r : ℕ) where
     -- a member after row m with process y
     abbrev After : ℕ → Process → Type 0
     After m y = (n : ℕ) × ((q : ℕ) × ((c : ℕ) × (m ≤ n) × IsMember rows r n × (nodeAt rows n ≡ Member q c) × IsProcess rows q y))
 
-    next-member : (m p b : ℕ) → m < b → nodeAt rows m ≡ Member p b → IsMember rows r m → b < rowCount rows → IsMember rows r b
-    next-member m p b l e h i = next h e (subst (λ (x : Node). List·Memᴰ b (references x)) (sym e) (List·Memᴰ·tail (List·Memᴰ·head refl)), l, i)
+    next-member : (m p b : ℕ) → nodeAt rows m ≡ Member p b → IsMember rows r m → b < rowCount rows → IsMember rows r b
+    next-member m p b e h i = next h (next-refers rows passed m p b (member-is h .1) e i)
 
     with-to : (i j : ℕ) (x : Process) {m : ℕ} {ms : Members} → Chain m ms → (m < rowCount rows → IsMember rows r m) → (d : Pair) → List·Memᴰ d (pairsWith i x j ms) → (x ≡ d .one) × After m (d .other)
     with-to i j x (end l) f d h = absurd (List·Memᴰ·not-nil h)
     with-to i j x (link {m} {p} {b} {x = y} {ms} l u e w c) f d h =
         ⊎-elim
         (λ (g : d ≡ record { i = i; j = j; one = x; other = y }). (sym (ap (λ (z : Pair). z .one) g), (m, (p, (b, omega arith, f l, e, subst (IsProcess rows p) (sym (ap (λ (z : Pair). z .other) g)) w)))))
-        (λ g. let k = with-to i (suc j) x c (next-member m p b u e (f l)) d g in (k .0, (k .1 .0, (k .1 .1 .0, (k .1 .1 .1 .0, (let v = k .1 .1 .1 .1 in omega arith), k .1 .1 .1 .2, k .1 .1 .1 .3, k .1 .1 .1 .4)))))
+        (λ g. let k = with-to i (suc j) x c (next-member m p b e (f l)) d g in (k .0, (k .1 .0, (k .1 .1 .0, (k .1 .1 .1 .0, (let v = k .1 .1 .1 .1 in omega arith), k .1 .1 .1 .2, k .1 .1 .1 .3, k .1 .1 .1 .4)))))
         (List·Memᴰ·cases-cons h)
 
     pub pairs-to : (i : ℕ) {m : ℕ} {ms : Members} → Chain m ms → (m < rowCount rows → IsMember rows r m) → (d : Pair) → List·Memᴰ d (pairs i ms) → Apart r (d .one) (d .other)
@@ -101,25 +109,25 @@ module _ (rows : List ℤ) where
     pairs-to i (link {m} {p} {b} {x} {ms} l u e w c) f d h =
         ⊎-elim
         (λ g.
-        let k = with-to i (suc i) x c (next-member m p b u e (f l)) d g in
+        let k = with-to i (suc i) x c (next-member m p b e (f l)) d g in
         let n = k .1 .1 .1 in
-        apart (components (f l) (n .2) (let v = n .1 in λ z. omega arith) e (n .3)) (subst (IsProcess rows p) (k .0) w) (n .4))
-        (λ g. pairs-to (suc i) c (next-member m p b u e (f l)) d g)
+        apart (components (f l) (n .2) (let v = n .1 in λ z. omega arith) (process-refers rows passed m p b l e (w .0)) (process-refers rows passed (k .1 .0) (k .1 .1 .0) (n .0) (member-is (n .2) .1) (n .3) (n .4 .0))) (subst (IsProcess rows p) (k .0) w) (n .4))
+        (λ g. pairs-to (suc i) c (next-member m p b e (f l)) d g)
         (List·Memᴰ·append-cases (pairsWith i x (suc i) ms) h)
 
   -- row x is a member from row m on
   pub data From (x : ℕ) : ℕ → Type 0 where
     now : From x x
-    then : {m a b : ℕ} → nodeAt rows m ≡ Member a b → Refers rows m b → From x b → From x m
+    then : {m a b : ℕ} → nodeAt rows m ≡ Member a b → (m < b) × (b < rowCount rows) → From x b → From x m
 
-  from-next : {x m a b : ℕ} → From x m → nodeAt rows x ≡ Member a b → Refers rows x b → From b m
+  from-next : {x m a b : ℕ} → From x m → nodeAt rows x ≡ Member a b → (x < b) × (b < rowCount rows) → From b m
   from-next now e f = then e f now
   from-next (then g h w) e f = then g h (from-next w e f)
 
   -- the members of a PAR are those from its first on
   pub member-from : (r m : ℕ) → ((c : ℕ) → nodeAt rows r ≡ Par c → c ≡ m) → {x : ℕ} → IsMember rows r x → From x m
-  member-from r m f (first {m = c} e h) = subst (From c) (f c e) now
-  member-from r m f (next h e g) = from-next (member-from r m f h) e g
+  member-from r m f (first {m = c} k h) = subst (From c) (f c (first-node rows r c k h .0)) now
+  member-from r m f (next {m = x} {n} h g) = let e = next-node rows x n (member-is h .0) g in from-next (member-from r m f h) (e .0) (e .2, e .3)
 
   -- a member with its process
   abbrev pub Runs : ℕ → Process → Type 0
@@ -133,7 +141,7 @@ module _ (rows : List ℤ) where
 
   with-from : (i j : ℕ) (x y : Process) {n m : ℕ} {ms : Members} → Chain m ms → From n m → Runs n y → (d : Pair) × List·Memᴰ d (pairsWith i x j ms) × (d .one ≡ x) × (d .other ≡ y)
   with-from i j x y (end l) now h = absurd (l (h .1 .1))
-  with-from i j x y (end l) (then e f w) h = absurd (let a = f .1 in let b = f .2 in l (omega arith))
+  with-from i j x y (end l) (then e f w) h = absurd (let a = f .0 in let b = f .1 in l (omega arith))
   with-from i j x y (link {m} {p} {b} {x = z} l u e w c) now h =
       (record { i = i; j = j; one = x; other = z }, List·Memᴰ·head refl, refl, sym (runs-one m p b z y e w h))
   with-from i j x y {n} (link {m} l u e w c) (then g f k) h =
@@ -145,7 +153,7 @@ module _ (rows : List ℤ) where
 
   pub pairs-from : (i : ℕ) (x y : Process) {n k m : ℕ} {ms : Members} → Chain m ms → From n m → From k m → n ≢ k → Runs n x → Runs k y → Paired i x y ms
   pairs-from i x y (end l) now g ne a b = absurd (l (a .1 .1))
-  pairs-from i x y (end l) (then e f w) g ne a b = absurd (let s = f .1 in let t = f .2 in l (omega arith))
+  pairs-from i x y (end l) (then e f w) g ne a b = absurd (let s = f .0 in let t = f .1 in l (omega arith))
   pairs-from i x y (link l u e w c) now now ne a b = absurd (ne refl)
   pairs-from i x y {k} (link {m} {p} {b = d} {x = z} {ms} l u e w c) now (then g f v) ne a b =
       let q = with-from i (suc i) x y c (subst (From k) (sym (member-one m e g .1)) v) b in

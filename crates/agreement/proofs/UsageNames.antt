@@ -11,7 +11,7 @@ use Rattle.meaning.specs.Kinds.{expressions}
 use Rattle.meaning.specs.Declarations.{Variable, Channel, noVariable, noChannel, sumBelow, isVariable, hasRole, portsAt, capacityAt, cellsAt, elementsAt, variableAt, channelAt}
 use Rattle.meaning.specs.Tree.{partAt}
 use Rattle.meaning.specs.Usage.{countsFor}
-use Rattle.meaning.specs.Faults.{IsTarget}
+use Rattle.meaning.specs.References.{IsTarget}
 use Rattle.meaning.specs.Clash.{Counts}
 use Rattle.meaning.proofs.Decides.{Decides, holding, failing, decides-and, decides-lt, decides-eq}
 use Rattle.agreement.proofs.UsageRows.{ToChannel, Fits}

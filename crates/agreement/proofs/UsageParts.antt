@@ -2,40 +2,20 @@
 use mathlib.Core.Path.{_≡_, refl, sym, ap, _∙_, subst}
 use mathlib.Core.Logic.{⊎-elim}
 use mathlib.Core.Bool.{Bool}
-use mathlib.Core.List.{List, [], _∷_, List·Memᴰ, List·Memᴰ·head, List·Memᴰ·tail, List·Memᴰ·not-nil, List·Memᴰ·cases-cons}
+use mathlib.Core.List.{List, [], _∷_, List·Memᴰ, List·Memᴰ·not-nil, List·Memᴰ·cases-cons}
 use mathlib.Core.Option.{some}
-use Prim.Native.Nat.{ℕ, _≤_, _<_}
+use Prim.Native.Nat.{ℕ, _<_}
 use lib.IntN.{ℤ}
-use lib.Dec.{ltb}
 use borrow.Author.Tests.{lt-ltb}
 use Rattle.meaning.specs.declared.Node.{Node}
 use Rattle.meaning.specs.declared.Node.the-variants.{Literal, Element, Monadic, Dyadic, Stop, Skip, Assignment, Input, Output, Seq, Par, If, While, Alt, Member, Choice, Option as Alternative, Guard, Other}
 use Rattle.meaning.specs.Rows.{ifElse, rowCount, fieldAt, naturalAt, kindAt, nodeAt}
 use Rattle.meaning.specs.Declarations.{variableAt, sourceAt, sinkAt}
 use Rattle.meaning.specs.Tree.{monadic, dyadic, sequence, parallel, assign, receive, send, conditional, loop, alternation, node, empty, Receive, Part, noPart, andMember, ofExpr, ofElement, ofProcess, ofGuarded, ofGuardRow, ofLink, partOf, partAt}
-use Rattle.meaning.specs.Clash.{references}
-use Rattle.meaning.proofs.HigherRows.{atRow-at, atRow-past}
+use Rattle.meaning.specs.PartClaims.{higherPart}
+use Rattle.meaning.proofs.PartLaws.{part-unfolds}
 use Rattle.agreement.proofs.UsageRows.{nodeOf, node-of-kind, Fits}
-
--- what is shown of each element of a list of one, two, three
-pub one : (P : ℕ → Type 0) (x : ℕ) → P x → (c : ℕ) → List·Memᴰ c (x ∷ []) → P c
-one P x f c m = ⊎-elim (λ e. subst P (sym e) f) (λ i. absurd (List·Memᴰ·not-nil i)) (List·Memᴰ·cases-cons m)
-
-pub two : (P : ℕ → Type 0) (x y : ℕ) → P x → P y → (c : ℕ) → List·Memᴰ c (x ∷ y ∷ []) → P c
-two P x y f g c m = ⊎-elim (λ e. subst P (sym e) f) (λ i. one P y g c i) (List·Memᴰ·cases-cons m)
-
-pub three : (P : ℕ → Type 0) (x y z : ℕ) → P x → P y → P z → (c : ℕ) → List·Memᴰ c (x ∷ y ∷ z ∷ []) → P c
-three P x y z f g h c m = ⊎-elim (λ e. subst P (sym e) f) (λ i. two P y z g h c i) (List·Memᴰ·cases-cons m)
-
--- the first, the second, the third of a list
-pub m0 : {x : ℕ} {l : List ℕ} → List·Memᴰ x (x ∷ l)
-m0 = List·Memᴰ·head refl
-
-pub m1 : {x y : ℕ} {l : List ℕ} → List·Memᴰ x (y ∷ x ∷ l)
-m1 = List·Memᴰ·tail m0
-
-pub m2 : {x y z : ℕ} {l : List ℕ} → List·Memᴰ x (y ∷ z ∷ x ∷ l)
-m2 = List·Memᴰ·tail m1
+use Rattle.agreement.proofs.UsageLists.{references, one, two, three, m0, m1, m2}
 
 -- something of each number of a list
 abbrev pub OfEach : (ℕ → Type 0) → List ℕ → Type 0
@@ -94,17 +74,11 @@ module _ (rows : List ℤ) where
   fits-higher r (Guard a b) f = two (_<_ r) a b (f .0 .0) (f .1 .0)
   fits-higher r Other f = λ c m. absurd (List·Memᴰ·not-nil m)
 
-  -- past the table nothing stands
-  pub part-past : (r : ℕ) → rowCount rows ≤ r → partAt rows r ≡ noPart
-  unfolding partAt
-  part-past r h = atRow-past noPart (λ q at. partOf rows q at (nodeAt rows q)) (rowCount rows) r h
-
   -- what stands at a row, from what stands at any row
   pub part-is : (r : ℕ) → r < rowCount rows → Fits rows r (nodeAt rows r) → partAt rows r ≡ partOf rows r (partAt rows) (nodeAt rows r)
-  unfolding partAt
   part-is r l f =
-      atRow-at noPart (λ q at. partOf rows q at (nodeAt rows q)) (rowCount rows) r l
-      ∙ part-agree r (λ b. ifElse (ltb r b) (partAt rows b) noPart) (partAt rows) (nodeAt rows r)
+      part-unfolds rows r .0 l
+      ∙ part-agree r (higherPart rows r) (partAt rows) (nodeAt rows r)
       (λ c m. ap (λ (t : Bool). ifElse t (partAt rows c) noPart) (lt-ltb r c (fits-higher r (nodeAt rows r) f c m)))
 
   -- what stands at row r, if it is of kind k

@@ -1,7 +1,7 @@
 -- In a table that the stages 3 to 5 pass, every reference leads to a higher row of a kind that its place wants.
 use mathlib.Core.Path.{_≡_, refl, sym, ap, _∙_, subst}
 use mathlib.Core.Logic.{_⊎_, inl, inr, ⊎-elim}
-use mathlib.Core.Bool.{Bool, true, false}
+use mathlib.Core.Bool.{true}
 use mathlib.Core.List.{List, [], _∷_, List·Memᴰ}
 use mathlib.Core.Option.{some, Option·some-injective}
 use Prim.Native.Nat.{ℕ, suc, _≤_, _<_}
@@ -14,8 +14,10 @@ use Rattle.meaning.specs.declared.Node.{Node}
 use Rattle.meaning.specs.declared.Node.the-variants.{Literal, Element, Monadic, Dyadic, Stop, Skip, Assignment, Input, Output, Seq, Par, If, While, Alt, Member, Choice, Option as Alternative, Guard, Other}
 use Rattle.meaning.specs.Rows.{ifElse, naturalOf, rowCount, fieldAt, naturalAt, kindAt, declarations, nodeAt}
 use Rattle.meaning.specs.Kinds.{Shape, shapes, shapeIn, shapeOf, expressions, processes}
-use Rattle.meaning.specs.Faults.{Holds, IsOf, WellFormed, IsTarget, Leads, Place, of-a, of-b, of-c, fieldOf, numberOf, Placed, WellPlaced}
+use Rattle.meaning.specs.References.{IsOf, IsTarget, Place, of-a, of-b, of-c, fieldOf, numberOf}
+use Rattle.meaning.specs.Faults.{Holds, WellFormed, Leads, Placed, WellPlaced}
 use Rattle.meaning.proofs.OneTreeLaw.{declared}
+use Rattle.agreement.proofs.TableReferences.{if-else}
 
 -- a row's kind with its fields, from its numbers
 abbrev pub nodeOf : ℕ → ℤ → ℕ → ℕ → ℕ → Node
@@ -39,10 +41,6 @@ nodeOf k x a b c =
     (ifElse (eqb k 42) (Alternative a b c)
     (ifElse (eqb k 43) (Guard a b)
     Other)))))))))))))))))
-
-choose : (P : Node → Type 0) (x y : Node) (b : Bool) → (b ≡ true → P x) → P y → P (ifElse b x y)
-choose P x y true f g = f refl
-choose P x y false f g = g
 
 module _ (rows : List ℤ) where
   -- a row of kind k is the node of that kind
@@ -117,24 +115,24 @@ module _ (rows : List ℤ) where
       fits-later =
           let k = kindAt rows r in
           let i = is-of in
-          choose (Fits r) _ _ (eqb k 10) (λ e. tt)
-          (choose (Fits r) _ _ (eqb k 11) (λ e. to-target r expressions (fieldAt rows r 2) (leads-to _ (i 11 _ refl e) of-b))
-          (choose (Fits r) _ _ (eqb k 12) (λ e. to-target r expressions (fieldAt rows r 2) (leads-to _ (i 12 _ refl e) of-b))
-          (choose (Fits r) _ _ (eqb k 13) (λ e. (to-target r expressions (fieldAt rows r 2) (leads-to _ (i 13 _ refl e) of-b), to-target r expressions (fieldAt rows r 3) (leads-to _ (i 13 _ refl e) of-c)))
-          (choose (Fits r) _ _ (eqb k 20) (λ e. tt)
-          (choose (Fits r) _ _ (eqb k 21) (λ e. tt)
-          (choose (Fits r) _ _ (eqb k 22) (λ e. (to-target r expressions (fieldAt rows r 2) (leads-to _ (i 22 _ refl e) of-b), to-target r expressions (fieldAt rows r 3) (leads-to _ (i 22 _ refl e) of-c)))
-          (choose (Fits r) _ _ (eqb k 23) (λ e. (to-channel (0 ∷ 1 ∷ []) (fieldAt rows r 1) (holds-a _ (i 23 _ refl e)), to-target r expressions (fieldAt rows r 2) (leads-to _ (i 23 _ refl e) of-b), to-target r (11 ∷ []) (fieldAt rows r 3) (leads-to _ (i 23 _ refl e) of-c)))
-          (choose (Fits r) _ _ (eqb k 24) (λ e. (to-channel (0 ∷ 2 ∷ []) (fieldAt rows r 1) (holds-a _ (i 24 _ refl e)), to-target r expressions (fieldAt rows r 2) (leads-to _ (i 24 _ refl e) of-b), to-target r expressions (fieldAt rows r 3) (leads-to _ (i 24 _ refl e) of-c)))
-          (choose (Fits r) _ _ (eqb k 30) (λ e. to-link r (40 ∷ []) (fieldAt rows r 1) l (leads-to _ (i 30 _ refl e) of-a))
-          (choose (Fits r) _ _ (eqb k 31) (λ e. to-link r (40 ∷ []) (fieldAt rows r 1) l (leads-to _ (i 31 _ refl e) of-a))
-          (choose (Fits r) _ _ (eqb k 32) (λ e. to-link r (41 ∷ []) (fieldAt rows r 1) l (leads-to _ (i 32 _ refl e) of-a))
-          (choose (Fits r) _ _ (eqb k 33) (λ e. (to-target r expressions (fieldAt rows r 1) (leads-to _ (i 33 _ refl e) of-a), to-target r processes (fieldAt rows r 2) (leads-to _ (i 33 _ refl e) of-b)))
-          (choose (Fits r) _ _ (eqb k 34) (λ e. to-link r (42 ∷ []) (fieldAt rows r 1) l (leads-to _ (i 34 _ refl e) of-a))
-          (choose (Fits r) _ _ (eqb k 40) (λ e. (to-target r processes (fieldAt rows r 1) (leads-to _ (i 40 _ refl e) of-a), to-link r (40 ∷ []) (fieldAt rows r 2) l (leads-to _ (i 40 _ refl e) of-b)))
-          (choose (Fits r) _ _ (eqb k 41) (λ e. (to-target r processes (fieldAt rows r 1) (leads-to _ (i 41 _ refl e) of-a), to-link r (41 ∷ []) (fieldAt rows r 2) l (leads-to _ (i 41 _ refl e) of-b), to-target r expressions (fieldAt rows r 3) (leads-to _ (i 41 _ refl e) of-c)))
-          (choose (Fits r) _ _ (eqb k 42) (λ e. (to-target r processes (fieldAt rows r 1) (leads-to _ (i 42 _ refl e) of-a), to-link r (42 ∷ []) (fieldAt rows r 2) l (leads-to _ (i 42 _ refl e) of-b), to-target r (23 ∷ 43 ∷ []) (fieldAt rows r 3) (leads-to _ (i 42 _ refl e) of-c)))
-          (choose (Fits r) _ _ (eqb k 43) (λ e. (to-target r expressions (fieldAt rows r 1) (leads-to _ (i 43 _ refl e) of-a), to-target r (21 ∷ 23 ∷ []) (fieldAt rows r 2) (leads-to _ (i 43 _ refl e) of-b)))
+          if-else (Fits r) (eqb k 10) (λ e. tt)
+          (if-else (Fits r) (eqb k 11) (λ e. to-target r expressions (fieldAt rows r 2) (leads-to _ (i 11 _ refl e) of-b))
+          (if-else (Fits r) (eqb k 12) (λ e. to-target r expressions (fieldAt rows r 2) (leads-to _ (i 12 _ refl e) of-b))
+          (if-else (Fits r) (eqb k 13) (λ e. (to-target r expressions (fieldAt rows r 2) (leads-to _ (i 13 _ refl e) of-b), to-target r expressions (fieldAt rows r 3) (leads-to _ (i 13 _ refl e) of-c)))
+          (if-else (Fits r) (eqb k 20) (λ e. tt)
+          (if-else (Fits r) (eqb k 21) (λ e. tt)
+          (if-else (Fits r) (eqb k 22) (λ e. (to-target r expressions (fieldAt rows r 2) (leads-to _ (i 22 _ refl e) of-b), to-target r expressions (fieldAt rows r 3) (leads-to _ (i 22 _ refl e) of-c)))
+          (if-else (Fits r) (eqb k 23) (λ e. (to-channel (0 ∷ 1 ∷ []) (fieldAt rows r 1) (holds-a _ (i 23 _ refl e)), to-target r expressions (fieldAt rows r 2) (leads-to _ (i 23 _ refl e) of-b), to-target r (11 ∷ []) (fieldAt rows r 3) (leads-to _ (i 23 _ refl e) of-c)))
+          (if-else (Fits r) (eqb k 24) (λ e. (to-channel (0 ∷ 2 ∷ []) (fieldAt rows r 1) (holds-a _ (i 24 _ refl e)), to-target r expressions (fieldAt rows r 2) (leads-to _ (i 24 _ refl e) of-b), to-target r expressions (fieldAt rows r 3) (leads-to _ (i 24 _ refl e) of-c)))
+          (if-else (Fits r) (eqb k 30) (λ e. to-link r (40 ∷ []) (fieldAt rows r 1) l (leads-to _ (i 30 _ refl e) of-a))
+          (if-else (Fits r) (eqb k 31) (λ e. to-link r (40 ∷ []) (fieldAt rows r 1) l (leads-to _ (i 31 _ refl e) of-a))
+          (if-else (Fits r) (eqb k 32) (λ e. to-link r (41 ∷ []) (fieldAt rows r 1) l (leads-to _ (i 32 _ refl e) of-a))
+          (if-else (Fits r) (eqb k 33) (λ e. (to-target r expressions (fieldAt rows r 1) (leads-to _ (i 33 _ refl e) of-a), to-target r processes (fieldAt rows r 2) (leads-to _ (i 33 _ refl e) of-b)))
+          (if-else (Fits r) (eqb k 34) (λ e. to-link r (42 ∷ []) (fieldAt rows r 1) l (leads-to _ (i 34 _ refl e) of-a))
+          (if-else (Fits r) (eqb k 40) (λ e. (to-target r processes (fieldAt rows r 1) (leads-to _ (i 40 _ refl e) of-a), to-link r (40 ∷ []) (fieldAt rows r 2) l (leads-to _ (i 40 _ refl e) of-b)))
+          (if-else (Fits r) (eqb k 41) (λ e. (to-target r processes (fieldAt rows r 1) (leads-to _ (i 41 _ refl e) of-a), to-link r (41 ∷ []) (fieldAt rows r 2) l (leads-to _ (i 41 _ refl e) of-b), to-target r expressions (fieldAt rows r 3) (leads-to _ (i 41 _ refl e) of-c)))
+          (if-else (Fits r) (eqb k 42) (λ e. (to-target r processes (fieldAt rows r 1) (leads-to _ (i 42 _ refl e) of-a), to-link r (42 ∷ []) (fieldAt rows r 2) l (leads-to _ (i 42 _ refl e) of-b), to-target r (23 ∷ 43 ∷ []) (fieldAt rows r 3) (leads-to _ (i 42 _ refl e) of-c)))
+          (if-else (Fits r) (eqb k 43) (λ e. (to-target r expressions (fieldAt rows r 1) (leads-to _ (i 43 _ refl e) of-a), to-target r (21 ∷ 23 ∷ []) (fieldAt rows r 2) (leads-to _ (i 43 _ refl e) of-b)))
           tt)))))))))))))))))
 
     -- each row's fields lead to where they may

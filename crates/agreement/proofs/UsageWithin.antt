@@ -1,5 +1,5 @@
 -- Of rows whose references lead to where they may: something at a row bears a mark exactly if a row within it does.
-use mathlib.Core.Path.{sym, subst}
+use mathlib.Core.Path.{refl, sym, subst}
 use mathlib.Core.Logic.{_⊎_, inl, inr, ⊎-elim, _↔_}
 use mathlib.Core.List.{List, [], _∷_, List·Memᴰ, List·Memᴰ·not-nil}
 use Prim.Native.Nat.{ℕ, zero, suc, _+_, _≤_, _<_}
@@ -12,10 +12,15 @@ use Rattle.meaning.specs.Rows.{rowCount, kindAt, nodeAt}
 use Rattle.meaning.specs.Kinds.{expressions, processes}
 use Rattle.meaning.specs.Declarations.{variableAt, sourceAt, sinkAt}
 use Rattle.meaning.specs.Tree.{element, Process, empty, Part, ofProcess, andMember, partOf, partAt}
-use Rattle.meaning.specs.Faults.{IsTarget}
-use Rattle.meaning.specs.Clash.{references, Refers, Within, itself, beneath}
+use Rattle.meaning.specs.References.{Place, fieldOf, numberOf, IsTarget, Refers, Beneath, direct, further}
+use Rattle.meaning.specs.Clash.{Within}
+use Rattle.meaning.proofs.PartLaws.{part-unfolds}
+use Rattle.meaning.proofs.ReferenceCounts.{bounds}
+use Rattle.agreement.specs.VerdictClaims.{Passed}
 use Rattle.agreement.proofs.UsageRows.{ToLink, Fits}
-use Rattle.agreement.proofs.UsageParts.{one, two, three, m0, m1, m2, fits-higher, part-past, part-is, OfEach, partBy, part-by-kind}
+use Rattle.agreement.proofs.UsageLists.{references, one, two, three, m0, m1, m2}
+use Rattle.agreement.proofs.UsageReferences.{refers-listed, passed-fits, listed-refers}
+use Rattle.agreement.proofs.UsageParts.{fits-higher, part-is, OfEach, partBy, part-by-kind}
 use Rattle.agreement.proofs.UsageTree.{Mark, InExpr, InReceive, InChoices, InInput, InGuard, InOptions, InProcess, InMembers, InOption, InPart, in-expr, in-process, in-members, in-choices, in-options, in-guard, in-no-part, in-expr-part, in-element-part, in-process-part, in-guarded-part, in-guard-part, in-link-part, split-member, join-member}
 
 module _ (rows : List ℤ) (M : Mark) where
@@ -50,9 +55,12 @@ module _ (rows : List ℤ) (M : Mark) where
     where
       go : Dec (r < rowCount rows) → r < rowCount rows
       go (yes l) = l
-      go (no l) = absurd (in-no-part M (subst (InPart M) (part-past rows r (omega arith)) h))
+      go (no l) = absurd (in-no-part M (subst (InPart M) (part-unfolds rows r .1 (omega arith)) h))
 
-  module _ (fits : (r : ℕ) → r < rowCount rows → Fits rows r (nodeAt rows r)) where
+  module _ (passed : Passed rows) where
+    fits : (r : ℕ) → r < rowCount rows → Fits rows r (nodeAt rows r)
+    fits = passed-fits rows passed
+
     -- where it is, in a row of given kinds
     by-kind : (P : Part → Type 0) (c : ℕ) (kinds : List ℕ) → c < rowCount rows → List·Memᴰ (kindAt rows c) kinds → OfEach (λ k. P (partBy rows c k)) kinds → P (partAt rows c)
     by-kind P c kinds l m h = part-by-kind rows P c l (fits c l) kinds m h
@@ -224,13 +232,26 @@ module _ (rows : List ℤ) (M : Mark) where
     abbrev pub Some : ℕ → Type 0
     Some r = (d : ℕ) × Within rows r d × Bears (nodeAt rows d)
 
-    further : {r c d : ℕ} → Refers rows r c → Within rows c d → Within rows r d
-    further f itself = beneath itself f
-    further f (beneath w g) = beneath (further f w) g
+    -- beneath what row r refers to is beneath row r
+    beneath-first : {r c d : ℕ} (p : Place) → Refers rows r p c → Beneath rows c d → Beneath rows r d
+    beneath-first p f (direct o g) = further o (direct p f) g
+    beneath-first p f (further o w g) = further o (beneath-first p f w) g
+
+    within-first : {r c d : ℕ} (p : Place) → Refers rows r p c → Within rows c d → Within rows r d
+    within-first {r} p f (inl e) = inr (direct p (subst (Refers rows r p) (sym e) f))
+    within-first p f (inr w) = inr (beneath-first p f w)
+
+    refers-below : (r c : ℕ) (p : Place) → Refers rows r p c → c < rowCount rows
+    unfolding Refers
+    refers-below r c p h = bounds rows c r (fieldOf (h .0) p) (numberOf rows r p) (h .2) .1
+
+    beneath-below : {r d : ℕ} → Beneath rows r d → d < rowCount rows
+    beneath-below {r} {d} (direct p g) = refers-below r d p g
+    beneath-below {r} (further {s} {t} p w g) = refers-below s t p g
 
     pub within-below : {r d : ℕ} → r < rowCount rows → Within rows r d → d < rowCount rows
-    within-below l itself = l
-    within-below l (beneath w g) = g .2
+    within-below l (inl e) = rw e l
+    within-below l (inr w) = beneath-below w
 
     -- by the distance to the table's end
     some-at : (k r : ℕ) → rowCount rows ≤ r + k → At r → Some r
@@ -240,18 +261,24 @@ module _ (rows : List ℤ) (M : Mark) where
         go (down r (nodeAt rows r) (fits r i) (subst (InPart M) (part-is rows r i (fits r i)) h)) (λ c g. some-at k c g)
       where
         go : Down (nodeAt rows r) → ((c : ℕ) → rowCount rows ≤ c + k → At c → Some c) → Some r
-        go (inl b) f = (r, itself, b)
+        go (inl b) f = (r, inl refl, b)
         go (inr d) f =
             let i = at-below r h in
             let up = fits-higher rows r (nodeAt rows r) (fits r i) (d .0) (d .1) in
             let w = f (d .0) (omega arith) (d .2) in
-            (w .0, further (d .1, up, at-below (d .0) (d .2)) (w .1), w .2)
+            let g = listed-refers rows passed r i (d .0) (d .1) (at-below (d .0) (d .2)) in
+            (w .0, within-first (g .0) (g .1) (w .1), w .2)
+
+    at-refers : (r c : ℕ) (p : Place) → r < rowCount rows → Refers rows r p c → At c → At r
+    at-refers r c p l g h = subst (InPart M) (sym (part-is rows r l (fits r l))) (up r (nodeAt rows r) (fits r l) c (refers-listed rows r c p g) h)
+
+    at-beneath : {r d : ℕ} → r < rowCount rows → Beneath rows r d → At d → At r
+    at-beneath {r} {d} l (direct p g) h = at-refers r d p l g h
+    at-beneath l (further {s} {t} p w g) h = at-beneath l w (at-refers s t p (beneath-below w) g h)
 
     at-within : {r d : ℕ} → r < rowCount rows → Within rows r d → At d → At r
-    at-within l itself h = h
-    at-within {r} l (beneath {c} {d} w g) h =
-        let i = within-below l w in
-        at-within l w (subst (InPart M) (sym (part-is rows c i (fits c i))) (up c (nodeAt rows c) (fits c i) d (g .0) h))
+    at-within l (inl e) h = subst At e h
+    at-within l (inr w) h = at-beneath l w h
 
     -- something at a row bears the mark exactly if a row within it does
     pub at-some : (r : ℕ) → r < rowCount rows → At r ↔ Some r

@@ -9,7 +9,8 @@ use Rattle.meaning.specs.TableBytes.{numbersFault}
 use Rattle.meaning.specs.Refusals.{Refusal, Stage}
 use Rattle.meaning.specs.Stages.{rowStages}
 use Rattle.meaning.specs.PrintedForms.{Each, each-none, each-more}
-use Rattle.meaning.specs.Faults.{WellPlaced, Placed, OneTree}
+use Rattle.meaning.specs.Faults.{WellPlaced, Placed}
+use Rattle.meaning.specs.StageClaims.{OneTree}
 use Rattle.meaning.proofs.OneTreeLaw.{one-tree}
 use Rattle.meaning.proofs.AnswerLaws.{check-stages, First, here, later, first-found, found-first, none-found, found-none}
 use Rattle.agreement.specs.VerdictClaims.{Passed, WholeRows, EachFormed, EachPlaced, EachLimited, NoClash, Refused, not-whole, not-formed, not-placed, over-limit, clash, VerdictExact, RefusalLeast, OneTreeOfRows}
@@ -47,7 +48,7 @@ module _ (rows : List ℤ) where
       numbered 6 f (h .0) (over-limit (whole-passes rows .0 a) (form-passes rows .0 b) (tree-passes rows .0 c) (h .1))
   to-refused f (later a (later b (later c (later d (here e))))) =
       let h = usage-faults rows (a, b, c, d) (f .0) (f .1) .0 e in
-      clash (whole-passes rows .0 a) (form-passes rows .0 b) (tree-passes rows .0 c) (limit-passes rows .0 d) (h .0) (h .1) (h .2)
+      clash (whole-passes rows .0 a) (form-passes rows .0 b) (tree-passes rows .0 c) (limit-passes rows .0 d) h
 
   from-refused : {number place : ℕ} → Refused rows number place → First rows (number, place) (numbersFault ∷ rowStages)
   from-refused (not-whole h) = here (whole-faults rows (notWhole rows) .1 (h, refl))
@@ -55,9 +56,9 @@ module _ (rows : List ℤ) where
   from-refused (not-placed {r} w f h) = later (whole-passes rows .1 w) (later (form-passes rows .1 f) (here (tree-faults rows (5, r) .1 (refl, h))))
   from-refused (over-limit {r} w f t h) =
       later (whole-passes rows .1 w) (later (form-passes rows .1 f) (later (tree-passes rows .1 t) (here (limit-faults rows (6, r) .1 (refl, h)))))
-  from-refused (clash {r} {number} w f t l h a b) =
+  from-refused (clash {r} {number} w f t l h) =
       let p = passed w f t l in
-      later (p .0) (later (p .1) (later (p .2) (later (p .3) (here (usage-faults rows p number r .1 (h, a, b))))))
+      later (p .0) (later (p .1) (later (p .2) (later (p .3) (here (usage-faults rows p number r .1 h)))))
 
 pub verdict-exact : VerdictExact
 verdict-exact rows = (

@@ -4,42 +4,33 @@ use mathlib.Core.Logic.{_↔_}
 use mathlib.Core.Bool.{Bool, _&&_}
 use mathlib.Core.List.{List}
 use mathlib.Core.Option.{Option, none, some, Option·map, Option·none-ne-some, Option·some-ne-none, Option·some-injective}
-use Prim.Native.Nat.{ℕ, suc, _<_, _%_, min}
-use native.Mathlib.Decide.{decLt}
-use native.Mathlib.Omega.{arith}
+use Prim.Native.Nat.{ℕ, suc, _%_, min}
 use lib.IntN.{ℤ}
 use lib.ListN.{length}
 use lib.Dec.{leb, eqb}
-use Rattle.meaning.specs.Basics.{ifElse}
+use Rattle.meaning.specs.Basics.{ifElse, Lowest}
 use Rattle.meaning.specs.Limits.{maxRows}
 use Rattle.meaning.specs.Rows.{rowCount, declarations}
 use Rattle.meaning.specs.TableBytes.{Refusal, numbersFault}
 use Rattle.meaning.specs.Verdict.{formFault, treeFault, limitFault}
-use Rattle.meaning.specs.Faults.{LowestWrong, Finds, WellFormed, WellPlaced, WithinLimits, FormStage, TreeStage, LimitStage}
+use Rattle.meaning.specs.Faults.{WellFormed, WellPlaced, WithinLimits}
+use Rattle.meaning.specs.StageClaims.{Finds, FormStage, TreeStage, LimitStage}
 use Rattle.meaning.proofs.Decides.{Decides, holding, failing, decides-and, decides-eq, decides-le}
 use Rattle.meaning.proofs.FaultLaws.{form-stage, limit-stage}
 use Rattle.meaning.proofs.TreeLaws.{tree-stage}
-use Rattle.meaning.proofs.AnswerLaws.{finds-none}
-use Rattle.agreement.specs.VerdictClaims.{WholeRows, EachFormed, EachPlaced, EachLimited, LeastWrong}
-
--- the lowest place that is not right is one
-least-wrong-one : (Right : ℕ → Type 0) (n i j : ℕ) → LeastWrong Right n i → LeastWrong Right n j → i ≡ j
-least-wrong-one Right n i j h k = go (decLt i j) (decLt j i)
-  where
-    go : Dec (i < j) → Dec (j < i) → i ≡ j
-    go (yes l) b = absurd (h .1 (k .2 i l))
-    go (no l) (yes m) = absurd (k .1 (h .2 j m))
-    go (no l) (no m) = omega arith
+use Rattle.meaning.proofs.StageLaws.{form-none, tree-none, limit-none}
+use Rattle.meaning.proofs.LowestLaws.{lowest-one}
+use Rattle.agreement.specs.VerdictClaims.{WholeRows, EachFormed, EachPlaced, EachLimited, LowestWrong}
 
 -- a stage that finds a fault: its number, and the lowest place that is not right
-finds-some : (number : ℕ) (Right : ℕ → Type 0) (n : ℕ) (found : Option Refusal) → Finds number Right n found → (f : Refusal) → (found ≡ some f) ↔ ((f .0 ≡ number) × LeastWrong Right n (f .1))
+finds-some : (number : ℕ) (Right : ℕ → Type 0) (n : ℕ) (found : Option Refusal) → Finds number Right n found → (f : Refusal) → (found ≡ some f) ↔ ((f .0 ≡ number) × LowestWrong Right n (f .1))
 finds-some number Right n found h f = go (h .0) (h .1) (h .2)
   where
-    go : (o : Option ℕ) → found ≡ Option·map (λ r. (number, r)) o → LowestWrong Right n o → (found ≡ some f) ↔ ((f .0 ≡ number) × LeastWrong Right n (f .1))
-    go none e w = (λ z. absurd (Option·none-ne-some f (sym e ∙ z)), λ z. absurd (z .1 .1 (w (f .1) (z .1 .0))))
+    go : (o : Option ℕ) → found ≡ Option·map (λ r. (number, r)) o → Lowest (λ q. ¬ Right q) n o → (found ≡ some f) ↔ ((f .0 ≡ number) × LowestWrong Right n (f .1))
+    go none e w = (λ z. absurd (Option·none-ne-some f (sym e ∙ z)), λ z. absurd (w (f .1) (z .1 .0) (z .1 .1)))
     go (some i) e w = (
-      λ z. let g = Option·some-injective (number, i) f (sym e ∙ z) in (sym (ap (λ (x : Refusal). x .0) g), subst (λ (x : Refusal). LeastWrong Right n (x .1)) g w),
-      λ z. e ∙ ap some (λ j. (sym (z .0) j, least-wrong-one Right n i (f .1) w (z .1) j)),
+      λ z. let g = Option·some-injective (number, i) f (sym e ∙ z) in (sym (ap (λ (x : Refusal). x .0) g), subst (λ (x : Refusal). LowestWrong Right n (x .1)) g w),
+      λ z. e ∙ ap some (λ j. (sym (z .0) j, lowest-one (λ q. ¬ Right q) n i (f .1) w (z .1) j)),
     )
 
 module _ (rows : List ℤ) where
@@ -67,25 +58,22 @@ module _ (rows : List ℤ) where
       go (failing h) = (λ e. (h, sym (Option·some-injective notWhole f e)), λ i. ap some (sym (i .1)))
 
   pub form-passes : (formFault rows ≡ none) ↔ EachFormed rows
-  unfolding FormStage
-  form-passes = finds-none 4 (WellFormed rows) (rowCount rows) (formFault rows) (form-stage rows)
+  form-passes = form-none rows
 
-  pub form-faults : (f : Refusal) → (formFault rows ≡ some f) ↔ ((f .0 ≡ 4) × LeastWrong (WellFormed rows) (rowCount rows) (f .1))
+  pub form-faults : (f : Refusal) → (formFault rows ≡ some f) ↔ ((f .0 ≡ 4) × LowestWrong (WellFormed rows) (rowCount rows) (f .1))
   unfolding FormStage
   form-faults = finds-some 4 (WellFormed rows) (rowCount rows) (formFault rows) (form-stage rows)
 
   pub tree-passes : (treeFault rows ≡ none) ↔ EachPlaced rows
-  unfolding TreeStage
-  tree-passes = finds-none 5 (WellPlaced rows) (suc (rowCount rows)) (treeFault rows) (tree-stage rows)
+  tree-passes = tree-none rows
 
-  pub tree-faults : (f : Refusal) → (treeFault rows ≡ some f) ↔ ((f .0 ≡ 5) × LeastWrong (WellPlaced rows) (suc (rowCount rows)) (f .1))
+  pub tree-faults : (f : Refusal) → (treeFault rows ≡ some f) ↔ ((f .0 ≡ 5) × LowestWrong (WellPlaced rows) (suc (rowCount rows)) (f .1))
   unfolding TreeStage
   tree-faults = finds-some 5 (WellPlaced rows) (suc (rowCount rows)) (treeFault rows) (tree-stage rows)
 
   pub limit-passes : (limitFault rows ≡ none) ↔ EachLimited rows
-  unfolding LimitStage
-  limit-passes = finds-none 6 (WithinLimits rows) (declarations rows) (limitFault rows) (limit-stage rows)
+  limit-passes = limit-none rows
 
-  pub limit-faults : (f : Refusal) → (limitFault rows ≡ some f) ↔ ((f .0 ≡ 6) × LeastWrong (WithinLimits rows) (declarations rows) (f .1))
+  pub limit-faults : (f : Refusal) → (limitFault rows ≡ some f) ↔ ((f .0 ≡ 6) × LowestWrong (WithinLimits rows) (declarations rows) (f .1))
   unfolding LimitStage
   limit-faults = finds-some 6 (WithinLimits rows) (declarations rows) (limitFault rows) (limit-stage rows)

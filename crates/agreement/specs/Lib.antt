@@ -4,8 +4,10 @@ pub mod NotEmptyClaims
 pub mod SettlingClaims
 pub mod VerdictClaims
 pub mod Coherence
+pub mod TreeClaims
 pub mod CallClaims
 pub mod ValueClaims
 pub mod ChoiceClaims
 pub mod RefusalClaims
 pub mod BufferClaims
+pub mod RowsOfSteps

@@ -22,7 +22,7 @@ use Rattle.meaning.specs.Run.{Result, go}
 use Rattle.meaning.specs.Buffers.{Buffers, sized, mark, numberIn, encode, decoded}
 use Rattle.meaning.specs.Answers.{check}
 use Rattle.meaning.specs.Printing.{Line, line, var, runLines, valueBytes}
-use Rattle.meaning.specs.Step.{channelOf, Holds, Refuted, Complete, AllComplete, Lacks, Inner, Host, Sends, Live, becomes, effect, Leaves, Step}
+use Rattle.meaning.specs.Step.{channelOf, Holds, Refuted, Complete, AllComplete, Lacks, Inner, Host, Sends, Live, becomes, effect, Allows, Leaves, Step}
 use Rattle.agreement.specs.Statements.{Reached}
 
 -- a cell of a state: none where it is unset
@@ -75,7 +75,8 @@ DeliveredHolds = (rows : List ℤ) (sheet : Sheet) (s : State) (x : Label) (t : 
 -- "An empty field is an absent reading: the input takes place and makes its target unset"
 abbrev pub AbsentUnsets : Type 0
 AbsentUnsets = (rows : List ℤ) (sheet : Sheet) (s : State) (x : Label) (a : ℕ) → ReadsAbsent (program rows) sheet s x a
-    → (check rows ≡ none → Reached rows sheet s → (t : State) × Step (program rows) sheet s x t)
+    → ((e : Effect) × Allows (program rows) sheet s x e)
+    × (check rows ≡ none → Reached rows sheet s → (t : State) × Step (program rows) sheet s x t)
     × ((t : State) → Step (program rows) sheet s x t → cellOf t a ≡ none)
 
 -- a number that a cell holds after an order of steps was handed to it by one of them, in the state that the steps before it left
@@ -114,10 +115,11 @@ OneReason = (cells : List Message) (a : Action) (k l : ℕ) → Lacks cells a k 
 abbrev pub stopEffect : ℕ → ℕ → Effect
 stopEffect r reason = effect (becomes r r (10 + reason) ∷ []) []
 
--- a row has one step, the stop for a reason: there is such a step in every state that an order of an accepted table reaches
+-- a row has one step, the stop for a reason: a rule allows it, it leads to a state where orders of an accepted table come, and no other step names the row
 abbrev pub OnlyStops : List ℤ → Sheet → State → ℕ → ℕ → Type 0
 OnlyStops rows sheet s r reason =
-    (check rows ≡ none → Reached rows sheet s → (t : State) × Step (program rows) sheet s (own r) t)
+    Allows (program rows) sheet s (own r) (stopEffect r reason)
+    × (check rows ≡ none → Reached rows sheet s → (t : State) × Step (program rows) sheet s (own r) t)
     × ((x : Label) (t : State) → Step (program rows) sheet s x t → OfRow r x → (x ≡ own r) × Leaves (program rows) s (stopEffect r reason) t)
 
 -- "An ALT, input or output that would stop offers nothing else": a running row that lacks a value has one step, the stop

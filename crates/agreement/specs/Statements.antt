@@ -17,7 +17,7 @@ use Rattle.meaning.specs.Declarations.{Channel}
 use Rattle.meaning.specs.TableBytes.{bytesFault, rowsOf}
 use Rattle.meaning.specs.Tree.{Expr, Receive, AltOption, receive, send, alternation}
 use Rattle.meaning.specs.Values.{index}
-use Rattle.meaning.specs.State.{Message, State, Program, program}
+use Rattle.meaning.specs.State.{Message, State, Program, program, Effect}
 use Rattle.meaning.specs.Labels.{Label, orderRow, Ascending}
 use Rattle.meaning.specs.Readings.{Sheet}
 use Rattle.meaning.specs.Ready.{ready, after}
@@ -25,7 +25,7 @@ use Rattle.meaning.specs.Run.{run}
 use Rattle.meaning.specs.Sheet.{sheetFault, readings}
 use Rattle.meaning.specs.Buffers.{Buffers, tooShort, encode}
 use Rattle.meaning.specs.Answers.{check, Reply, reply, replyToBytes}
-use Rattle.meaning.specs.Step.{channelOf, Live, Step}
+use Rattle.meaning.specs.Step.{channelOf, Live, Allows, Step}
 use Rattle.meaning.specs.Order.{ReadyList, OrderOf, ChosenOf, RestOf, outcomeOf}
 use Rattle.meaning.specs.Accepted.{Accepted}
 
@@ -39,7 +39,13 @@ StepOf rows sheet s x t = Step (program rows) sheet s x t
 
 -- Demand 2: steps ---------------------------------------------------------------------------------------------------------------
 
--- a step is among the ready steps exactly if a rule allows it, and the state that it leads to is one
+-- of every table: a step is among the ready steps exactly if a rule allows it, and its effect is one
+abbrev pub AllowedExactly : Type 0
+AllowedExactly = (rows : List ℤ) (sheet : Sheet) (s : State) → length (s .states) ≡ rowCount rows → (x : Label)
+    → (List·Memᴰ x (ready (program rows) sheet s) ↔ ((e : Effect) × Allows (program rows) sheet s x e))
+    × ((e f : Effect) → Allows (program rows) sheet s x e → Allows (program rows) sheet s x f → e ≡ f)
+
+-- where orders come, a step is among the ready steps exactly if it leads to a state, and that state is one
 abbrev pub ReadyExactly : Type 0
 ReadyExactly = (rows : List ℤ) → check rows ≡ none → (sheet : Sheet) (s : State) → Reached rows sheet s → (x : Label)
     → (List·Memᴰ x (ready (program rows) sheet s) ↔ ((t : State) × StepOf rows sheet s x t))

@@ -6,25 +6,24 @@ use mathlib.Core.List.{List}
 use Prim.Native.Nat.{ℕ, suc, _≤_, _<_, _%_, min}
 use lib.IntN.{ℤ}
 use lib.ListN.{length}
+use Rattle.meaning.specs.Basics.{Lowest}
 use Rattle.meaning.specs.Limits.{maxRows}
 use Rattle.meaning.specs.Rows.{rowCount, declarations}
 use Rattle.meaning.specs.TableBytes.{numbersFault}
 use Rattle.meaning.specs.Verdict.{formFault, treeFault, limitFault}
-use Rattle.meaning.specs.Faults.{WellFormed, WellPlaced, WithinLimits, Once, Beneath}
-use Rattle.meaning.specs.Clash.{Clash, UsageFaults, UsagePasses}
+use Rattle.meaning.specs.References.{Beneath}
+use Rattle.meaning.specs.Faults.{WellFormed, WellPlaced, WithinLimits, Once}
+use Rattle.meaning.specs.Clash.{Clash}
+use Rattle.meaning.specs.Usage.{usageFault}
 use Rattle.meaning.specs.Answers.{check}
 
 -- the stages before usage find nothing
 abbrev pub Passed : List ℤ → Type 0
 Passed rows = (numbersFault rows ≡ none) × (formFault rows ≡ none) × (treeFault rows ≡ none) × (limitFault rows ≡ none)
 
--- then the usage fault is the lowest PAR with a clash of the lowest number; there is none exactly if there is no clash
-abbrev pub UsageExact : Type 0
-UsageExact = UsagePasses Passed × UsageFaults Passed
-
 -- r is the lowest of n places that is not right
-abbrev pub LeastWrong : (ℕ → Type 0) → ℕ → ℕ → Type 0
-LeastWrong Right n r = (r < n) × (¬ Right r) × ((q : ℕ) → q < r → Right q)
+abbrev pub LowestWrong : (ℕ → Type 0) → ℕ → ℕ → Type 0
+LowestWrong Right n r = Lowest (λ q. ¬ Right q) n (some r)
 
 module _ (rows : List ℤ) where
   -- "four to each", 1,024 at most
@@ -43,14 +42,27 @@ module _ (rows : List ℤ) where
   abbrev pub NoClash : Type 0
   NoClash = (r k : ℕ) → ¬ Clash rows r k
 
+  -- "lowest PAR with a clash of that sort; a 7 anywhere goes before an 8, an 8 before a 9"
+  abbrev pub LowestClash : ℕ → ℕ → Type 0
+  LowestClash number r = Lowest (λ q. Clash rows q number) (rowCount rows) (some r) × ((q k : ℕ) → k < number → ¬ Clash rows q k)
+
   -- the refusals by number and place: each of the first stage with a fault, at the lowest place at fault
   pub data Refused : ℕ → ℕ → Type 0 where
     not-whole : ¬ WholeRows → Refused 3 (min (rowCount rows) maxRows)
-    not-formed : {r : ℕ} → WholeRows → LeastWrong (WellFormed rows) (rowCount rows) r → Refused 4 r
-    not-placed : {r : ℕ} → WholeRows → EachFormed → LeastWrong (WellPlaced rows) (suc (rowCount rows)) r → Refused 5 r
-    over-limit : {r : ℕ} → WholeRows → EachFormed → EachPlaced → LeastWrong (WithinLimits rows) (declarations rows) r → Refused 6 r
-    clash : {r number : ℕ} → WholeRows → EachFormed → EachPlaced → EachLimited → Clash rows r number
-        → ((q : ℕ) → q < r → ¬ Clash rows q number) → ((q k : ℕ) → k < number → ¬ Clash rows q k) → Refused number r
+    not-formed : {r : ℕ} → WholeRows → LowestWrong (WellFormed rows) (rowCount rows) r → Refused 4 r
+    not-placed : {r : ℕ} → WholeRows → EachFormed → LowestWrong (WellPlaced rows) (suc (rowCount rows)) r → Refused 5 r
+    over-limit : {r : ℕ} → WholeRows → EachFormed → EachPlaced → LowestWrong (WithinLimits rows) (declarations rows) r → Refused 6 r
+    clash : {r number : ℕ} → WholeRows → EachFormed → EachPlaced → EachLimited → LowestClash number r → Refused number r
+
+-- of a table that the stages before it pass, the usage stage finds nothing exactly if there is no clash, and else the lowest
+abbrev pub UsagePasses : Type 0
+UsagePasses = (rows : List ℤ) → Passed rows → (usageFault rows ≡ none) ↔ NoClash rows
+
+abbrev pub UsageFaults : Type 0
+UsageFaults = (rows : List ℤ) → Passed rows → (number r : ℕ) → (usageFault rows ≡ some (number, r)) ↔ LowestClash rows number r
+
+abbrev pub UsageExact : Type 0
+UsageExact = UsagePasses × UsageFaults
 
 -- "A table is accepted if these rules refuse nothing in it"
 abbrev pub VerdictExact : Type 0

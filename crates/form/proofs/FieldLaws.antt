@@ -4,9 +4,14 @@ use mathlib.Core.Bool.{Bool, true, false, not, _&&_, _||_}
 use mathlib.Core.List.{List}
 use mathlib.Core.Option.{Option}
 use Prim.Native.Nat.{ℕ, _≤_, _<_}
-use lib.IntN.{ℤ}
+use native.Mathlib.Omega.{arith}
+use lib.IntN.{ℤ, pos, negsuc}
 use lib.Dec.{ltb, eqb, leb}
+use mir.Syntax.{w32}
+use mir.Val.{SFits}
 use borrow.Author.Tests.{ltb-true, le-leb, lt-leb}
+use Rattle.meaning.specs.Basics.{inside}
+use Rattle.meaning.specs.Limits.{minNumber, maxNumber}
 use Rattle.meaning.specs.Rows.{kindAt, declares, declarations}
 use Rattle.meaning.specs.Declarations.{isChannel}
 use Rattle.meaning.specs.Kinds.{Shape, shapeOf}
@@ -32,3 +37,8 @@ module _ (rows : List ℤ) (d r : ℕ) where
 
     pub none-declared : declares rows r ≡ false → not t ≡ misformed rows d r
     none-declared e = by-fits (rw e)
+
+-- every number of 32 bits is in the range of a value
+pub value-inside : (z : ℤ) → SFits w32 z → true ≡ inside minNumber maxNumber z
+value-inside (pos n) h = let l = h .sfits in sym (le-leb n 2147483647 (omega arith))
+value-inside (negsuc n) h = let l = h .sfits in sym (rw (le-leb n 2147483647 (omega arith)) refl)

@@ -15,7 +15,7 @@ use meaning::Verdict;
 use rows::Place;
 
 // Refusal 4: the lowest row of unknown kind, declared late, or not as its kind says.
-pub fn form_fault(rows: &[i32]) -> Place
+fn form_fault(rows: &[i32]) -> Place
     ensures { λ p. ⌜ p ≡ placeOf (lowest (misformed (now (rows .entry)) (declarations (now (rows .entry)))) (rowCount (now (rows .entry)))) ⌝ }
 {
     let table = kinds::kind_table();

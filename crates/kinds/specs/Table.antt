@@ -1,13 +1,15 @@
--- What the entries of the code's constant table mean: the fields and shapes of the definition's table of kinds.
+-- The code's constant table: its entries for the fields and shapes of the definition's table of kinds, and what they mean.
 use mathlib.Core.Path.{_≡_}
 use mathlib.Core.Bool.{Bool}
-use mathlib.Core.List.{List, []}
+use mathlib.Core.List.{List, [], _∷_, map}
 use mathlib.Core.Option.{Option, none, some}
-use Prim.Native.Nat.{ℕ, _/_, _%_, _^_}
+use Prim.Native.Nat.{ℕ, _+_, _*_, _/_, _%_, _^_}
 use lib.IntN.{pos}
 use lib.ListN.{length, getD}
 use lib.Dec.{ltb, eqb}
+use Rattle.meaning.specs.Rows.{naturalOf}
 use Rattle.meaning.specs.Basics.{ifElse, allBelow}
+use Rattle.meaning.specs.Usage.{range}
 use Rattle.meaning.specs.Kinds as K
 use Rattle.kinds.specs.declared.Shape.{Shape}
 use Rattle.meaning.specs.Kinds.{Field, unused, value, within, elements, capacity, variable, channel, reference, link, shape, shapeOf}
@@ -53,3 +55,29 @@ tableShape table k = ifElse (ltb k (length table)) (entriesOf table k) noEntries
 -- a table means the definition's table: of every kind the same shape, and of no other
 unfoldable pub KindTable : List (List ℕ) → Type 0
 KindTable table = (k : ℕ) → meantShape k (tableShape table k) ≡ shapeOf k
+
+-- the mask of some different numbers below 64
+unfoldable pub maskOf : List ℕ → ℕ
+maskOf [] = 0
+maskOf (k ∷ ks) = 2 ^ k + maskOf ks
+
+-- the entry of a field: its sort, and 16 times its numbers
+abbrev pub fieldEntry : Field → ℕ
+fieldEntry unused = 0
+fieldEntry value = 1
+fieldEntry (within lo hi) = 2 + 16 * (naturalOf lo + 256 * naturalOf hi)
+fieldEntry elements = 3
+fieldEntry capacity = 4
+fieldEntry variable = 5
+fieldEntry (channel roles) = 6 + 16 * maskOf roles
+fieldEntry (reference kinds) = 7 + 16 * maskOf kinds
+fieldEntry (link kinds) = 8 + 16 * maskOf kinds
+
+-- the line of a kind
+abbrev pub kindLine : Option K.Shape → List ℕ
+kindLine none = 9 ∷ 9 ∷ 9 ∷ []
+kindLine (some s) = fieldEntry (s .a) ∷ fieldEntry (s .b) ∷ fieldEntry (s .c) ∷ []
+
+-- the table of the kinds 0 to 43, the last there is
+unfoldable pub tableOfKinds : List (List ℕ)
+tableOfKinds = map (λ k. kindLine (shapeOf k)) (range 0 44)

@@ -2,7 +2,7 @@
 ghost use mathlib.Core.Path.{_≡_};
 ghost use Rattle.meaning.specs.Basics.{among};
 ghost use Rattle.meaning.specs.Kinds.{shapeOf, processes};
-ghost use Rattle.kinds.specs.Table.{numbersIn, meantShape, KindTable};
+ghost use Rattle.kinds.specs.Table.{numbersIn, meantShape, tableShape, KindTable, tableOfKinds};
 
 // What the fields a, b, c of a kind hold, each an entry of the table below.
 pub struct Shape {
@@ -125,7 +125,8 @@ const KINDS: [[u64; 3]; 44] = [
 
 // The table, in an array that a loop over the rows lends to what it calls.
 pub fn kind_table() -> [[u64; 3]; 44]
-    ensures { λ table. ⌜ KindTable table ⌝ }
+    ensures numbers { λ table. ⌜ table ≡ tableOfKinds ⌝ }
+    ensures meaning { λ table. ⌜ KindTable table ⌝ }
 {
     KINDS
 }
@@ -133,7 +134,8 @@ pub fn kind_table() -> [[u64; 3]; 44]
 // The shape of a kind.
 pub fn shape_of(table: &[[u64; 3]], k: u32) -> Shape
     requires { ⌜ KindTable (now table) ⌝ }
-    ensures { λ s. ⌜ meantShape k s ≡ shapeOf k ⌝ }
+    ensures numbers { λ s. ⌜ s ≡ tableShape (now (table .entry)) k ⌝ }
+    ensures meaning { λ s. ⌜ meantShape k s ≡ shapeOf k ⌝ }
 {
     let at = k as usize;
     if table.len() <= at {

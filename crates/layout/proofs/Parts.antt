@@ -8,30 +8,20 @@ use lib.IntN.{ℤ}
 use lib.ListN.{length}
 use lib.Dec.{ltb}
 use borrow.Author.Tests.{ltb-true}
-use Rattle.meaning.specs.declared.Node.{Node}
-use Rattle.meaning.specs.Rows.{ifElse, rowCount, fieldAt, naturalAt, kindAt, nodeAt}
-use Rattle.meaning.specs.Tree.{Part, noPart, partOf, partAt}
-use Rattle.meaning.proofs.HigherRows.{atRow-at, atRow-past}
+use Rattle.meaning.specs.Rows.{ifElse, rowCount, fieldAt, naturalAt, kindAt}
+use Rattle.meaning.specs.Tree.{noPart, partOf, partAt}
+pub use Rattle.meaning.specs.PartClaims.{higherPart}
+use Rattle.meaning.proofs.PartLaws.{part-unfolds}
 use Rattle.layout.specs.Operands.{operandAt}
 use Rattle.layout.proofs.RowNodes.{nodeOf, node-of-kind}
 
--- past the table nothing stands
 pub part-past : (rows : List ℤ) (r : ℕ) → rowCount rows ≤ r → partAt rows r ≡ noPart
-unfolding partAt
-part-past rows r h = atRow-past noPart (λ r at. partOf rows r at (nodeAt rows r)) (rowCount rows) r h
+part-past rows r = part-unfolds rows r .1
 
--- what stands at row b as row r sees it: nothing, unless it is a higher row
-abbrev pub higherPart : List ℤ → ℕ → ℕ → Part
-higherPart rows r b = ifElse (ltb r b) (partAt rows b) noPart
-
-pub part-at : (rows : List ℤ) (r : ℕ) → r < rowCount rows → partAt rows r ≡ partOf rows r (higherPart rows r) (nodeAt rows r)
-unfolding partAt
-part-at rows r h = atRow-at noPart (λ r at. partOf rows r at (nodeAt rows r)) (rowCount rows) r h
-
--- the same by the number of the kind
+-- what stands at a row, by the number of its kind
 pub part-of-kind : (rows : List ℤ) (r k : ℕ) → r < rowCount rows → kindAt rows r ≡ k
     → partAt rows r ≡ partOf rows r (higherPart rows r) (nodeOf k (fieldAt rows r 1) (naturalAt rows r 1) (naturalAt rows r 2) (naturalAt rows r 3))
-part-of-kind rows r k h e = part-at rows r h ∙ ap (partOf rows r (higherPart rows r)) (node-of-kind rows r k e)
+part-of-kind rows r k h e = part-unfolds rows r .0 h ∙ ap (partOf rows r (higherPart rows r)) (node-of-kind rows r k e)
 
 -- an operand is a higher row
 pub operand-higher : (rows : List ℤ) (r j : ℕ) → r < rowCount rows → r < operandAt rows r j

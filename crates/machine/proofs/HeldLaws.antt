@@ -11,8 +11,8 @@ use Rattle.meaning.specs.Rows.{rowCount}
 use Rattle.meaning.specs.Declarations.{totalCells, totalPorts}
 use Rattle.meaning.specs.State.{Message, State, program, writeCell, writePlace, writeOutput}
 use Rattle.meaning.specs.Settle.{start}
-use Rattle.meaning.specs.Buffers.{Buffers, lent, mark, numberIn, capacities, strips, encode}
-use Rattle.machine.specs.Held.{blank, Holds, cellOf, sumOf, stripStart, withWrite, withState, putCell, putPlace, putState, putOutput, Lengths, Room}
+use Rattle.meaning.specs.Buffers.{Buffers, lent, mark, numberIn, capacities, strips, encode, cellOf}
+use Rattle.machine.specs.Held.{blank, Holds, sumOf, stripStart, withWrite, withState, putCell, putPlace, putState, putOutput, Lengths, Room}
 use Rattle.machine.proofs.LentLists.{lent-at, lent-length, lent-set, lent-defaults, map-set, map-replicate}
 use Rattle.machine.proofs.Strips.{strip-within, strips-length, strips-more, strips-empty}
 use Rattle.machine.proofs.Declared.{capacities-length}

@@ -15,7 +15,8 @@ use Rattle.meaning.specs.Declarations.{Channel, sinkAt, totalPorts}
 use Rattle.meaning.specs.Tree.{Receive, AltOption, Action, stop, skip, sequence, parallel, assign, receive, send, conditional, loop, alternation, Process, Part, noPart, partOf, partAt, orStop, actionOf}
 use Rattle.meaning.specs.State.{program, processAt}
 use Rattle.meaning.specs.Buffers.{capacities}
-use Rattle.agreement.proofs.TableTree.{above, process-is, Known, every-row}
+use Rattle.meaning.specs.PartClaims.{higherPart}
+use Rattle.agreement.proofs.TableTree.{process-is, Known, every-row}
 use Rattle.machine.proofs.Declared.{CellsIn, variable-in, source-below, sink-below, sink-capacity}
 
 module _ (rows : List ℤ) where
@@ -92,7 +93,7 @@ module _ (rows : List ℤ) where
   of-known r b p (inr h) = h .3
 
   every-part : (r : ℕ) → PartIn r (partAt rows r)
-  every-part = every-row rows PartIn nothing (λ r l e h. part-in r (above rows r) (λ b. of-known r b (above rows r b) (h b)) (nodeAt rows r))
+  every-part = every-row rows PartIn nothing (λ r l e h. part-in r (higherPart rows r) (λ b. of-known r b (higherPart rows r b) (h b)) (nodeAt rows r))
 
   or-stop : (o : Option Process) → ProcessIn o → ActionIn (actionOf (orStop o))
   or-stop none h = tt

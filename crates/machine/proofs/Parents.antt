@@ -19,7 +19,8 @@ use Rattle.meaning.specs.State.{Program, program, processAt}
 use Rattle.meaning.proofs.LowestLaws.{lowest-is}
 use Rattle.meaning.proofs.Decides.{Decides, holding, failing}
 use Rattle.meaning.proofs.ReferenceCounts.{decides-among}
-use Rattle.agreement.proofs.TableTree.{above, Known, every-row, process-is}
+use Rattle.meaning.specs.PartClaims.{higherPart}
+use Rattle.agreement.proofs.TableTree.{Known, every-row, process-is}
 use Rattle.machine.specs.Upward.{memberRows, ofParent, parentOf, goesOnAt, upward}
 
 -- the lowest number that passes a test passes it
@@ -115,7 +116,7 @@ module _ (rows : List ℤ) where
     part-up Other = (tt, no-rows r)
 
   every-up : (r : ℕ) → PartUp r (partAt rows r)
-  every-up = every-row rows PartUp nothing-up (λ r l e h. part-up r (above rows r) h (nodeAt rows r))
+  every-up = every-row rows PartUp nothing-up (λ r l e h. part-up r (higherPart rows r) h (nodeAt rows r))
 
   or-stop-up : (r : ℕ) (o : Option Process) → ProcessUp r o → Above r (memberRows (membersIn (orStop o)))
   or-stop-up r none h = no-rows r

@@ -1,14 +1,13 @@
 -- What the machine's arrays hold: a state as the lent buffers would show it, over arrays of zeros that are exactly as long as the limits.
 use mathlib.Core.Path.{_≡_}
-use mathlib.Core.Option.{none, some}
+use mathlib.Core.Option.{none}
 use mathlib.Core.Bool.{Bool, false}
 use mathlib.Core.List.{List, [], _∷_, _++_}
 use Prim.Native.Nat.{ℕ, suc, _+_, _<_, _≤_}
 use lib.IntN.{ℤ, pos}
 use lib.ListN.{length, getD, set, replicate, take}
-use lib.Dec.{eqb}
 use Rattle.meaning.specs.Limits.{maxRows, maxCells, maxPorts, maxCapacity}
-use Rattle.meaning.specs.Rows.{ifElse, rowCount}
+use Rattle.meaning.specs.Rows.{rowCount}
 use Rattle.meaning.specs.Declarations.{totalCells, totalPorts}
 use Rattle.meaning.specs.Settle.{settle}
 use Rattle.meaning.specs.State.{Message, Store, State, program, whole, Write, writeCell, writePlace, writeOutput, write, StateChange, Effect}
@@ -29,10 +28,6 @@ blank =
 -- the arrays hold a state
 abbrev pub Holds : List ℤ → State → Buffers → Type 0
 Holds rows s b = b ≡ encode rows s blank
-
--- a cell from its value and its mark: none where the mark is 0
-abbrev pub cellOf : ℤ → ℕ → Message
-cellOf x m = ifElse (eqb m 0) none (some x)
 
 -- the sum of a list
 abbrev pub sumOf : List ℕ → ℕ

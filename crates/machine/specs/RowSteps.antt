@@ -14,8 +14,7 @@ use Rattle.meaning.specs.Settle.{statesOf, allOf}
 use Rattle.meaning.specs.State.{State, Program, processAt}
 use Rattle.meaning.specs.Intent.{Sheet, Offer, openOffer, inputOffer, Intent, waits, moves, inputsFrom, outputsTo, selects}
 use Rattle.meaning.specs.Ready.{Label, own, pass, take, takeFrom, intentAt}
-use Rattle.agreement.proofs.OptionRows.{optionRows}
-use Rattle.agreement.proofs.Active.{offerAt}
+use Rattle.agreement.specs.RowsOfSteps.{optionRows, offerAt}
 
 -- whether a row that would do so outputs to element e
 abbrev pub isOutputTo : ℕ → Intent → Bool

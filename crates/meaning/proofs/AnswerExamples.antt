@@ -1,6 +1,7 @@
 -- Examples of calls: what is answered, and what is then in the lent buffers.
 use mathlib.Core.Path.{_≡_, refl}
 use mathlib.Core.List.{[], _∷_, _++_}
+use mathlib.Core.Option.{some}
 use Prim.Native.Nat.{ℕ}
 use Prim.Native.String.{String}
 use lib.IntN.{pos}
@@ -9,6 +10,8 @@ use Rattle.meaning.specs.Texts.{bytes}
 use Rattle.meaning.specs.declared.Answer.the-variants.{Refused, Ran}
 use Rattle.meaning.specs.declared.Outcome.the-variants.{Stuck, Spent}
 use Rattle.meaning.specs.Buffers.{Buffers}
+use Rattle.meaning.specs.Decode.{decode}
+use Rattle.meaning.specs.TableBytes.{rowsOf}
 use Rattle.meaning.specs.Answers.{Reply, reply, replyToBytes}
 use Rattle.meaning.proofs.ComputesAnswers.{computesAnswers}
 
@@ -58,3 +61,14 @@ strips :
     × (call "2,1,2,2\n2,1,2,1\n31,3,0,0\n40,4,5,0\n24,0,6,7\n40,8,-1,0\n10,0,0,0\n10,7,0,0\n24,1,9,10\n10,0,0,0\n10,8,0,0\n" "\n" 9 256 .buffers .counts ≡ 1 ∷ 1 ∷ replicate 6 0)
 unfolding computesAnswers
 strips = (refl, refl)
+
+-- the same read back: no cell, no place, and the two lists
+back :
+    let rows : String = "2,1,2,2\n2,1,2,1\n31,3,0,0\n40,4,5,0\n24,0,6,7\n40,8,-1,0\n10,0,0,0\n10,7,0,0\n24,1,9,10\n10,0,0,0\n10,8,0,0\n" in
+    decode (rowsOf (bytes "kind,a,b,c\n" ++ bytes rows)) (call rows "\n" 9 256 .buffers)
+    ≡ record {
+      states = 0 ∷ 0 ∷ 2 ∷ 0 ∷ 2 ∷ 0 ∷ 0 ∷ 0 ∷ 2 ∷ 0 ∷ 0 ∷ [];
+      store = record { cells = []; places = []; outputs = (some (pos 7) ∷ []) ∷ (some (pos 8) ∷ []) ∷ [] };
+    }
+unfolding computesAnswers decode
+back = refl

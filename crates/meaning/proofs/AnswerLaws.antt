@@ -3,7 +3,7 @@
 use mathlib.Core.Path.{_≡_, refl, sym, ap, ap₂, _∙_}
 use mathlib.Core.Logic.{_↔_}
 use mathlib.Core.List.{List, [], _∷_, _++_, map}
-use mathlib.Core.Option.{Option, none, some, Option·map, Option·none-ne-some, Option·some-ne-none}
+use mathlib.Core.Option.{Option, none, some, Option·none-ne-some, Option·some-ne-none}
 use Prim.Native.Nat.{ℕ, suc, _<_}
 use native.Mathlib.Omega.{arith}
 use lib.IntN.{ℤ}
@@ -11,7 +11,6 @@ use Rattle.meaning.specs.Limits.{maxBudget}
 use Rattle.meaning.specs.declared.Verdict.the-variants.{Accepted, Rejected}
 use Rattle.meaning.specs.Rows.{rowCount, declarations}
 use Rattle.meaning.specs.TableBytes.{bytesFault, rowsOf, numbersFault}
-use Rattle.meaning.specs.Verdict.{formFault, treeFault, limitFault}
 use Rattle.meaning.specs.Usage.{usageFault}
 use Rattle.meaning.specs.Sheet.{sheetFault, readings}
 use Rattle.meaning.specs.Buffers.{Buffers}
@@ -20,9 +19,8 @@ use Rattle.meaning.specs.Refusals.{Refusal, Stage, either, firstFault}
 use Rattle.meaning.specs.Stages.{Limits, limits, Call, onTable, bufferFault, budgetFault, lentStages, rowStages, tableStages, callStages}
 use Rattle.meaning.specs.Answers.{tableFault, check, checkBytes, verdictOf, Result, ran, unless, runOf, resultOf, Task, onRows, onBytes, result, resultOfBytes, replyOf, reply, replyToBytes}
 use Rattle.meaning.specs.PrintedForms.{Each, each-none, each-more}
-use Rattle.meaning.specs.Faults.{LowestWrong, Finds, WellFormed, WellPlaced, WithinLimits, FormStage, TreeStage, LimitStage}
-use Rattle.meaning.proofs.FaultLaws.{form-stage, limit-stage}
-use Rattle.meaning.proofs.TreeLaws.{tree-stage}
+use Rattle.meaning.specs.Faults.{WellFormed, WellPlaced, WithinLimits}
+use Rattle.meaning.proofs.StageLaws.{form-none, tree-none, limit-none}
 
 -- nothing is looked at after the last stage
 pub or-nothing : (o : Option Refusal) → either o none ≡ o
@@ -131,14 +129,6 @@ module _ {A : Type 0} (x : A) where
   found-none [] h = refl
   found-none (s ∷ ss) (each-more e h) = ap (λ (o : Option Refusal). either o (firstFault ss x)) e ∙ found-none ss h
 
--- a stage that finds nothing: all places are right
-pub finds-none : (number : ℕ) (Right : ℕ → Type 0) (n : ℕ) (found : Option Refusal) → Finds number Right n found → (found ≡ none) ↔ ((i : ℕ) → i < n → Right i)
-finds-none number Right n found h = go (h .0) (h .1) (h .2)
-  where
-    go : (o : Option ℕ) → found ≡ Option·map (λ r. (number, r)) o → LowestWrong Right n o → (found ≡ none) ↔ ((i : ℕ) → i < n → Right i)
-    go none e w = (λ z. w, λ z. e)
-    go (some i) e w = (λ z. absurd (Option·some-ne-none (number, i) (sym e ∙ z)), λ z. absurd (w .1 (z i (w .0))))
-
 -- rows that are right: four to each and not too many, every row well formed and well placed, the declarations within the
 -- limits, no clash in a PAR
 abbrev pub RightRows : List ℤ → Type 0
@@ -151,23 +141,13 @@ RightRows rows =
 
 -- "A table is accepted if these rules refuse nothing in it"
 pub accepted : (rows : List ℤ) → (check rows ≡ none) ↔ RightRows rows
-unfolding FormStage TreeStage LimitStage
 accepted rows = (λ e. to (none-found rows (numbersFault ∷ rowStages) (sym (check-stages rows) ∙ e)), λ h. check-stages rows ∙ found-none rows (numbersFault ∷ rowStages) (from h))
   where
-    form : (formFault rows ≡ none) ↔ ((r : ℕ) → r < rowCount rows → WellFormed rows r)
-    form = finds-none 4 (WellFormed rows) (rowCount rows) (formFault rows) (form-stage rows)
-
-    tree : (treeFault rows ≡ none) ↔ ((r : ℕ) → r < suc (rowCount rows) → WellPlaced rows r)
-    tree = finds-none 5 (WellPlaced rows) (suc (rowCount rows)) (treeFault rows) (tree-stage rows)
-
-    limit : (limitFault rows ≡ none) ↔ ((r : ℕ) → r < declarations rows → WithinLimits rows r)
-    limit = finds-none 6 (WithinLimits rows) (declarations rows) (limitFault rows) (limit-stage rows)
-
     to : Each (λ (s : Stage (List ℤ)). s rows ≡ none) (numbersFault ∷ rowStages) → RightRows rows
-    to (each-more a (each-more b (each-more c (each-more d (each-more e each-none))))) = (a, form .0 b, tree .0 c, limit .0 d, e)
+    to (each-more a (each-more b (each-more c (each-more d (each-more e each-none))))) = (a, form-none rows .0 b, tree-none rows .0 c, limit-none rows .0 d, e)
 
     from : RightRows rows → Each (λ (s : Stage (List ℤ)). s rows ≡ none) (numbersFault ∷ rowStages)
-    from h = each-more (h .0) (each-more (form .1 (h .1)) (each-more (tree .1 (h .2)) (each-more (limit .1 (h .3)) (each-more (h .4) each-none))))
+    from h = each-more (h .0) (each-more (form-none rows .1 (h .1)) (each-more (tree-none rows .1 (h .2)) (each-more (limit-none rows .1 (h .3)) (each-more (h .4) each-none))))
 
 -- what a verdict says of the refusal
 pub accepted-none : (o : Option Refusal) → Accepted ≡ verdictOf o → o ≡ none

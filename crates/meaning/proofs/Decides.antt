@@ -12,7 +12,6 @@ use lib.Dec.{T, ltb, leb, eqb}
 use borrow.Author.Tests.{ltb-true, ltb-false, leb-true, leb-false, eqb-true, eqb-false}
 use Rattle.meaning.specs.Basics.{eqZ, inside, any, lowest, Lowest}
 use Rattle.meaning.proofs.LowestLaws.{lowest-is}
-use Rattle.meaning.specs.Faults.{LowestWrong}
 
 -- a test is true where a statement holds, and false where it does not
 pub data Decides (A : Type 0) : Bool → Type 0 where
@@ -134,18 +133,23 @@ faults-over limit n = go (decides-lt limit n)
     go (holding h) = wrong (λ l. omega arith)
     go (failing h) = right (omega arith)
 
+-- what is not at fault is right
+pub not-wrong : {A : Type 0} {t : Bool} → Faults A t → ¬ (¬ A) → A
+not-wrong (right a) h = a
+not-wrong (wrong a) h = absurd (h a)
+
 -- the lowest number by a test that finds fault is the lowest that is not right
-pub lowest-wrong : (Right : ℕ → Type 0) (p : ℕ → Bool) → ((i : ℕ) → Faults (Right i) (p i)) → (n : ℕ) → LowestWrong Right n (lowest p n)
+pub lowest-wrong : (Right : ℕ → Type 0) (p : ℕ → Bool) → ((i : ℕ) → Faults (Right i) (p i)) → (n : ℕ) → Lowest (λ i. ¬ Right i) n (lowest p n)
 lowest-wrong Right p f n = go (lowest p n) (lowest-is p n)
   where
-    passed : {i : ℕ} {t : Bool} → Faults (Right i) t → (T t → ⊥) → Right i
-    passed (right a) h = a
+    passed : {i : ℕ} {t : Bool} → Faults (Right i) t → (T t → ⊥) → ¬ (¬ Right i)
+    passed (right a) h = λ f. f a
     passed (wrong a) h = absurd (h tt)
 
     failed : {i : ℕ} {t : Bool} → Faults (Right i) t → T t → ¬ Right i
     failed (right a) h = absurd h
     failed (wrong a) h = a
 
-    go : (o : Option ℕ) → Lowest (λ i. T (p i)) n o → LowestWrong Right n o
+    go : (o : Option ℕ) → Lowest (λ i. T (p i)) n o → Lowest (λ i. ¬ Right i) n o
     go none h = λ i l. passed (f i) (h i l)
     go (some i) h = (h .0, failed (f i) (h .1), λ j l. passed (f j) (h .2 j l))

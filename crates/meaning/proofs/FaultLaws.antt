@@ -7,18 +7,20 @@ use Prim.Native.Nat.{ℕ, suc, _≤_, _<_}
 use native.Mathlib.Omega.{arith}
 use lib.IntN.{ℤ, pos, negsuc, pos-ne-negsuc}
 use lib.Dec.{eqb}
-use Rattle.meaning.specs.Limits.{maxCells, maxElements, maxPorts, maxCapacity}
+use Rattle.meaning.specs.Limits.{maxCells, maxElements, maxPorts, maxCapacity, minNumber, maxNumber}
 use Rattle.meaning.specs.Rows.{rowCount, fieldAt, naturalAt, kindAt, declarations}
 use Rattle.meaning.specs.Declarations.{sumBelow, hasRole, cellsAt, elementsAt, portsAt, capacityAt}
 use Rattle.meaning.specs.Basics.{any, lowest}
 use Rattle.meaning.proofs.Decides.{Decides, holding, failing, decides-iff, decides-and, decides-or, decides-lt, decides-le, decides-eq, decides-eqZ, decides-inside, decides-any, pos-injective, Faults, right, wrong, faults-not, faults-or, faults-if, faults-iff, faults-over, lowest-wrong}
 use Rattle.meaning.specs.Kinds.{Field, unused, value, within, elements, capacity, variable, channel, reference, link, Shape, shapeOf}
 use Rattle.meaning.specs.Verdict.{names, holds, fits, misformed, formFault, overLimit, limitFault}
-use Rattle.meaning.specs.Faults.{Holds, IsOf, WellFormed, FormStage, WithinLimits, LimitStage}
+use Rattle.meaning.specs.References.{IsOf}
+use Rattle.meaning.specs.Faults.{Holds, WellFormed, WithinLimits}
+use Rattle.meaning.specs.StageClaims.{FormStage, LimitStage}
 
 -- 6 ---------------------------------------------------------------------------------------------------------------------------
 
-within-limits : (rows : List ℤ) (r : ℕ) → Faults (WithinLimits rows r) (overLimit rows r)
+pub within-limits : (rows : List ℤ) (r : ℕ) → Faults (WithinLimits rows r) (overLimit rows r)
 unfolding WithinLimits
 within-limits rows r =
     faults-iff (λ p. (p .0 .0 .0 .0, p .0 .0 .0 .1, p .0 .0 .1, p .0 .1, p .1)) (λ p. ((((p .0, p .1), p .2), p .3), p .4))
@@ -49,7 +51,7 @@ decides-name d P p f (negsuc r) = failing (λ h. pos-ne-negsuc (h .0) r (sym (h 
 decides-holds : (rows : List ℤ) (r : ℕ) (f : Field) (z : ℤ) → Decides (Holds rows r f z) (holds rows (declarations rows) r f z)
 unfolding Holds holds
 decides-holds rows r unused z = decides-eqZ z (pos 0)
-decides-holds rows r value z = holding tt
+decides-holds rows r value z = decides-inside minNumber maxNumber z
 decides-holds rows r (within lo hi) z = decides-inside lo hi z
 decides-holds rows r elements z = decides-and (decides-inside (pos 1) (pos 64) z) (decides-or (decides-eqZ (fieldAt rows r 2) (pos 0)) (decides-eqZ z (pos 1)))
 decides-holds rows r capacity z = decides-and (decides-inside (pos 0) (pos 256) z) (decides-or (decides-eqZ (fieldAt rows r 2) (pos 2)) (decides-eqZ z (pos 0)))
@@ -79,7 +81,7 @@ decides-fits rows r (some s) e =
     (Option·some-injective (h .0) s (sym (h .1) ∙ e)) ((h .2, h .3), h .4))
     (decides-and (decides-and (decides-holds rows r (s .a) (fieldAt rows r 1)) (decides-holds rows r (s .b) (fieldAt rows r 2))) (decides-holds rows r (s .c) (fieldAt rows r 3)))
 
-well-formed : (rows : List ℤ) (r : ℕ) → Faults (WellFormed rows r) (misformed rows (declarations rows) r)
+pub well-formed : (rows : List ℤ) (r : ℕ) → Faults (WellFormed rows r) (misformed rows (declarations rows) r)
 unfolding WellFormed
 well-formed rows r =
     faults-or

@@ -19,13 +19,17 @@ pub mod ScanLaws
 pub mod SheetLaws
 pub mod TableLaws
 pub mod TreeLaws
+pub mod StageLaws
 pub mod TwoOrders
 pub mod Marked
 pub mod LowestLaws
 pub mod HigherRows
+pub mod KindLaws
+pub mod PartLaws
 pub mod FirstLine
 pub mod LentLaws
 pub mod LineIsLaws
 pub mod LineFaults
 pub mod BytesRefused
 pub mod SheetRefused
+pub mod NumeralRules

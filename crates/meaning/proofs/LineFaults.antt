@@ -48,7 +48,7 @@ module _ (F : ℕ → Type 0) (p : ℕ → Bool) (n : ℕ) (d : (i : ℕ) → De
   some-exactly i = (to, from)
     where
       to : lowest p n ≡ some i → LowestLine F i
-      to e = let f = subst (Lowest (λ j. T (p j)) n) e (lowest-is p n) in (holds (d i) (f .1), λ j l h. f .2 j l (passes (d j) h))
+      to e = let f = subst (Lowest (λ j. T (p j)) n) e (lowest-is p n) in (omega arith, holds (d i) (f .1), λ j l h. f .2 j l (passes (d j) h))
 
       same-place : (j : ℕ) → F j → ((k : ℕ) → k < j → ¬ F k) → F i → ((k : ℕ) → k < i → ¬ F k) → Dec (j < i) → Dec (i < j) → j ≡ i
       same-place j a f b g (yes l) e = absurd (g j l a)
@@ -56,7 +56,7 @@ module _ (F : ℕ → Type 0) (p : ℕ → Bool) (n : ℕ) (d : (i : ℕ) → De
       same-place j a f b g (no l) (no m) = omega arith
 
       from : LowestLine F i → lowest p n ≡ some i
-      from (b, g) = go (lowest p n) (lowest-is p n)
+      from (l, b, g) = go (lowest p n) (lowest-is p n)
         where
           go : (o : Option ℕ) → Lowest (λ j. T (p j)) n o → o ≡ some i
           go none f = absurd (f i (bound i b) (passes (d i) b))

@@ -5,6 +5,7 @@ use mathlib.Core.Bool.{Bool, true, false}
 use mathlib.Core.Option.{Option, none, some}
 use Prim.Native.Nat.{ℕ, zero, suc, _+_, _≤_, _<_}
 use native.Mathlib.Nat.{eq-or-lt-of-le, le-refl}
+use native.Mathlib.Decide.{decLt}
 use native.Mathlib.Omega.{arith}
 use lib.Dec.{T}
 use Rattle.meaning.specs.Basics.{ifElse, lowestFrom, lowest, Lowest}
@@ -42,3 +43,12 @@ lowest-is p n = go (lowestFrom p 0 n) (lowestFrom-is p 0 n)
     go : (o : Option ℕ) → From p 0 n o → Lowest (λ i. T (p i)) n o
     go none f = λ i h t. f i (omega arith) (omega arith) t
     go (some i) f = (omega (arith, f .1), f .2, λ j h t. f .3 j (omega arith) h t)
+
+-- the lowest number is one
+pub lowest-one : (P : ℕ → Type 0) (n i j : ℕ) → Lowest P n (some i) → Lowest P n (some j) → i ≡ j
+lowest-one P n i j h k = go (decLt i j) (decLt j i)
+  where
+    go : Dec (i < j) → Dec (j < i) → i ≡ j
+    go (yes l) b = absurd (k .2 i l (h .1))
+    go (no l) (yes m) = absurd (h .2 j m (k .1))
+    go (no l) (no m) = omega arith

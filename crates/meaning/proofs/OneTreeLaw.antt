@@ -3,7 +3,7 @@ use mathlib.Core.Path.{_≡_, refl, sym, _∙_, subst}
 use mathlib.Core.Logic.{_⊎_, inl, inr, ⊎-elim}
 use mathlib.Core.Bool.{Bool, true, false, false≢true}
 use mathlib.Core.List.{List}
-use mathlib.Core.Option.{Option, none, some, Option·map, Option·some-ne-none, Option·some-injective}
+use mathlib.Core.Option.{some, Option·some-injective}
 use Prim.Native.Nat.{ℕ, zero, suc, _≤_, _<_}
 use native.Mathlib.Nat.{eq-or-lt-of-le}
 use native.Mathlib.Decide.{decLt}
@@ -11,11 +11,12 @@ use native.Mathlib.Omega.{arith}
 use lib.IntN.{ℤ}
 use Rattle.meaning.specs.Rows.{ifElse, rowCount, kindAt, declares, leading, declarations}
 use Rattle.meaning.proofs.Decides.{Decides, holding, failing, decides-or, decides-eq}
-use Rattle.meaning.specs.TableBytes.{Refusal}
 use Rattle.meaning.specs.Kinds.{Shape, shapes, shapeIn, shapeOf}
-use Rattle.meaning.specs.Faults.{RefersBy, Place, of-a, of-b, of-c, fieldOf, numberOf, Refers, Once, Placed, WellPlaced, LowestWrong, Beneath, direct, further, TreeStage, OneTree}
+use Rattle.meaning.specs.References.{RefersBy, Place, of-a, of-b, of-c, fieldOf, numberOf, Refers, Beneath, direct, further}
+use Rattle.meaning.specs.Faults.{Once, Placed, WellPlaced}
+use Rattle.meaning.specs.StageClaims.{OneTree}
 use Rattle.meaning.proofs.ReferenceCounts.{bounds}
-use Rattle.meaning.proofs.TreeLaws.{tree-stage}
+use Rattle.meaning.proofs.StageLaws.{tree-none}
 
 -- the rows before the first that is no declaration are declarations
 leads-declared : (rows : List ℤ) (k r q : ℕ) → r ≤ q → q < leading rows k r → declares rows q ≡ true
@@ -35,26 +36,22 @@ pub declared : (rows : List ℤ) (q : ℕ) → q < declarations rows → (kindAt
 unfolding declarations
 declared rows q h = true-holds (leads-declared rows (rowCount rows) 0 q (omega arith) h) (decides-or (decides-eq (kindAt rows q) 1) (decides-eq (kindAt rows q) 2))
 
--- a declaration refers to no row
-by-shape : (rows : List ℤ) (q : ℕ) (p : Place) (t k : ℕ) (u : Shape) → kindAt rows q ≡ k → shapeOf k ≡ some u → (RefersBy rows q (fieldOf u p) (numberOf rows q p) t → ⊥) → Refers rows q p t → ⊥
+-- a reference by the shape of the row's kind
+pub refers-by : (rows : List ℤ) (q : ℕ) (p : Place) (t k : ℕ) (u : Shape) → kindAt rows q ≡ k → shapeOf k ≡ some u → Refers rows q p t → RefersBy rows q (fieldOf u p) (numberOf rows q p) t
 unfolding Refers
-by-shape rows q p t k u e i f h =
-    f (subst (λ (s : Shape). RefersBy rows q (fieldOf s p) (numberOf rows q p) t)
-    (Option·some-injective (h .0) u (sym (h .1) ∙ subst (λ (m : ℕ). shapeOf m ≡ some u) (sym e) i)) (h .2))
+refers-by rows q p t k u e i h =
+    subst (λ (s : Shape). RefersBy rows q (fieldOf s p) (numberOf rows q p) t)
+    (Option·some-injective (h .0) u (sym (h .1) ∙ subst (λ (m : ℕ). shapeOf m ≡ some u) (sym e) i)) (h .2)
 
+-- a declaration refers to no row
 pub declares-only : (rows : List ℤ) (q : ℕ) (p : Place) (t : ℕ) → (kindAt rows q ≡ 1) ⊎ (kindAt rows q ≡ 2) → Refers rows q p t → ⊥
 unfolding shapeOf shapeIn shapes RefersBy
-declares-only rows q of-a t (inl e) = by-shape rows q of-a t 1 _ e refl (λ h. h)
-declares-only rows q of-b t (inl e) = by-shape rows q of-b t 1 _ e refl (λ h. h)
-declares-only rows q of-c t (inl e) = by-shape rows q of-c t 1 _ e refl (λ h. h)
-declares-only rows q of-a t (inr e) = by-shape rows q of-a t 2 _ e refl (λ h. h)
-declares-only rows q of-b t (inr e) = by-shape rows q of-b t 2 _ e refl (λ h. h)
-declares-only rows q of-c t (inr e) = by-shape rows q of-c t 2 _ e refl (λ h. h)
-
--- what is not refused is right everywhere
-all-right : (Right : ℕ → Type 0) (n : ℕ) (o : Option ℕ) → none ≡ Option·map {B = Refusal} (λ r. (5, r)) o → LowestWrong Right n o → (i : ℕ) → i < n → Right i
-all-right Right n none e w = w
-all-right Right n (some j) e w = absurd (Option·some-ne-none (5, j) (sym e))
+declares-only rows q of-a t (inl e) = refers-by rows q of-a t 1 _ e refl
+declares-only rows q of-b t (inl e) = refers-by rows q of-b t 1 _ e refl
+declares-only rows q of-c t (inl e) = refers-by rows q of-c t 1 _ e refl
+declares-only rows q of-a t (inr e) = refers-by rows q of-a t 2 _ e refl
+declares-only rows q of-b t (inr e) = refers-by rows q of-b t 2 _ e refl
+declares-only rows q of-c t (inr e) = refers-by rows q of-c t 2 _ e refl
 
 -- down from a row to the root, by the row that refers to it
 down : (rows : List ℤ) → ((r : ℕ) → r < rowCount rows → declarations rows < r → Once rows r) → (k r : ℕ) → r < k → declarations rows < r → r < rowCount rows → Beneath rows (declarations rows) r
@@ -74,6 +71,5 @@ down rows f (suc k) r h d l = go (f r l d) (λ q i g m. down rows f k q i g m)
         from (no i) (no j) = direct (w .1) (subst (λ (q : ℕ). Refers rows q (w .1) r) (omega arith) (w .2))
 
 pub one-tree : OneTree
-unfolding OneTree TreeStage WellPlaced Placed
-one-tree rows e r d l =
-    down rows (λ q i g. all-right (WellPlaced rows) (suc (rowCount rows)) (tree-stage rows .0) (sym e ∙ tree-stage rows .1) (tree-stage rows .2) q (omega arith) .1 (omega arith, i) .3 (λ s. omega arith)) (suc r) r (omega arith) d l
+unfolding OneTree WellPlaced Placed
+one-tree rows e r d l = down rows (λ q i g. tree-none rows .0 e q (omega arith) .1 (omega arith, i) .3 (λ s. omega arith)) (suc r) r (omega arith) d l

@@ -15,7 +15,8 @@ use Rattle.meaning.proofs.Decides.{Decides, holding, failing, decides-i
 use Rattle.meaning.proofs.Counting.{Counts, never, once, more, counts-iff, counts-add, occurrences-append}
 use Rattle.meaning.specs.Kinds.{Field, unused, value, within, elements, capacity, variable, channel, reference, link, Shape, shapeOf}
 use Rattle.meaning.specs.Verdict.{refers, targetOf, target, targetsBy, targets, targetsBelow, occurrences}
-use Rattle.meaning.specs.Faults.{IsTarget, RefersBy, Place, of-a, of-b, of-c, fieldOf, numberOf, Refers, Once}
+use Rattle.meaning.specs.References.{IsTarget, RefersBy, Place, of-a, of-b, of-c, fieldOf, numberOf, Refers}
+use Rattle.meaning.specs.Faults.{Once}
 
 pub decides-among : (k : ℕ) (ks : List ℕ) → Decides (List·Memᴰ k ks) (among k ks)
 decides-among k ks =

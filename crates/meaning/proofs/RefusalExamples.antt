@@ -9,7 +9,7 @@ use lib.ListN.{replicate}
 use Rattle.meaning.specs.Texts.{bytes}
 use Rattle.meaning.specs.TableBytes.{Refusal, rowsOf, numbersFault}
 use Rattle.meaning.specs.Sheet.{sheetFault, readings}
-use Rattle.meaning.specs.Answers.{checkBytes}
+use Rattle.meaning.specs.Answers.{check, checkBytes}
 use Rattle.meaning.proofs.ComputesAnswers.{computesAnswers}
 
 -- the table of some rows, by their text
@@ -105,3 +105,15 @@ lent-rows :
     × (numbersFault (replicate 4100 (pos 0)) ≡ some (3, 1024))
 unfolding numbersFault
 lent-rows = (refl, refl, refl, refl, refl)
+
+-- a WHILE with a literal, lent as numbers: "value out of range" outside 32 bits
+abbrev whileRows : ℤ → List ℤ
+whileRows z = pos 33 ∷ pos 1 ∷ pos 2 ∷ pos 0 ∷ pos 10 ∷ z ∷ pos 0 ∷ pos 0 ∷ pos 21 ∷ pos 0 ∷ pos 0 ∷ pos 0 ∷ []
+
+literals :
+    (check (whileRows (pos 2147483647)) ≡ none)
+    × (check (whileRows (pos 2147483648)) ≡ some (4, 1))
+    × (check (whileRows (negsuc 2147483647)) ≡ none)
+    × (check (whileRows (negsuc 2147483648)) ≡ some (4, 1))
+unfolding computesAnswers
+literals = (refl, refl, refl, refl)

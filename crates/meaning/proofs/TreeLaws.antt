@@ -12,7 +12,9 @@ use Rattle.meaning.proofs.Decides.{Decides, holding, failing, decides-i
 use Rattle.meaning.specs.Kinds.{Field, unused, value, within, elements, capacity, variable, channel, reference, link, Shape, shapeOf, processes}
 use Rattle.meaning.specs.Verdict.{refers, leads, targetsBelow, occurrences, leadsBy, miscounted, misplaced, treeFaultAt, treeFault}
 use Rattle.meaning.proofs.ReferenceCounts.{decides-among, decides-target, Never, count-all, never-zero, once-one}
-use Rattle.meaning.specs.Faults.{IsOf, IsTarget, Leads, Place, of-a, of-b, of-c, fieldOf, numberOf, Refers, Once, Placed, WellPlaced, TreeStage}
+use Rattle.meaning.specs.References.{IsOf, IsTarget, Place, of-a, of-b, of-c, fieldOf, numberOf, Refers}
+use Rattle.meaning.specs.Faults.{Leads, Once, Placed, WellPlaced}
+use Rattle.meaning.specs.StageClaims.{TreeStage}
 
 -- References --------------------------------------------------------------------------------------------------------------------
 
@@ -78,7 +80,7 @@ placed rows r =
     (faults-if (decides-eq r (declarations rows)) (faults-not (decides-among (kindAt rows r) processes))))
     (counted rows r))
 
-well-placed : (rows : List ℤ) (r : ℕ) → Faults (WellPlaced rows r) (treeFaultAt rows (declarations rows) (targetsBelow rows (rowCount rows)) r)
+pub well-placed : (rows : List ℤ) (r : ℕ) → Faults (WellPlaced rows r) (treeFaultAt rows (declarations rows) (targetsBelow rows (rowCount rows)) r)
 unfolding WellPlaced
 well-placed rows r =
     faults-or

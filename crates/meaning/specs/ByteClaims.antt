@@ -4,11 +4,12 @@ use mathlib.Core.Path.{_≡_}
 use mathlib.Core.Logic.{_⊎_, _↔_, _≢_}
 use mathlib.Core.List.{List, [], _∷_, _++_, map}
 use mathlib.Core.Option.{Option, none, some}
-use Prim.Native.Nat.{ℕ, zero, suc, _+_, _≤_, _<_}
-use lib.IntN.{ℤ, pos}
+use Prim.Native.Nat.{ℕ, zero, suc, _+_, _*_, _≤_, _<_}
+use lib.IntN.{ℤ, pos, negsuc}
 use lib.ListN.{length}
+use Rattle.meaning.specs.Basics.{Lowest}
 use Rattle.meaning.specs.Limits.{maxRows, maxTable, maxSheet, maxLines}
-use Rattle.meaning.specs.Texts.{bytes, lineFeed}
+use Rattle.meaning.specs.Texts.{bytes, lineFeed, hyphen, digit0}
 use Rattle.meaning.specs.Numerals.{printed}
 use Rattle.meaning.specs.Declarations.{channels}
 use Rattle.meaning.specs.PrintedForms.{Each, written, readingBytes, IsRow, IsValues}
@@ -27,12 +28,28 @@ pub data LineIs : List ℕ → ℕ → List ℕ → Type 0 where
 
 -- "the lowest faulty line is given"
 abbrev pub LowestLine : (ℕ → Type 0) → ℕ → Type 0
-LowestLine Fault n = Fault n × ((m : ℕ) → m < n → ¬ Fault m)
+LowestLine Fault n = Lowest Fault (suc n) (some n)
+
+-- Numbers ---------------------------------------------------------------------------------------------------------------------------
+
+-- digits "in base ten" and the number that they stand for; "no leading zeros": more digits follow only where the number so far is not 0
+pub data Digits : List ℕ → ℕ → Type 0 where
+  first-digit : {d : ℕ} → d < 10 → Digits ((digit0 + d) ∷ []) d
+  next-digit : {bs : List ℕ} {n d : ℕ} → Digits bs n → 0 < n → d < 10 → Digits (bs ++ ((digit0 + d) ∷ [])) (n * 10 + d)
+
+-- a whole number as a field holds it: "no plus and no `-0`"
+pub data Numeral : List ℕ → ℤ → Type 0 where
+  without-sign : {bs : List ℕ} {n : ℕ} → Digits bs n → Numeral bs (pos n)
+  with-minus : {bs : List ℕ} {n : ℕ} → Digits bs (suc n) → Numeral (hyphen ∷ bs) (negsuc n)
+
+-- what is printed of a number is its one numeral
+unfoldable pub PrintedNumeral : Type 0
+PrintedNumeral = (bs : List ℕ) (z : ℤ) → Numeral bs z ↔ (bs ≡ printed z)
 
 -- The table's bytes -------------------------------------------------------------------------------------------------------------
 
 -- "one row of four whole numbers in that order, in base ten, from −2147483648 to 2147483647, with no leading zeros, no plus and no `-0`":
--- each number as it is printed, commas between them, a line feed at the end
+-- each number as it is printed, in its one form (`PrintedNumeral`), commas between them, a line feed at the end
 abbrev pub IsRowLine : List ℕ → Type 0
 IsRowLine line = (row : List ℤ) × IsRow row × (line ≡ written (map printed row))
 

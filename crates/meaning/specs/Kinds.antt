@@ -10,7 +10,7 @@ use Rattle.meaning.specs.Basics.{ifElse}
 pub data Field : Type 0 where
   -- "A field not named below is 0"
   unused : Field
-  -- a literal's value
+  -- a literal's value, any number of 32 bits
   value : Field
   -- a number, from and to
   within : ℤ → ℤ → Field

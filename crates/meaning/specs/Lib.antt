@@ -3,7 +3,7 @@
 pub mod Basics
 pub mod Texts
 pub mod Limits
--- The table: refusals, numbers and lines, refusals 2 and 3, rows, kinds, refusals 4, 5 and 6, the tree
+-- The table: refusals, numbers and lines, refusals 2 and 3, rows, kinds, references; refusals 4, 5 and 6 as statements and then as tests; the tree
 pub mod Refusals
 pub mod Numerals
 pub mod Lines
@@ -11,9 +11,14 @@ pub mod TableBytes
 pub mod Rows
 pub mod Kinds
 pub mod Declarations
+pub mod References
+pub mod Faults
 pub mod Verdict
+pub mod StageClaims
 pub mod Tree
--- Usage in a PAR: refusals 7, 8 and 9
+pub mod PartClaims
+-- Usage in a PAR: refusals 7, 8 and 9 as relations and then as tests
+pub mod Clash
 pub mod Usage
 -- Values
 pub mod Values
@@ -42,6 +47,4 @@ pub mod Marked
 -- The same as statements, with no test and no order of looking
 pub mod PrintedForms
 pub mod ByteClaims
-pub mod Faults
-pub mod Clash
 pub mod Accepted

@@ -5,7 +5,7 @@ use mathlib.Core.Option.{Option, none, some, Option·map}
 use Prim.Native.Nat.{ℕ, zero, suc, _+_}
 use lib.IntN.{ℤ, pos, negsuc}
 use lib.Dec.{leb, ltb, eqb}
-use Rattle.meaning.specs.Limits.{maxCells, maxElements, maxPorts, maxCapacity}
+use Rattle.meaning.specs.Limits.{maxCells, maxElements, maxPorts, maxCapacity, minNumber, maxNumber}
 use Rattle.meaning.specs.Rows.{rowCount, fieldAt, kindAt, declares, declarations}
 use Rattle.meaning.specs.Declarations.{sumBelow, hasRole, cellsAt, elementsAt, portsAt, capacityAt}
 use Rattle.meaning.specs.Basics.{ifElse, eqZ, inside, any, among, lowest}
@@ -22,7 +22,7 @@ names d test (negsuc r) = false
 -- what a field of row r may hold as far as 4 says; a reference is the matter of 5
 unfoldable pub holds : List ℤ → ℕ → ℕ → Field → ℤ → Bool
 holds rows d r unused z = eqZ z (pos 0)
-holds rows d r value z = true
+holds rows d r value z = inside minNumber maxNumber z
 holds rows d r (within lo hi) z = inside lo hi z
 holds rows d r elements z = inside (pos 1) (pos 64) z && (eqZ (fieldAt rows r 2) (pos 0) || eqZ z (pos 1))
 holds rows d r capacity z = inside (pos 0) (pos 256) z && (eqZ (fieldAt rows r 2) (pos 2) || eqZ z (pos 0))

@@ -3,3 +3,4 @@ pub mod OptionLinks
 pub mod WorkingRows
 pub mod Noting
 pub mod OwnerNotes
+pub mod ByRow

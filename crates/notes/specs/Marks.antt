@@ -1,11 +1,15 @@
 -- What the machine notes of rows: a row as one more than its number, 0 where there is none.
 use mathlib.Core.Bool.{Bool, true, false, _&&_}
 use mathlib.Core.Option.{Option, none, some}
-use mathlib.Core.List.{List}
-use Rattle.meaning.specs.Basics.{ifElse}
+use mathlib.Core.List.{List, map}
 use Prim.Native.Nat.{ℕ, zero, suc, _+_}
+use lib.IntN.{ℤ}
 use lib.ListN.{length, getD, set}
 use lib.Dec.{ltb, eqb}
+use Rattle.meaning.specs.Basics.{ifElse}
+use Rattle.meaning.specs.Usage.{range}
+use Rattle.meaning.specs.State.{program}
+use Rattle.machine.specs.RowSteps.{altOf}
 
 -- a row, if there is one
 abbrev pub rowNote : Option ℕ → ℕ
@@ -21,3 +25,7 @@ firstNote true note (suc old) = suc old
 -- a note at row t, where there is a place for one and none yet
 abbrev pub noteAt : List ℕ → ℕ → ℕ → List ℕ
 noteAt notes t note = ifElse (ltb t (length notes) && eqb (getD notes t 0) 0) (set notes t note) notes
+
+-- a note for each of n rows: the ALT that the row is an option of
+unfoldable pub ownerNotes : List ℤ → ℕ → List ℕ
+ownerNotes rows n = map (λ j. rowNote (altOf (program rows) j)) (range 0 n)

@@ -5,10 +5,8 @@ ghost use lib.ListN.{length, getD, replicate};
 ghost use Rattle.meaning.specs.Basics.{among};
 ghost use Rattle.meaning.specs.Rows.{rowCount};
 ghost use Rattle.meaning.specs.Tree.{partAt};
-ghost use Rattle.meaning.specs.State.{program};
-ghost use Rattle.agreement.proofs.OptionRows.{rowsOf};
-ghost use Rattle.machine.specs.RowSteps.{altOf};
-ghost use Rattle.notes.specs.Marks.{rowNote, firstNote, noteAt};
+ghost use Rattle.agreement.specs.RowsOfSteps.{rowsOfOptions};
+ghost use Rattle.notes.specs.Marks.{firstNote, noteAt, ownerNotes};
 use layout::nodes::natural;
 use layout::nodes::operand;
 
@@ -38,7 +36,7 @@ pub fn clear_notes(notes: &mut [u16])
 
 // Notes `note` at every option from row `first` on that has no note yet.
 fn note_options(rows: &[i32], first: usize, note: u16, owners: &mut [u16])
-    ensures { λ _. ⌜ ((j : ℕ) → j < length (now (owners .entry)) → getD (now (owners .exit)) j 0 ≡ firstNote (among j (rowsOf (partAt (now (rows .entry)) first .branches))) note (getD (now (owners .entry)) j 0)) ⌝ }
+    ensures { λ _. ⌜ ((j : ℕ) → j < length (now (owners .entry)) → getD (now (owners .exit)) j 0 ≡ firstNote (among j (rowsOfOptions (partAt (now (rows .entry)) first .branches))) note (getD (now (owners .entry)) j 0)) ⌝ }
 {
     let mut t = first;
     while t < rows.len() / 4 {
@@ -53,7 +51,7 @@ fn note_options(rows: &[i32], first: usize, note: u16, owners: &mut [u16])
 // Notes at every row the ALT whose option it is: one more than its row, or 0.
 pub fn note_owners(rows: &[i32], owners: &mut [u16])
     requires { ⌜ rowCount (now rows) ≤ 1024 ⌝ }
-    ensures { λ _. ⌜ ((j : ℕ) → j < length (now (owners .entry)) → getD (now (owners .exit)) j 0 ≡ rowNote (altOf (program (now (rows .entry))) j)) ⌝ }
+    ensures { λ _. ⌜ now (owners .exit) ≡ ownerNotes (now (rows .entry)) (length (now (owners .entry))) ⌝ }
 {
     clear_notes(owners);
     let mut r = 0;

@@ -28,7 +28,8 @@ use Rattle.meaning.specs.Step.{Live, live, host, sends, Allows, Step, assignmen
 use Rattle.meaning.specs.Order.{Begins, Order, halt, then, OrderOf}
 use Rattle.meaning.specs.PrintedForms.{Each, each-none, each-more, In32, IsReading}
 use Rattle.agreement.proofs.KnownStates.{set-keeps}
-use Rattle.agreement.proofs.TableTree.{above, process-is, Known, every-row}
+use Rattle.meaning.specs.PartClaims.{higherPart}
+use Rattle.agreement.proofs.TableTree.{process-is, Known, every-row}
 use Rattle.numbers.proofs.Ranges.{in-range}
 use Rattle.numbers.proofs.Turning.{turned-up-fits, turned-down-fits, remainder-small}
 use Rattle.paper.proofs.Lists.{all-the-same, each-at, each-both}
@@ -232,7 +233,7 @@ module _ (rows : List ℤ) (numbers : Each In32 rows) where
   of-known r b p (inr h) = h .3
 
   every-part : (r : ℕ) → PartIn r (partAt rows r)
-  every-part = every-row rows PartIn (λ r. (tt, tt)) (λ r l e h. part-in r (above rows r) (λ b. of-known r b (above rows r b) (h b)) (nodeAt rows r) (node-in r))
+  every-part = every-row rows PartIn (λ r. (tt, tt)) (λ r l e h. part-in r (higherPart rows r) (λ b. of-known r b (higherPart rows r b) (h b)) (nodeAt rows r) (node-in r))
 
   or-stop : (o : Option Process) → ProcessIn o → ActionIn (actionOf (orStop o))
   or-stop none h = tt

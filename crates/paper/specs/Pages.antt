@@ -1,9 +1,11 @@
--- What the sheet runner runs.
-use mathlib.Core.List.{List, []}
-use Prim.Native.Nat.{ℕ}
+-- What the sheet runner runs, and how its code holds what is printed.
+use mathlib.Core.List.{List, [], _++_}
+use Prim.Native.Nat.{ℕ, _-_}
 use lib.IntN.{ℤ}
+use lib.ListN.{length, replicate}
 use Rattle.meaning.specs.Limits.{maxBudget}
 use Rattle.meaning.specs.Answers.{Task}
+use Rattle.paper.specs.declared.Page.{Page}
 
 -- "Budget 65,536, no choices"
 abbrev pub taskOf : List ℤ → List ℕ → Task
@@ -12,3 +14,7 @@ taskOf rows sheet = record { rows = rows; sheet = sheet; choices = []; budget = 
 -- so many bytes hold whatever is printed
 abbrev pub maxPage : ℕ
 maxPage = 98304
+
+-- the bytes that are printed, how many they are, and a 0 at every place after them
+abbrev pub printedBytes : List ℕ → Page
+printedBytes bytes = record { bytes = bytes ++ replicate (maxPage - length bytes) 0; length = length bytes }

@@ -2,7 +2,7 @@
 ghost use mathlib.Core.Path.{_≡_};
 ghost use mathlib.Core.List.{[]};
 ghost use Prim.Native.Nat.{ℕ, _<_, _≤_};
-ghost use lib.ListN.{length, getD, take};
+ghost use lib.ListN.{length, getD};
 ghost use Rattle.meaning.specs.Limits.{maxBudget};
 ghost use Rattle.meaning.specs.TableBytes.{rowsOf};
 ghost use Rattle.meaning.specs.Answers.{result, resultOfBytes};
@@ -10,11 +10,11 @@ ghost use Rattle.meaning.specs.Printing.{lineBytes, refusedLine};
 ghost use Rattle.meaning.specs.Runner.{printedResult, runner};
 ghost use Rattle.meaning.specs.PrintedForms.{Each, In32};
 ghost use Rattle.writing.specs.Writing.{printedIn};
-ghost use Rattle.paper.specs.Pages.{taskOf, maxPage};
+ghost use Rattle.paper.specs.Pages.{taskOf, maxPage, printedBytes};
 use meaning::Answer;
 use meaning::Verdict;
 
-// What is printed: its bytes at the start of a buffer that holds every page, and how many they are.
+// What is printed: its bytes at the start of a buffer that holds every page, zeros after them, and how many they are.
 pub struct Page {
     pub bytes: [u8; 98304],
     pub length: usize,
@@ -85,7 +85,7 @@ fn table_page(table: &[u8], sheet: &[u8], out: &mut [u8]) -> usize
 }
 
 // What the sheet runner prints for standard input, at the start of a lent buffer: how many bytes. 98,304 bytes hold all of it.
-pub fn answer_page(input: &[u8], out: &mut [u8]) -> usize
+fn answer_page(input: &[u8], out: &mut [u8]) -> usize
     ensures { λ n. ⌜ (n, now (out .exit)) ≡ printedIn (runner (now (input .entry))) (now (out .entry)) ⌝ }
     ensures { λ n. ⌜ length (runner (now (input .entry))) ≤ maxPage ⌝ }
 {
@@ -97,7 +97,7 @@ pub fn answer_page(input: &[u8], out: &mut [u8]) -> usize
 
 // What the sheet runner prints for standard input.
 pub fn answer(input: &[u8]) -> Page
-    ensures { λ p. ⌜ take (p .length) (p .bytes) ≡ runner (now (input .entry)) ⌝ }
+    ensures { λ p. ⌜ p ≡ printedBytes (runner (now (input .entry))) ⌝ }
     ensures { λ p. ⌜ p .length ≤ length (p .bytes) ⌝ }
 {
     let mut bytes = [0u8; 98304];

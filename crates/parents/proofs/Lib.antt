@@ -1,1 +1,2 @@
 pub mod MemberNotes
+pub mod NextLinks

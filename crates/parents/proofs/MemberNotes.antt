@@ -8,8 +8,8 @@ use native.Mathlib.Omega.{arith}
 use lib.IntN.{ℤ}
 use lib.ListN.{length, getD, set}
 use lib.Seq.{getD-set-same, getD-set-other}
-use lib.Dec.{eqb}
-use borrow.Author.Tests.{eqb-true, eqb-false}
+use lib.Dec.{ltb, eqb}
+use borrow.Author.Tests.{ltb-false, eqb-true, eqb-false}
 use Rattle.meaning.specs.Basics.{ifElse, isSome, any, among, lowest}
 use Rattle.meaning.specs.Rows.{rowCount}
 use Rattle.meaning.specs.Tree.{Process, Members, empty, Part, andMember, partAt, orStop, rowOf, membersIn}
@@ -25,7 +25,7 @@ use Rattle.settling.proofs.Standing.{EndingAt, RepeatingAt, LinkAt, Stands, sta
 use Rattle.machine.specs.Upward.{memberRows, parentOf, membersAfter}
 use Rattle.notes.specs.Marks.{rowNote, firstNote}
 use Rattle.notes.proofs.Below.{lowest-none, lowest-next}
-use Rattle.parents.specs.Parents.{ParentsNoted, whereFree, firstMembers, Noted, MemberNoted, MembersNoted, RowNoted}
+use Rattle.parents.specs.Parents.{inTable, ParentsNoted, whereFree, firstMembers, Noted, MemberNoted, MembersNoted, RowNoted}
 
 -- ---- one member
 
@@ -35,8 +35,12 @@ module _ (rows : List ℤ) where
   none-past t l = ap (λ (p : Part). p .members) (part-past rows t l)
 
   -- a link past the table may be any other such
-  pub any-past : (t : ℕ) → rowCount rows ≤ t → partAt rows (rowCount rows) .members ≡ partAt rows t .members
-  any-past t l = none-past (rowCount rows) (omega arith) ∙ sym (none-past t l)
+  in-table-members : (t : ℕ) → partAt rows (inTable rows t) .members ≡ partAt rows t .members
+  in-table-members t = go (ltb t (rowCount rows)) refl
+    where
+      go : (b : Bool) → ltb t (rowCount rows) ≡ b → partAt rows (ifElse b t (rowCount rows)) .members ≡ partAt rows t .members
+      go true e = refl
+      go false e = none-past (rowCount rows) (omega arith) ∙ sym (none-past t (ltb-false t (rowCount rows) e))
 
   -- a process that stands at row p is of row p, which is in the table
   pub row-alone : (p : ℕ) → isSome (partAt rows p .process) ≡ true → (memberRows (alone (partAt rows p .process)) ≡ p ∷ []) × (p < rowCount rows)
@@ -90,22 +94,22 @@ module _ (rows : List ℤ) (p note next : ℕ) (parents nexts : List ℕ) (lp : 
   unfolding any
   one-noted after m =
       record {
-        parent = λ j l. one-parent j (eqb (getD parents p 0) 0) refl;
-        next = λ j l. one-next (after j) (m j) j (eqb (getD parents p 0) 0) refl;
+        parent = λ j. one-parent j (eqb (getD parents p 0) 0) refl;
+        next = λ j. one-next (after j) (m j) j (eqb (getD parents p 0) 0) refl;
       }
 
 -- no member, no note
 pub none-noted : (rows : List ℤ) (list : List ℕ) (after : ℕ → Members) (note : ℕ) (parents nexts : List ℕ) → list ≡ [] → Noted rows list after note parents nexts parents nexts
 unfolding any
-none-noted rows list after note parents nexts e = rw e (record { parent = λ j l. refl; next = λ j l. refl })
+none-noted rows list after note parents nexts e = rw e (record { parent = λ j. refl; next = λ j. refl })
 
 module _ (rows : List ℤ) (p t note : ℕ) (parents nexts : List ℕ) where
   -- a process stands at row p
-  pub member-noted : (next : ℕ) (parents₁ nexts₁ : List ℕ) → isSome (partAt rows p .process) ≡ true → rowCount rows ≤ length parents → rowCount rows ≤ length nexts → partAt rows next .members ≡ partAt rows t .members
+  pub member-noted : (next : ℕ) (parents₁ nexts₁ : List ℕ) → isSome (partAt rows p .process) ≡ true → rowCount rows ≤ length parents → rowCount rows ≤ length nexts → next ≡ inTable rows t
       → parents₁ ≡ whereFree parents p parents note → nexts₁ ≡ whereFree parents p nexts next → MemberNoted rows p t note parents nexts parents₁ nexts₁
   member-noted next parents₁ nexts₁ h lp ln m i k =
       let (alone-is, here) = row-alone rows p h in
-      rw (alone-is, i, k) (one-noted rows p note next parents nexts (omega arith) (omega arith) (λ j. partAt rows t .members) (λ j. m))
+      rw (alone-is, i, k) (one-noted rows p note next parents nexts (omega arith) (omega arith) (λ j. partAt rows t .members) (λ j. ap (λ (n : ℕ). partAt rows n .members) m ∙ in-table-members rows t))
 
   -- none does
   pub no-member-noted : isSome (partAt rows p .process) ≡ false → MemberNoted rows p t note parents nexts parents nexts
@@ -145,13 +149,13 @@ module _ (rows : List ℤ) (note : ℕ) (l : 0 < note) (parents nexts parents₁
   unfolding any
   both-noted none ms f g =
       record {
-        parent = λ j k. g .parent j k ∙ ap (firstNote (among j (memberRows ms)) note) (f .parent j k);
-        next = λ j k. g .next j k ∙ rw (f .parent j k, f .next j k);
+        parent = λ j. g .parent j ∙ ap (firstNote (among j (memberRows ms)) note) (f .parent j);
+        next = λ j. g .next j ∙ rw (f .parent j, f .next j);
       }
   both-noted (some p) ms f g =
       record {
-        parent = λ j k. g .parent j k ∙ ap (firstNote (among j (memberRows ms)) note) (f .parent j k) ∙ both-notes (eqb j (rowOf p)) (among j (memberRows ms)) note (getD parents j 0) l;
-        next = λ j k. g .next j k ∙ rw (f .parent j k, f .next j k) (both-members (eqb j (rowOf p)) (among j (memberRows ms)) note (getD parents j 0) ms (membersAfter j ms) (partAt rows (getD nexts j 0) .members) l);
+        parent = λ j. g .parent j ∙ ap (firstNote (among j (memberRows ms)) note) (f .parent j) ∙ both-notes (eqb j (rowOf p)) (among j (memberRows ms)) note (getD parents j 0) l;
+        next = λ j. g .next j ∙ rw (f .parent j, f .next j) (both-members (eqb j (rowOf p)) (among j (memberRows ms)) note (getD parents j 0) ms (membersAfter j ms) (partAt rows (getD nexts j 0) .members) l);
       }
 
   -- those of a link
@@ -183,7 +187,7 @@ module _ (rows : List ℤ) (r : ℕ) (parents nexts : List ℕ) where
       row-is (alone o) parents₁ nexts₁ (ap (λ (o : Option Process). membersIn (orStop o)) (h .process-is))
       (record {
         parent = f .parent;
-        next = λ j l. f .next j l ∙ ap (λ (ms : Members). firstMembers (among j (memberRows (alone o))) (getD parents j 0) ms (partAt rows (getD nexts j 0) .members)) (none-past rows (length rows) (omega arith) ∙ sym (none-after j o));
+        next = λ j. f .next j ∙ ap (λ (ms : Members). firstMembers (among j (memberRows (alone o))) (getD parents j 0) ms (partAt rows (getD nexts j 0) .members)) (none-past rows (length rows) (omega arith) ∙ sym (none-after j o));
       })
 
   pub bare-noted : partAt rows r .process ≡ none → RowNoted rows r parents nexts parents nexts
@@ -204,14 +208,14 @@ module _ (rows : List ℤ) where
 
   -- what is noted once the rows below r have been gone through
   pub record NotedBelow (r : ℕ) (parents nexts : List ℕ) : Type 0 where
-    pub parent : (j : ℕ) → j < rowCount rows → getD parents j 0 ≡ rowNote (lowest (hasMember j) r)
-    pub next : (j q : ℕ) → j < rowCount rows → getD parents j 0 ≡ q + 1 → partAt rows (getD nexts j 0) .members ≡ membersAfter j (membersIn (processAt (program rows) q))
+    pub parent : (j : ℕ) → getD parents j 0 ≡ rowNote (lowest (hasMember j) r)
+    pub next : (j q : ℕ) → getD parents j 0 ≡ q + 1 → partAt rows (getD nexts j 0) .members ≡ membersAfter j (membersIn (processAt (program rows) q))
 
   pub noted-first : (parents nexts : List ℕ) → ((j : ℕ) → getD parents j 0 ≡ 0) → NotedBelow 0 parents nexts
   noted-first parents nexts z =
       record {
-        parent = λ j l. z j ∙ sym (lowest-none (hasMember j));
-        next = λ j q l e. let i : _≡_ {A = ℕ} 0 (q + 1) = sym (z j) ∙ e in absurd (omega arith);
+        parent = λ j. z j ∙ sym (lowest-none (hasMember j));
+        next = λ j q e. let i : _≡_ {A = ℕ} 0 (q + 1) = sym (z j) ∙ e in absurd (omega arith);
       }
 
   -- a note is the new one, with the new members after it, or the one that stood
@@ -223,18 +227,16 @@ module _ (rows : List ℤ) where
   pub noted-next : (r : ℕ) (parents nexts parents₁ nexts₁ : List ℕ) → NotedBelow r parents nexts → RowNoted rows r parents nexts parents₁ nexts₁ → NotedBelow (r + 1) parents₁ nexts₁
   noted-next r parents nexts parents₁ nexts₁ k f =
       record {
-        parent = λ j l. f .parent j l ∙ ap (firstNote (hasMember j r) (r + 1)) (k .parent j l) ∙ sym (lowest-next (hasMember j) r);
-        next = λ j q l e.
-            f .next j l
-            ∙ note-is (hasMember j r) r (getD parents j 0) q (λ q. membersAfter j (membersIn (processAt (program rows) q))) (partAt rows (getD nexts j 0) .members) (sym (f .parent j l) ∙ e) (k .next j q l);
+        parent = λ j. f .parent j ∙ ap (firstNote (hasMember j r) (r + 1)) (k .parent j) ∙ sym (lowest-next (hasMember j) r);
+        next = λ j q e.
+            f .next j
+            ∙ note-is (hasMember j r) r (getD parents j 0) q (λ q. membersAfter j (membersIn (processAt (program rows) q))) (partAt rows (getD nexts j 0) .members) (sym (f .parent j) ∙ e) (k .next j q);
       }
 
-  pub noted-all : (r : ℕ) (parents nexts : List ℕ) → r ≡ rowCount rows → NotedBelow r parents nexts → ParentsNoted rows parents nexts
-  noted-all r parents nexts e k =
-      record {
-        parent = λ j l. k .parent j l ∙ ap rowNote (parent-is j);
-        next = λ j q l i. k .next j q l (k .parent j l ∙ ap rowNote (parent-is j ∙ i));
-      }
-    where
-      parent-is : (j : ℕ) → lowest (hasMember j) r ≡ parentOf (program rows) j
-      parent-is j = ap (lowest (hasMember j)) (e ∙ sym (processes-length rows)) ∙ sym (parent-lowest j)
+  module _ (r : ℕ) (parents nexts : List ℕ) (e : r ≡ rowCount rows) (k : NotedBelow r parents nexts) where
+    -- each row has the note of its parent
+    pub noted-parent : (j : ℕ) → getD parents j 0 ≡ rowNote (parentOf (program rows) j)
+    noted-parent j = k .parent j ∙ ap rowNote (ap (lowest (hasMember j)) (e ∙ sym (processes-length rows)) ∙ sym (parent-lowest j))
+
+    pub noted-all : ParentsNoted rows parents nexts
+    noted-all = record { parent = λ j l. noted-parent j; next = λ j q l i. k .next j q (noted-parent j ∙ ap rowNote i) }

@@ -1,21 +1,65 @@
 -- The parent of each row, noted once for a table: the process that it is a member of, and the link to the members after it.
 use mathlib.Core.Path.{_≡_}
+use mathlib.Core.Logic.{_⊎_}
 use mathlib.Core.Bool.{Bool, true, false}
-use mathlib.Core.Option.{some}
-use mathlib.Core.List.{List}
+use mathlib.Core.Option.{Option, none, some}
+use mathlib.Core.List.{List, map}
 use Prim.Native.Nat.{ℕ, zero, suc, _+_, _<_}
 use lib.IntN.{ℤ}
-use lib.ListN.{getD, set}
-use lib.Dec.{eqb}
-use Rattle.meaning.specs.Basics.{ifElse, among}
+use lib.ListN.{length, getD, set}
+use lib.Dec.{ltb, eqb}
+use Rattle.meaning.specs.Basics.{ifElse, among, lowest}
 use Rattle.meaning.specs.Rows.{rowCount}
 use Rattle.meaning.specs.Tree.{Members, partAt, membersIn}
+use Rattle.meaning.specs.Usage.{range}
 use Rattle.meaning.specs.State.{program, processAt}
+use Rattle.settling.specs.declared.shape.Shape.{Shape}
+use Rattle.settling.specs.declared.shape.Shape.the-variants.{Ending, Repeating, Link, Neither}
 use Rattle.settling.specs.Members.{alone}
+use Rattle.settling.specs.Shapes.{shapeAt}
 use Rattle.machine.specs.Upward.{memberRows, parentOf, membersAfter}
 use Rattle.notes.specs.Marks.{rowNote, firstNote}
 
--- one more than each row's parent is noted, 0 where it has none, and a row from which the members after it follow
+-- row t, or the row after the last where it is past the table
+abbrev pub inTable : List ℤ → ℕ → ℕ
+inTable rows t = ifElse (ltb t (rowCount rows)) t (rowCount rows)
+
+-- is a row, by its part in settling, the link to the member of row p
+abbrev pub isLinkTo : ℕ → Shape → Bool
+isLinkTo p (Ending m f) = false
+isLinkTo p (Repeating b) = false
+isLinkTo p (Link q t) = eqb q p
+isLinkTo p Neither = false
+
+-- the link after a link
+abbrev pub linkAfter : List ℤ → Shape → ℕ
+linkAfter rows (Ending m f) = rowCount rows
+linkAfter rows (Repeating b) = rowCount rows
+linkAfter rows (Link q t) = inTable rows t
+linkAfter rows Neither = rowCount rows
+
+abbrev pub linkAfterRow : List ℤ → Option ℕ → ℕ
+linkAfterRow rows none = rowCount rows
+linkAfterRow rows (some t) = linkAfter rows (shapeAt rows t)
+
+-- the link after the one to the member of row p; the row after the last where there is none, or p is the body of a WHILE
+unfoldable pub nextLink : List ℤ → ℕ → ℕ
+nextLink rows p = linkAfterRow rows (lowest (λ t. isLinkTo p (shapeAt rows t)) (rowCount rows))
+
+-- a number for a row that has a parent, the old one for any other
+abbrev pub ifParent : Option ℕ → ℕ → ℕ → ℕ
+ifParent none new old = old
+ifParent (some q) new old = new
+
+-- one more than the parent of each of n rows, 0 where it has none
+unfoldable pub parentNotes : List ℤ → ℕ → List ℕ
+parentNotes rows n = map (λ r. rowNote (parentOf (program rows) r)) (range 0 n)
+
+-- the next link of each row that has a parent, in place of old numbers
+unfoldable pub nextNotes : List ℤ → List ℕ → List ℕ
+nextNotes rows old = map (λ r. ifParent (parentOf (program rows) r) (nextLink rows r) (getD old r 0)) (range 0 (length old))
+
+-- what these notes mean: one more than each row's parent is noted, 0 where it has none, and a row from which the members after it follow
 pub record ParentsNoted (rows : List ℤ) (parents nexts : List ℕ) : Type 0 where
   pub parent : (r : ℕ) → r < rowCount rows → getD parents r 0 ≡ rowNote (parentOf (program rows) r)
   pub next : (r q : ℕ) → r < rowCount rows → parentOf (program rows) r ≡ some q → partAt rows (getD nexts r 0) .members ≡ membersAfter r (membersIn (processAt (program rows) q))
@@ -32,10 +76,22 @@ firstMembers true (suc old) new kept = kept
 
 -- a parent is noted at each row of a list that has none yet, and a row from which the members after it follow; other notes stay
 pub record Noted (rows : List ℤ) (list : List ℕ) (after : ℕ → Members) (note : ℕ) (parents nexts parentsLeft nextsLeft : List ℕ) : Type 0 where
-  pub parent : (j : ℕ) → j < rowCount rows → getD parentsLeft j 0 ≡ firstNote (among j list) note (getD parents j 0)
-  pub next : (j : ℕ) → j < rowCount rows → partAt rows (getD nextsLeft j 0) .members ≡ firstMembers (among j list) (getD parents j 0) (after j) (partAt rows (getD nexts j 0) .members)
+  pub parent : (j : ℕ) → getD parentsLeft j 0 ≡ firstNote (among j list) note (getD parents j 0)
+  pub next : (j : ℕ) → partAt rows (getD nextsLeft j 0) .members ≡ firstMembers (among j list) (getD parents j 0) (after j) (partAt rows (getD nexts j 0) .members)
+
+-- each row's notes are as they were, or new: a parent, and a number n at row j of which `At j n`
+pub record Numbered (At : ℕ → ℕ → Type 0) (parents nexts parentsLeft nextsLeft : List ℕ) : Type 0 where
+  pub number : (j : ℕ) → ((getD parentsLeft j 0 ≡ getD parents j 0) × (getD nextsLeft j 0 ≡ getD nexts j 0)) ⊎ ((getD parentsLeft j 0 ≡ 0 → ⊥) × At j (getD nextsLeft j 0))
 
 module _ (rows : List ℤ) where
+  -- the link after the one to row j, or the row after the last if j is the body of a WHILE
+  abbrev pub NextOf : ℕ → ℕ → Type 0
+  NextOf j n = (j < rowCount rows) × (((t q : ℕ) × (t < rowCount rows) × (shapeAt rows t ≡ Link j q) × (n ≡ inTable rows q)) ⊎ ((w : ℕ) × (w < rowCount rows) × (shapeAt rows w ≡ Repeating j) × (n ≡ rowCount rows)))
+
+  -- link t at row p
+  abbrev pub NextIs : ℕ → ℕ → ℕ → ℕ → Type 0
+  NextIs p t j n = (j ≡ p) × (p < rowCount rows) × (n ≡ inTable rows t)
+
   -- a parent is noted at row p, if a process stands there, with the members of link t after it
   abbrev pub MemberNoted : ℕ → ℕ → ℕ → List ℕ → List ℕ → List ℕ → List ℕ → Type 0
   MemberNoted p t = Noted rows (memberRows (alone (partAt rows p .process))) (λ j. partAt rows t .members)

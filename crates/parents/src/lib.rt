@@ -6,7 +6,7 @@ ghost use lib.ListN.{length};
 ghost use Rattle.meaning.specs.Rows.{rowCount};
 ghost use Rattle.meaning.specs.Tree.{partAt};
 ghost use Rattle.meaning.specs.Answers.{check};
-ghost use Rattle.parents.specs.Parents.{ParentsNoted, whereFree, MemberNoted, MembersNoted, RowNoted};
+ghost use Rattle.parents.specs.Parents.{inTable, parentNotes, nextNotes, ParentsNoted, whereFree, Numbered, NextOf, NextIs, MemberNoted, MembersNoted, RowNoted};
 use notes::owners::clear_notes;
 use settling::shape::Shape;
 use settling::shape::is_process;
@@ -15,7 +15,7 @@ use settling::shape::shape_at;
 // Link t as a note; past the table, where nothing stands, the row after the last.
 fn link_note(rows: &[i32], t: usize) -> u16
     requires few { ⌜ rowCount (now rows) ≤ 1024 ⌝ }
-    ensures { λ n. ⌜ partAt (now (rows .entry)) n .members ≡ partAt (now (rows .entry)) t .members ⌝ }
+    ensures { λ n. ⌜ n ≡ inTable (now (rows .entry)) t ⌝ }
 {
     if t < rows.len() / 4 {
         return t as u16;
@@ -39,7 +39,9 @@ fn note_parent(parents: &mut [u16], nexts: &mut [u16], p: usize, note: u16, next
 fn note_member(rows: &[i32], p: usize, t: usize, note: u16, parents: &mut [u16], nexts: &mut [u16])
     requires few { ⌜ rowCount (now rows) ≤ 1024 ⌝ }
     requires room { ⌜ (rowCount (now rows) ≤ length (now parents)) × (rowCount (now rows) ≤ length (now nexts)) ⌝ }
-    ensures { λ _. ⌜ MemberNoted (now (rows .entry)) p t note (now (parents .entry)) (now (nexts .entry)) (now (parents .exit)) (now (nexts .exit)) ⌝ }
+    requires real { ⌜ 0 < note ⌝ }
+    ensures noted { λ _. ⌜ MemberNoted (now (rows .entry)) p t note (now (parents .entry)) (now (nexts .entry)) (now (parents .exit)) (now (nexts .exit)) ⌝ }
+    ensures numbers { λ _. ⌜ Numbered (NextIs (now (rows .entry)) p t) (now (parents .entry)) (now (nexts .entry)) (now (parents .exit)) (now (nexts .exit)) ⌝ }
 {
     if is_process(rows, p) {
         let next = link_note(rows, t);
@@ -52,7 +54,8 @@ fn note_members(rows: &[i32], m: usize, note: u16, parents: &mut [u16], nexts: &
     requires few { ⌜ rowCount (now rows) ≤ 1024 ⌝ }
     requires room { ⌜ (rowCount (now rows) ≤ length (now parents)) × (rowCount (now rows) ≤ length (now nexts)) ⌝ }
     requires real { ⌜ 0 < note ⌝ }
-    ensures { λ _. ⌜ MembersNoted (now (rows .entry)) (partAt (now (rows .entry)) m .members) note (now (parents .entry)) (now (nexts .entry)) (now (parents .exit)) (now (nexts .exit)) ⌝ }
+    ensures noted { λ _. ⌜ MembersNoted (now (rows .entry)) (partAt (now (rows .entry)) m .members) note (now (parents .entry)) (now (nexts .entry)) (now (parents .exit)) (now (nexts .exit)) ⌝ }
+    ensures numbers { λ _. ⌜ Numbered (NextOf (now (rows .entry))) (now (parents .entry)) (now (nexts .entry)) (now (parents .exit)) (now (nexts .exit)) ⌝ }
 {
     let mut t = m;
     while t < rows.len() / 4 {
@@ -80,7 +83,8 @@ fn note_row(rows: &[i32], r: usize, parents: &mut [u16], nexts: &mut [u16])
     requires few { ⌜ rowCount (now rows) ≤ 1024 ⌝ }
     requires room { ⌜ (rowCount (now rows) ≤ length (now parents)) × (rowCount (now rows) ≤ length (now nexts)) ⌝ }
     requires inside { ⌜ r < rowCount (now rows) ⌝ }
-    ensures { λ _. ⌜ RowNoted (now (rows .entry)) r (now (parents .entry)) (now (nexts .entry)) (now (parents .exit)) (now (nexts .exit)) ⌝ }
+    ensures noted { λ _. ⌜ RowNoted (now (rows .entry)) r (now (parents .entry)) (now (nexts .entry)) (now (parents .exit)) (now (nexts .exit)) ⌝ }
+    ensures numbers { λ _. ⌜ Numbered (NextOf (now (rows .entry))) (now (parents .entry)) (now (nexts .entry)) (now (parents .exit)) (now (nexts .exit)) ⌝ }
 {
     let s = shape_at(rows, r);
     match s {
@@ -95,11 +99,13 @@ fn note_row(rows: &[i32], r: usize, parents: &mut [u16], nexts: &mut [u16])
     }
 }
 
-// Notes the parent of each row: one more than the row of the process that it is a member of, or 0.
+// Notes the parent of each row: one more than the row of the process that it is a member of, or 0; and where there is one, the link to the members after the row.
 pub fn note_parents(rows: &[i32], parents: &mut [u16], nexts: &mut [u16])
     requires accepted { ⌜ check (now rows) ≡ none ⌝ }
     requires room { ⌜ (rowCount (now rows) ≤ length (now parents)) × (rowCount (now rows) ≤ length (now nexts)) ⌝ }
-    ensures { λ _. ⌜ ParentsNoted (now (rows .entry)) (now (parents .exit)) (now (nexts .exit)) ⌝ }
+    ensures notes { λ _. ⌜ now (parents .exit) ≡ parentNotes (now (rows .entry)) (length (now (parents .entry))) ⌝ }
+    ensures links { λ _. ⌜ now (nexts .exit) ≡ nextNotes (now (rows .entry)) (now (nexts .entry)) ⌝ }
+    ensures meaning { λ _. ⌜ ParentsNoted (now (rows .entry)) (now (parents .exit)) (now (nexts .exit)) ⌝ }
 {
     clear_notes(parents);
     let mut r = 0;

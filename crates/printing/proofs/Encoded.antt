@@ -16,13 +16,13 @@ use Rattle.meaning.specs.Rows.{rowCount, declarations}
 use Rattle.meaning.specs.Basics.{isSome}
 use Rattle.meaning.specs.Declarations.{sumBelow, cellsAt, capacityAt, totalCells, totalPorts, channels}
 use Rattle.meaning.specs.State.{Message, State}
-use Rattle.meaning.specs.Buffers.{Buffers, sized, lent, mark, numberIn, capacities, strips, encode}
+use Rattle.meaning.specs.Buffers.{Buffers, sized, lent, mark, numberIn, decoded, capacities, strips, encode}
 use Rattle.meaning.specs.Printing.{Line, var, numbered, cellsOf, cellLines, outLines, stopLines, answerLine, runLines, page}
 use Rattle.meaning.specs.Answers.{ran}
 use Rattle.meaning.specs.Runner.{printedResult}
 use Rattle.meaning.specs.PrintedForms.{Each, each-none, each-more}
 use Rattle.meaning.specs.Run.{Result}
-use Rattle.printing.specs.Decoding.{cellsIn, outputsIn, tableRows, resultIn}
+use Rattle.printing.specs.Decoding.{outputsIn, tableRows, resultIn}
 use Rattle.printing.proofs.RowLines.{cellsBelow, cells-below-none, cells-below-all, cells-below-more, total, ports-below, capacities-below}
 
 -- Lent buffers ----------------------------------------------------------------------------------------------------------------------
@@ -55,8 +55,7 @@ module _ {A : Type 0} (limit : ℕ) (d : A) (xs old : List A) where
 -- Cells -----------------------------------------------------------------------------------------------------------------------------
 
 -- a cell comes back from its mark and its number, with whatever stands behind
-cells-back : (cells : List Message) (ms : List ℕ) (zs : List ℤ) → cellsIn (map mark cells ++ ms) (map numberIn cells ++ zs) ≡ cells ++ cellsIn ms zs
-unfolding cellsIn
+cells-back : (cells : List Message) (ms : List ℕ) (zs : List ℤ) → decoded (map numberIn cells ++ zs) (map mark cells ++ ms) ≡ cells ++ decoded zs ms
 cells-back [] ms zs = refl
 cells-back (none ∷ cells) ms zs = ap {B = List Message} (λ l. none ∷ l) (cells-back cells ms zs)
 cells-back (some z ∷ cells) ms zs = ap {B = List Message} (λ l. some z ∷ l) (cells-back cells ms zs)
@@ -157,9 +156,9 @@ module _ (rows : List ℤ) (s : State) (b : Buffers) (h : Held rows s) where
   cells-said o n =
       let few : length (s .store .cells) ≤ maxCells = (let a = h .cells-all in let f = h .cells-few in omega arith) in
       ap (cellLines rows) (
-      ap₂ cellsIn
-      (lent-front maxCells 0 (map mark (s .store .cells)) (b .marks) ∙ sized-long maxCells 0 (map mark (s .store .cells)) (b .marks) (omega (arith, length-map (s .store .cells) mark)))
+      ap₂ decoded
       (lent-front maxCells (pos 0) (map numberIn (s .store .cells)) (b .cells) ∙ sized-long maxCells (pos 0) (map numberIn (s .store .cells)) (b .cells) (omega (arith, length-map (s .store .cells) numberIn)))
+      (lent-front maxCells 0 (map mark (s .store .cells)) (b .marks) ∙ sized-long maxCells 0 (map mark (s .store .cells)) (b .marks) (omega (arith, length-map (s .store .cells) mark)))
       ∙ cells-back (s .store .cells) _ _
       )
       ∙ cell-lines-inside rows (s .store .cells) _ (h .cells-all)

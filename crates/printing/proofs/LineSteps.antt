@@ -13,10 +13,10 @@ use lib.Dec.{leb}
 use borrow.Author.Tests.{eq-eqb, ne-eqb, le-leb, lt-leb}
 use Rattle.meaning.specs.Basics.{ifElse}
 use Rattle.meaning.specs.Printing.{Word, Line, line, numbered, stop, stopLines, wordBytes, valueBytes, lineBytes}
+use Rattle.meaning.specs.Buffers.{cellOf, decoded}
 use Rattle.numbers.specs.declared.Text.{Text}
 use Rattle.numbers.specs.Printing.{textOf}
 use Rattle.writing.specs.Writing.{Writer, putAll, putLines, shown, lineOf}
-use Rattle.printing.specs.Decoding.{cellIn, cellsIn}
 use Rattle.writing.proofs.Writers.{shown-text, putLines-append, putLines-none, putLines-one}
 
 -- a line whose value is a text
@@ -50,52 +50,46 @@ strip-done (z ∷ zs) (suc i) h = strip-done zs i (omega arith)
 
 -- Cells ---------------------------------------------------------------------------------------------------------------------------
 
-pub cell-unset : (m : ℕ) (z : ℤ) → m ≡ 0 → cellIn m z ≡ none
+pub cell-unset : (m : ℕ) (z : ℤ) → m ≡ 0 → cellOf z m ≡ none
 cell-unset m z h = ap (λ (t : Bool). ifElse t none (some z)) (eq-eqb m 0 h)
 
-pub cell-set : (m : ℕ) (z : ℤ) → (m ≡ 0 → ⊥) → cellIn m z ≡ some z
+pub cell-set : (m : ℕ) (z : ℤ) → (m ≡ 0 → ⊥) → cellOf z m ≡ some z
 cell-set m z h = ap (λ (t : Bool). ifElse t none (some z)) (ne-eqb m 0 h)
 
-pub cells-next : (ms : List ℕ) (zs : List ℤ) (i : ℕ) → i < length ms → i < length zs → drop i (cellsIn ms zs) ≡ cellIn (getD ms i 0) (getD zs i (pos 0)) ∷ drop (suc i) (cellsIn ms zs)
-unfolding cellsIn
+pub cells-next : (ms : List ℕ) (zs : List ℤ) (i : ℕ) → i < length ms → i < length zs → drop i (decoded zs ms) ≡ cellOf (getD zs i (pos 0)) (getD ms i 0) ∷ drop (suc i) (decoded zs ms)
 cells-next (m ∷ ms) (z ∷ zs) zero h k = refl
 cells-next (m ∷ ms) (z ∷ zs) (suc i) h k = cells-next ms zs i (omega arith) (omega arith)
 
-pub cells-done : (ms : List ℕ) (zs : List ℤ) (i : ℕ) → length ms ≤ i → drop i (cellsIn ms zs) ≡ []
-unfolding cellsIn
-cells-done [] zs i h = drop-nil i
-cells-done (m ∷ ms) [] i h = drop-nil i
+pub cells-done : (ms : List ℕ) (zs : List ℤ) (i : ℕ) → length ms ≤ i → drop i (decoded zs ms) ≡ []
+cells-done ms [] i h = drop-nil i
+cells-done [] (z ∷ zs) i h = drop-nil i
 cells-done (m ∷ ms) (z ∷ zs) zero h = absurd (omega arith)
 cells-done (m ∷ ms) (z ∷ zs) (suc i) h = cells-done ms zs i (omega arith)
 
-pub cells-out : (ms : List ℕ) (zs : List ℤ) (i : ℕ) → length zs ≤ i → drop i (cellsIn ms zs) ≡ []
-unfolding cellsIn
-cells-out [] zs i h = drop-nil i
-cells-out (m ∷ ms) [] i h = drop-nil i
+pub cells-out : (ms : List ℕ) (zs : List ℤ) (i : ℕ) → length zs ≤ i → drop i (decoded zs ms) ≡ []
+cells-out ms [] i h = drop-nil i
+cells-out [] (z ∷ zs) i h = drop-nil i
 cells-out (m ∷ ms) (z ∷ zs) zero h = absurd (omega arith)
 cells-out (m ∷ ms) (z ∷ zs) (suc i) h = cells-out ms zs i (omega arith)
 
 -- a part of the marks and of the numbers gives the part of the cells
-cells-take : (ms : List ℕ) (zs : List ℤ) (n : ℕ) → cellsIn (take n ms) (take n zs) ≡ take n (cellsIn ms zs)
-unfolding cellsIn
+cells-take : (ms : List ℕ) (zs : List ℤ) (n : ℕ) → decoded (take n zs) (take n ms) ≡ take n (decoded zs ms)
 cells-take ms zs zero = refl
-cells-take [] zs (suc n) = refl
-cells-take (m ∷ ms) [] (suc n) = refl
-cells-take (m ∷ ms) (z ∷ zs) (suc n) = ap {B = List (Option ℤ)} (λ l. cellIn m z ∷ l) (cells-take ms zs n)
+cells-take ms [] (suc n) = refl
+cells-take [] (z ∷ zs) (suc n) = refl
+cells-take (m ∷ ms) (z ∷ zs) (suc n) = ap {B = List (Option ℤ)} (λ l. cellOf z m ∷ l) (cells-take ms zs n)
 
-cells-without : (ms : List ℕ) → cellsIn ms [] ≡ []
-unfolding cellsIn
+cells-without : (zs : List ℤ) → decoded zs [] ≡ []
 cells-without [] = refl
-cells-without (m ∷ ms) = refl
+cells-without (z ∷ zs) = refl
 
-cells-drop : (ms : List ℕ) (zs : List ℤ) (n : ℕ) → cellsIn (drop n ms) (drop n zs) ≡ drop n (cellsIn ms zs)
-unfolding cellsIn
+cells-drop : (ms : List ℕ) (zs : List ℤ) (n : ℕ) → decoded (drop n zs) (drop n ms) ≡ drop n (decoded zs ms)
 cells-drop ms zs zero = refl
-cells-drop [] zs (suc n) = refl
-cells-drop (m ∷ ms) [] (suc n) = cells-without (drop n ms)
+cells-drop ms [] (suc n) = refl
+cells-drop [] (z ∷ zs) (suc n) = cells-without (drop n zs)
 cells-drop (m ∷ ms) (z ∷ zs) (suc n) = cells-drop ms zs n
 
-pub cells-part : (ms : List ℕ) (zs : List ℤ) (from size : ℕ) → cellsIn (take size (drop from ms)) (take size (drop from zs)) ≡ take size (drop from (cellsIn ms zs))
+pub cells-part : (ms : List ℕ) (zs : List ℤ) (from size : ℕ) → decoded (take size (drop from zs)) (take size (drop from ms)) ≡ take size (drop from (decoded zs ms))
 cells-part ms zs from size = cells-take (drop from ms) (drop from zs) size ∙ ap (take size) (cells-drop ms zs from)
 
 -- Stopped rows --------------------------------------------------------------------------------------------------------------------

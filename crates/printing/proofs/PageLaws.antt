@@ -7,10 +7,10 @@ use lib.IntN.{ℤ}
 use lib.ListN.{length, take, length-take}
 use Rattle.meaning.specs.declared.Outcome.{Outcome}
 use Rattle.meaning.specs.Basics.{concat}
-use Rattle.meaning.specs.Buffers.{capacities}
+use Rattle.meaning.specs.Buffers.{decoded, capacities}
 use Rattle.meaning.specs.Printing.{Line, lineBytes, namesLine, page, runLines}
 use Rattle.writing.specs.Writing.{printedIn, Writer, putAll, putLines}
-use Rattle.printing.specs.Decoding.{cellsIn, outputsIn, tableRows, partLines, resultIn}
+use Rattle.printing.specs.Decoding.{outputsIn, tableRows, partLines, resultIn}
 use Rattle.writing.proofs.Writers.{putAll-append, putAll-first, putLines-append}
 
 pub page-made : (a : Line) (cells outs stops : List Line) (old : List ℕ) {w₁ w₂ w₃ w₄ w₅ : Writer}
@@ -37,7 +37,7 @@ take-short n l = omega (arith, length-take n l)
 pub run-made : (rows : List ℤ) (o : Outcome) (n : ℕ) (values : List ℤ) (marks states : List ℕ) (numbers : List ℤ) (counts old : List ℕ) {w : Writer}
     {T cutValues cutNumbers : List ℤ} {cutMarks cutStates cutCounts : List ℕ}
     → T ≡ take 4096 rows → cutValues ≡ take 256 values → cutMarks ≡ take 256 marks → cutStates ≡ take (length T / 4) states → cutNumbers ≡ take 1024 numbers → cutCounts ≡ take 8 counts
-    → w ≡ printedIn (page (partLines T o n (cellsIn cutMarks cutValues) (outputsIn (capacities T) cutCounts cutNumbers) cutStates)) old
+    → w ≡ printedIn (page (partLines T o n (decoded cutValues cutMarks) (outputsIn (capacities T) cutCounts cutNumbers) cutStates)) old
     → w ≡ printedIn (page (runLines (tableRows rows) (resultIn (tableRows rows) o n values marks states numbers counts))) old
 unfolding runLines
 run-made rows o n values marks states numbers counts old t v m s z k e = rw (s, t, v, m, z, k) at e

@@ -13,11 +13,11 @@ use Rattle.meaning.specs.Rows.{naturalAt, declarations}
 use Rattle.meaning.specs.Basics.{ifElse, concat, allBelow}
 use Rattle.meaning.specs.Declarations.{sumBelow, isVariable, hasRole, cellsAt, portsAt, capacityAt, variables, channels}
 use Rattle.meaning.specs.State.{Message}
-use Rattle.meaning.specs.Buffers.{capacities}
+use Rattle.meaning.specs.Buffers.{decoded, capacities}
 use Rattle.meaning.specs.Printing.{Line, var, out, numbered, cellsOf, cellLines, outLines}
 use Rattle.rows.proofs.Leading.{declarations-at-most}
 use Rattle.writing.specs.Writing.{Writer, putLines}
-use Rattle.printing.specs.Decoding.{cellsIn, outputsIn}
+use Rattle.printing.specs.Decoding.{outputsIn}
 use Rattle.writing.proofs.Writers.{putLines-append}
 use Rattle.printing.proofs.LineSteps.{cells-part}
 
@@ -160,13 +160,13 @@ part-short from size zs = omega (arith, length-take size (drop from zs), length-
 -- after the lines of the variables below row r, those of row r
 pub cells-step : (rows : List ℤ) (ms : List ℕ) (zs : List ℤ) (r first size : ℕ) (x : Writer) {v w : Writer} {ns : List ℕ} {ys : List ℤ}
     → first ≡ sumBelow (cellsAt rows) r → size ≡ cellsAt rows r → ns ≡ take size (drop first ms) → ys ≡ take size (drop first zs)
-    → v ≡ putLines (cellsBelow rows (cellsIn ms zs) r) x → w ≡ putLines (numbered var r 0 (cellsIn ns ys)) v → w ≡ putLines (cellsBelow rows (cellsIn ms zs) (r + 1)) x
+    → v ≡ putLines (cellsBelow rows (decoded zs ms) r) x → w ≡ putLines (numbered var r 0 (decoded ys ns)) v → w ≡ putLines (cellsBelow rows (decoded zs ms) (r + 1)) x
 cells-step rows ms zs r first size x f s n y e d =
     d
     ∙ ap₂ (λ (l : List Message) (u : Writer). putLines (numbered var r 0 l) u)
-    (ap₂ cellsIn n y ∙ cells-part ms zs first size ∙ ap₂ (λ (m k : ℕ). take m (drop k (cellsIn ms zs))) s f)
+    (ap₂ decoded y n ∙ cells-part ms zs first size ∙ ap₂ (λ (m k : ℕ). take m (drop k (decoded zs ms))) s f)
     e
-    ∙ sym (ap (λ (l : List Line). putLines l x) (cells-below-more rows (cellsIn ms zs) r) ∙ putLines-append (cellsBelow rows (cellsIn ms zs) r) _ x)
+    ∙ sym (ap (λ (l : List Line). putLines l x) (cells-below-more rows (decoded zs ms) r) ∙ putLines-append (cellsBelow rows (decoded zs ms) r) _ x)
 
 -- after the lines of the output channels below row r, those of row r
 pub outs-step : (rows : List ℤ) (counts : List ℕ) (zs : List ℤ) (r first port given : ℕ) (x : Writer) {v w : Writer} {ys : List ℤ}

@@ -5,7 +5,7 @@ use mathlib.Core.List.{List, [], _∷_, _++_, append-nil, append-assoc}
 use Prim.Native.Nat.{ℕ, suc, _+_, _-_, _≤_, _<_}
 use native.Mathlib.Omega.{arith}
 use lib.ListN.{length, take, drop, length-drop, drop-of-length-le}
-use lib.Seq.{take-add, drop-drop}
+use lib.Seq.{length-take-le, take-add, drop-drop}
 use lib.Dec.{eqb}
 use Rattle.meaning.specs.Texts.{lineFeed}
 use Rattle.meaning.specs.Basics.{ifElse}
@@ -14,7 +14,8 @@ use Rattle.meaning.specs.Runner.{separator, tablePart, sheetPart}
 use Rattle.meaning.proofs.FirstLine.{lines-first}
 use Rattle.meaning.proofs.LineLaws.{concat-lines}
 use Rattle.table.proofs.ScanSteps.{size-within}
-use Rattle.printing.specs.Splitting.{Splits}
+use Rattle.printing.specs.declared.Parts.{Parts}
+use Rattle.printing.specs.Splitting.{partsOf, Splits}
 
 -- the first line, and the lines of what is after it
 some-line : (l : List ℕ) → 0 < length l → lines l ≡ take (lineSize l) l ∷ lines (drop (lineSize l) l)
@@ -110,3 +111,15 @@ module _ (s : List ℕ) where
         table-inside = p .inside;
         sheet-inside = p .inside;
       }
+
+-- the parts settle the places
+parts-are : (s : List ℕ) (p : Parts) → Splits s p → p ≡ partsOf s
+unfolding partsOf
+parts-are s p h =
+    let end : p .end ≡ length (tablePart (lines s)) = sym (length-take-le (p .end) s (h .table-inside)) ∙ ap (λ (l : List ℕ). length l) (h .table) in
+    let size : length (sheetPart (lines s)) ≡ length s - p .start = sym (ap (λ (l : List ℕ). length l) (h .sheet)) ∙ length-drop (p .start) s in
+    let start : p .start ≡ length s - length (sheetPart (lines s)) = omega (arith, h .sheet-inside, size) in
+    ap₂ (λ (m n : ℕ). record { end = m; start = n }) end start
+
+pub split-is : (s : List ℕ) (p : Parts) → Splits s p → (p ≡ partsOf s) × Splits s p
+split-is s p h = (parts-are s p h, h)

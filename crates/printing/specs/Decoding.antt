@@ -1,30 +1,18 @@
 -- What the lent buffers of a run say: its cells, its output lists and its row states, read back from the arrays.
 use mathlib.Core.List.{List, [], _∷_, _++_, map}
-use mathlib.Core.Option.{none, some}
+use mathlib.Core.Option.{some}
 use Prim.Native.Nat.{ℕ, _*_}
 use lib.IntN.{ℤ}
 use lib.ListN.{take, drop}
-use lib.Dec.{eqb}
 use Rattle.meaning.specs.declared.Outcome.{Outcome}
 use Rattle.meaning.specs.Limits.{maxRows, maxCells, maxPorts, maxCapacity}
-use Rattle.meaning.specs.Basics.{ifElse}
 use Rattle.meaning.specs.Rows.{rowCount}
 use Rattle.meaning.specs.State.{Message, State}
 use Rattle.meaning.specs.declared.Answer.the-variants.{Ran}
 use Rattle.meaning.specs.Declarations.{channels}
-use Rattle.meaning.specs.Buffers.{capacities}
+use Rattle.meaning.specs.Buffers.{decoded, capacities}
 use Rattle.meaning.specs.Printing.{Line, cellLines, outLines, stopLines, answerLine}
 use Rattle.meaning.specs.Run.{Result}
-
--- a cell by its set mark and its number
-abbrev pub cellIn : ℕ → ℤ → Message
-cellIn m z = ifElse (eqb m 0) none (some z)
-
--- cells by their marks and their numbers
-unfoldable pub cellsIn : List ℕ → List ℤ → List Message
-cellsIn [] zs = []
-cellsIn (m ∷ ms) [] = []
-cellsIn (m ∷ ms) (z ∷ zs) = cellIn m z ∷ cellsIn ms zs
 
 -- output lists by their capacities and counts: "A strip follows the one before it by capacity", and its count says how many numbers it has
 unfoldable pub outputsIn : List ℕ → List ℕ → List ℤ → List (List Message)
@@ -42,7 +30,7 @@ stateIn rows values marks states numbers counts =
     record {
       states = take (rowCount rows) states;
       store = record {
-        cells = cellsIn (take maxCells marks) (take maxCells values);
+        cells = decoded (take maxCells values) (take maxCells marks);
         places = [];
         outputs = outputsIn (capacities rows) (take maxPorts counts) (take maxCapacity numbers);
       };

@@ -9,12 +9,12 @@ ghost use Rattle.meaning.specs.Basics.{ifElse};
 ghost use Rattle.meaning.specs.Limits.{maxRows, maxCells, maxCapacity};
 ghost use Rattle.meaning.specs.Rows.{declarations};
 ghost use Rattle.meaning.specs.Declarations.{hasRole, channels};
-ghost use Rattle.meaning.specs.Buffers.{capacities};
+ghost use Rattle.meaning.specs.Buffers.{cellOf, decoded, capacities};
 ghost use Rattle.meaning.specs.Printing as printing;
 ghost use Rattle.meaning.specs.Printing.{var, line, numbered, cellLines, outLines, stopLines, answerLine, valueBytes};
 ghost use Rattle.numbers.specs.Printing.{textOf};
 ghost use Rattle.writing.specs.Writing.{putLines};
-ghost use Rattle.printing.specs.Decoding.{cellIn, cellsIn, outputsIn};
+ghost use Rattle.printing.specs.Decoding.{outputsIn};
 use meaning::Outcome;
 use numbers::Text;
 use writing::put_line;
@@ -22,7 +22,7 @@ use writing::slices;
 
 // A cell's number as text, nothing if the cell is unset.
 fn cell_text(mark: u8, value: i32) -> Text
-    ensures { λ t. ⌜ t ≡ textOf (valueBytes (cellIn mark value)) ⌝ }
+    ensures { λ t. ⌜ t ≡ textOf (valueBytes (cellOf value mark)) ⌝ }
 {
     if mark == 0 {
         return Text {
@@ -35,7 +35,7 @@ fn cell_text(mark: u8, value: i32) -> Text
 
 // The line of a cell.
 fn put_cell(row: u32, position: u32, mark: u8, value: i32, out: &mut [u8], at: usize) -> usize
-    ensures { λ r. ⌜ (r, now (out .exit)) ≡ putLines (line var row position (cellIn mark value) ∷ []) (at, now (out .entry)) ⌝ }
+    ensures { λ r. ⌜ (r, now (out .exit)) ≡ putLines (line var row position (cellOf value mark) ∷ []) (at, now (out .entry)) ⌝ }
 {
     put_line(b"var", row, position, cell_text(mark, value), out, at)
 }
@@ -43,7 +43,7 @@ fn put_cell(row: u32, position: u32, mark: u8, value: i32, out: &mut [u8], at: u
 // A line for each cell of the variable of a row.
 fn put_cells(row: u32, marks: &[u8], values: &[i32], out: &mut [u8], at: usize) -> usize
     requires { ⌜ length (now values) ≤ maxCells ⌝ }
-    ensures { λ r. ⌜ (r, now (out .exit)) ≡ putLines (numbered var row 0 (cellsIn (now (marks .entry)) (now (values .entry)))) (at, now (out .entry)) ⌝ }
+    ensures { λ r. ⌜ (r, now (out .exit)) ≡ putLines (numbered var row 0 (decoded (now (values .entry)) (now (marks .entry)))) (at, now (out .entry)) ⌝ }
 {
     let mut place = at;
     let mut i: usize = 0;
@@ -67,7 +67,7 @@ fn put_cells(row: u32, marks: &[u8], values: &[i32], out: &mut [u8], at: usize) 
 // A line for each cell of each variable.
 pub fn put_variables(rows: &[i32], marks: &[u8], values: &[i32], out: &mut [u8], at: usize) -> usize
     requires { ⌜ (length (now rows) ≤ 4 * maxRows) × (length (now values) ≤ maxCells) ⌝ }
-    ensures { λ r. ⌜ (r, now (out .exit)) ≡ putLines (cellLines (now (rows .entry)) (cellsIn (now (marks .entry)) (now (values .entry)))) (at, now (out .entry)) ⌝ }
+    ensures { λ r. ⌜ (r, now (out .exit)) ≡ putLines (cellLines (now (rows .entry)) (decoded (now (values .entry)) (now (marks .entry)))) (at, now (out .entry)) ⌝ }
 {
     let count = rows::declarations(rows);
     let mut place = at;

@@ -3,10 +3,10 @@ ghost use mathlib.Core.Path.{_≡_};
 ghost use Prim.Native.Nat.{_*_, _≤_};
 ghost use lib.ListN.{length};
 ghost use Rattle.meaning.specs.Limits.{maxRows, maxCells, maxCapacity};
-ghost use Rattle.meaning.specs.Buffers.{capacities};
+ghost use Rattle.meaning.specs.Buffers.{decoded, capacities};
 ghost use Rattle.meaning.specs.Printing.{runLines, refusedLine, lineBytes, page};
 ghost use Rattle.writing.specs.Writing.{printedIn};
-ghost use Rattle.printing.specs.Decoding.{cellsIn, outputsIn, tableRows, partLines, resultIn};
+ghost use Rattle.printing.specs.Decoding.{outputsIn, tableRows, partLines, resultIn};
 use crate::lines;
 use meaning::Outcome;
 use writing::slices;
@@ -38,7 +38,7 @@ fn put_run(
     out: &mut [u8],
 ) -> usize
     requires { ⌜ (length (now rows) ≤ 4 * maxRows) × (length (now values) ≤ maxCells) × (length (now states) ≤ maxRows) × (length (now numbers) ≤ maxCapacity) ⌝ }
-    ensures { λ r. ⌜ (r, now (out .exit)) ≡ printedIn (page (partLines (now (rows .entry)) outcome steps (cellsIn (now (marks .entry)) (now (values .entry))) (outputsIn (capacities (now (rows .entry))) (now (counts .entry)) (now (numbers .entry))) (now (states .entry)))) (now (out .entry)) ⌝ }
+    ensures { λ r. ⌜ (r, now (out .exit)) ≡ printedIn (page (partLines (now (rows .entry)) outcome steps (decoded (now (values .entry)) (now (marks .entry))) (outputsIn (capacities (now (rows .entry))) (now (counts .entry)) (now (numbers .entry))) (now (states .entry)))) (now (out .entry)) ⌝ }
 {
     let mut place = writing::put_bytes(b"what,name,at,value\n", out, 0);
     place = lines::put_answer(outcome, steps, out, place);

@@ -2,7 +2,7 @@
 ghost use mathlib.Core.Path.{_≡_};
 ghost use Rattle.meaning.specs.Lines.{same};
 ghost use Rattle.meaning.specs.Runner.{separator};
-ghost use Rattle.printing.specs.Splitting.{Splits};
+ghost use Rattle.printing.specs.Splitting.{partsOf, Splits};
 use crate::Parts;
 
 // Whether a line is the line `=`.
@@ -14,7 +14,8 @@ fn is_separator(line: &[u8]) -> bool
 
 // The table is what comes before the first line `=`, the sheet what comes after it; without that line all is the table.
 pub fn split(input: &[u8]) -> Parts
-    ensures { λ p. ⌜ Splits (now (input .entry)) p ⌝ }
+    ensures numbers { λ p. ⌜ p ≡ partsOf (now (input .entry)) ⌝ }
+    ensures meaning { λ p. ⌜ Splits (now (input .entry)) p ⌝ }
 {
     let mut at: usize = 0;
     while at < input.len() {

@@ -1,6 +1,7 @@
 pub mod DecimalSteps
 pub mod FieldSteps
 pub mod Grids
+pub mod RightFields
 pub mod LineSteps
 pub mod HeaderSteps
 pub mod HeaderLaws

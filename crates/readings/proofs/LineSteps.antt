@@ -16,8 +16,9 @@ use Rattle.table.specs.Fields.{fieldSize, firstLine, opens, stopOf}
 use Rattle.readings.specs.declared.fields.Field.{Field}
 use Rattle.readings.specs.declared.lines.Line.the-variants.{Right, Wrong}
 use Rattle.readings.specs.Fields.{valueOf, markOf, wrongField, fieldAs, fieldOf}
-use Rattle.readings.specs.Lines.{put, putAll, lineAs, LineRead}
+use Rattle.readings.specs.Lines.{put, putAll, lineAs, rightFields, lineRead}
 use Rattle.table.proofs.ReadFields.{left, leftSize, line-left, left-none, size-left, none-left, no-line-of-none, field-not-ended, field-not-read, field-first}
+use Rattle.readings.proofs.RightFields.{none-unended, none-unread, first-read, right-line}
 
 -- One field ---------------------------------------------------------------------------------------------------------------------
 
@@ -32,6 +33,7 @@ pub record FieldRead (sheet : List ℕ) (at m : ℕ) (f : Field) : Type 0 where
   pub value-is : f .value ≡ valueOf it
   pub mark-is : f .mark ≡ markOf it
   pub readings-left : left reading (suc m) (drop at sheet) ≡ withFirst it (left reading m (drop (f .next) sheet))
+  pub right-left : rightFields (suc m) (drop at sheet) ≡ it ∷ rightFields m (drop (f .next) sheet)
   pub place-left : at + leftSize (suc m) (drop at sheet) ≡ f .next + leftSize m (drop (f .next) sheet)
 
 module _ (sheet : List ℕ) (at m : ℕ) where
@@ -44,13 +46,14 @@ module _ (sheet : List ℕ) (at m : ℕ) where
   abbrev ended : Bool
   ended = opens (stopOf m) (drop n (drop at sheet))
 
-  pub field-wrong : fieldOf (stopOf m) (drop at sheet) at .right ≡ false → left reading (suc m) (drop at sheet) ≡ none
+  pub field-wrong : fieldOf (stopOf m) (drop at sheet) at .right ≡ false → (left reading (suc m) (drop at sheet) ≡ none) × (rightFields (suc m) (drop at sheet) ≡ [])
   unfolding fieldOf
   field-wrong e = go ended refl (reading f) refl e
     where
-      go : (t : Bool) → ended ≡ t → (r : Option (Option ℤ)) → reading f ≡ r → ifElse t (fieldAs r (at + n + 1)) wrongField .right ≡ false → left reading (suc m) (drop at sheet) ≡ none
-      go false i r j h = field-not-ended reading sheet at m i
-      go true i none j h = field-not-read reading sheet at m j
+      go : (t : Bool) → ended ≡ t → (r : Option (Option ℤ)) → reading f ≡ r → ifElse t (fieldAs r (at + n + 1)) wrongField .right ≡ false
+          → (left reading (suc m) (drop at sheet) ≡ none) × (rightFields (suc m) (drop at sheet) ≡ [])
+      go false i r j h = (field-not-ended reading sheet at m i, none-unended sheet at m i)
+      go true i none j h = (field-not-read reading sheet at m j, none-unread sheet at m j)
       go true i (some v) j h = absurd (let c : _≡_ {A = ℕ} 0 1 = cc in omega arith)
 
   pub field-right : fieldOf (stopOf m) (drop at sheet) at .right ≡ true → FieldRead sheet at m (fieldOf (stopOf m) (drop at sheet) at)
@@ -63,7 +66,7 @@ module _ (sheet : List ℕ) (at m : ℕ) where
       go true i none j h = absurd (let c : _≡_ {A = ℕ} 0 1 = cc in omega arith)
       go true i (some v) j h =
           let first = field-first reading sheet at m i v j in
-          record { it = v; value-is = refl; mark-is = refl; readings-left = first .0; place-left = first .1 }
+          record { it = v; value-is = refl; mark-is = refl; readings-left = first .0; right-left = first-read sheet at m i v j; place-left = first .1 }
 
 -- Putting in place ----------------------------------------------------------------------------------------------------------------
 
@@ -117,11 +120,15 @@ unfolding valuesOf
 values-at-start zero s h = absurd (omega arith)
 values-at-start (suc m) s h = (line-left reading m s, size-left m s)
 
--- a line that has no readings is wrong, whatever was put in place
-pub line-wrong : (count line from : ℕ) (s : List ℕ) (values : List ℤ) (marks : List ℕ) (values′ : List ℤ) (marks′ : List ℕ) → valuesOf count (firstLine s) ≡ none
-    → LineRead count line from s values marks Wrong values′ marks′
-line-wrong count line from s values marks values′ marks′ e =
-    record { answer = ap (λ (o : Option (List (Option ℤ))). lineAs o (from + lineSize s)) (sym e); kept = λ vs i. absurd (Option·none-ne-some vs (sym e ∙ i)) }
+-- what was put in place of the readings `vs`, for a line that is read as `o`
+pub line-is : (count line from : ℕ) (s : List ℕ) (values : List ℤ) (marks : List ℕ) (values′ : List ℤ) (marks′ : List ℕ) (o : Option (List (Option ℤ))) (vs : List (Option ℤ)) → valuesOf count (firstLine s) ≡ o → rightFields count s ≡ vs
+    → values′ ≡ putAll valueOf line 0 vs values → marks′ ≡ putAll markOf line 0 vs marks → (lineAs o (from + lineSize s), values′, marks′) ≡ lineRead count line from s values marks
+line-is count line from s values marks values′ marks′ o vs e i j k = rw (e, i, j, k)
+
+-- with no channel a line is wrong, and nothing is put in place
+pub none-put : (count line from : ℕ) (s : List ℕ) (values : List ℤ) (marks : List ℕ) → count ≡ 0 → (Wrong, values, marks) ≡ lineRead count line from s values marks
+unfolding putAll rightFields
+none-put count line from s values marks e = line-is count line from s values marks values marks none [] (ap (λ (k : ℕ). valuesOf k (firstLine s)) e ∙ no-channel s) (ap (λ (k : ℕ). rightFields k s) e) refl refl
 
 module _ (sheet : List ℕ) (from count line : ℕ) (values₀ : List ℤ) (marks₀ : List ℕ) where
   -- j fields of the line are read, and the next begins at `at`
@@ -131,6 +138,7 @@ module _ (sheet : List ℕ) (from count line : ℕ) (values₀ : List ℤ) (mark
     pub so-far : List (Option ℤ)
     pub so-many : length so-far ≡ j
     pub readings-left : left reading count (drop from sheet) ≡ infront so-far (left reading (count - j) (drop at sheet))
+    pub right-left : rightFields count (drop from sheet) ≡ so-far ++ rightFields (count - j) (drop at sheet)
     pub place : from + leftSize count (drop from sheet) ≡ at + leftSize (count - j) (drop at sheet)
     pub values-kept : values ≡ putAll valueOf line 0 so-far values₀
     pub marks-kept : marks ≡ putAll markOf line 0 so-far marks₀
@@ -145,6 +153,7 @@ module _ (sheet : List ℕ) (from count line : ℕ) (values₀ : List ℤ) (mark
         so-far = [];
         so-many = refl;
         readings-left = infront-nothing (left reading count (drop from sheet)) ∙ ap (λ (k : ℕ). infront [] (left reading k (drop from sheet))) all;
+        right-left = ap (λ (k : ℕ). rightFields k (drop from sheet)) all;
         place = ap (λ (k : ℕ). from + leftSize k (drop from sheet)) all;
         values-kept = refl;
         marks-kept = refl;
@@ -175,14 +184,21 @@ module _ (sheet : List ℕ) (from count line : ℕ) (values₀ : List ℤ) (mark
       more : count - j ≡ suc m
       more = omega arith
 
-      -- a field that is wrong makes the line wrong
-      pub stopped : f .right ≡ false → LineRead count line from here values₀ marks₀ Wrong values marks
+      -- a field that is wrong makes the line wrong, and nothing more is put in place
+      pub stopped : f .right ≡ false → (Wrong, values, marks) ≡ lineRead count line from here values₀ marks₀
       stopped r =
-          line-wrong count line from here values₀ marks₀ values marks
+          let wrong = field-wrong sheet at m (sym (ap (λ (g : Field). g .right) e) ∙ r) in
+          line-is count line from here values₀ marks₀ values marks none (h .so-far)
           (no-readings
           (h .readings-left
           ∙ ap (λ (k : ℕ). infront (h .so-far) (left reading k (drop at sheet))) more
-          ∙ ap (infront (h .so-far)) (field-wrong sheet at m (sym (ap (λ (g : Field). g .right) e) ∙ r))))
+          ∙ ap (infront (h .so-far)) (wrong .0)))
+          (h .right-left
+          ∙ ap (λ (k : ℕ). h .so-far ++ rightFields k (drop at sheet)) more
+          ∙ ap {B = List (Option ℤ)} (λ vs. h .so-far ++ vs) (wrong .1)
+          ∙ append-nil (h .so-far))
+          (h .values-kept)
+          (h .marks-kept)
 
       -- a field that is right is put in place
       pub passed : f .right ≡ true → (values′ : List ℤ) (marks′ : List ℕ) (value : ℤ) → value ≡ f .value → values′ ≡ put line j value values → marks′ ≡ put line j (f .mark) marks
@@ -203,6 +219,12 @@ module _ (sheet : List ℕ) (from count line : ℕ) (values₀ : List ℤ) (mark
                 ∙ ap (infront (h .so-far)) (q .readings-left)
                 ∙ infront-one (h .so-far) (q .it) (left reading m (drop (f .next) sheet))
                 ∙ ap (λ (k : ℕ). infront (h .so-far ++ (q .it ∷ [])) (left reading k (drop (f .next) sheet))) (sym less);
+            right-left =
+                h .right-left
+                ∙ ap (λ (k : ℕ). h .so-far ++ rightFields k (drop at sheet)) more
+                ∙ ap {B = List (Option ℤ)} (λ vs. h .so-far ++ vs) (q .right-left)
+                ∙ sym (append-assoc (h .so-far) (q .it ∷ []) (rightFields m (drop (f .next) sheet)))
+                ∙ ap (λ (k : ℕ). (h .so-far ++ (q .it ∷ [])) ++ rightFields k (drop (f .next) sheet)) (sym less);
             place = omega (arith, h .place, q .place-left);
             values-kept = v ∙ kept-more valueOf values values₀ value (q .it) (u ∙ q .value-is) (h .values-kept);
             marks-kept = w ∙ kept-more markOf marks marks₀ (f .mark) (q .it) (q .mark-is) (h .marks-kept);
@@ -217,7 +239,7 @@ module _ (sheet : List ℕ) (from count line : ℕ) (values₀ : List ℤ) (mark
               ∙ put-last kept line 0 (h .so-far) v then
 
     -- after the last field the line is read
-    pub line-right : count ≤ j → LineRead count line from here values₀ marks₀ (Right at) values marks
+    pub line-right : count ≤ j → (Right at, values, marks) ≡ lineRead count line from here values₀ marks₀
     line-right l =
         let finished : count - j ≡ 0 = omega arith in
         let all : valuesOf count (firstLine here) ≡ some (h .so-far) =
@@ -229,9 +251,5 @@ module _ (sheet : List ℕ) (from count line : ℕ) (values₀ : List ℤ) (mark
         in
         let size = ap (λ (k : ℕ). leftSize k (drop at sheet)) finished in
         let end : at ≡ from + lineSize here = omega (arith, h .place, values-at-start count here (h .some-channel) .1, none-left (drop at sheet)) in
-        record {
-          answer = ap Right end ∙ ap (λ (o : Option (List (Option ℤ))). lineAs o (from + lineSize here)) (sym all);
-          kept = λ vs e.
-              let q : h .so-far ≡ vs = Option·some-injective (h .so-far) vs (sym all ∙ e) in
-              (h .values-kept ∙ ap (λ (us : List (Option ℤ)). putAll valueOf line 0 us values₀) q, h .marks-kept ∙ ap (λ (us : List (Option ℤ)). putAll markOf line 0 us marks₀) q);
-        }
+        ap (λ (k : ℕ). (Right k, values, marks)) end
+        ∙ line-is count line from here values₀ marks₀ values marks (some (h .so-far)) (h .so-far) all (right-line count here (h .so-far) all) (h .values-kept) (h .marks-kept)

@@ -25,10 +25,11 @@ use Rattle.readings.specs.declared.lines.Line.{Line}
 use Rattle.readings.specs.declared.lines.Line.the-variants as line-variants
 use Rattle.readings.specs.Fields.{valueOf, markOf}
 use Rattle.readings.specs.Header.{headerRead}
-use Rattle.readings.specs.Lines.{putAll, lineAs, LineRead}
+use Rattle.readings.specs.Lines.{putAll, lineAs, lineRead}
 use Rattle.readings.specs.SheetRead.{tabulated, readingAt, keptAs, unlessRefused, refusedAt, sheetRead}
 use Rattle.readings.proofs.Grids.{tabulated-same, tabulated-equal, gridAt, grid, grid-length, grid-empty, put-line, grid-columns}
 use Rattle.readings.proofs.HeaderLaws.{wrong-header, right-header}
+use Rattle.readings.proofs.RightFields.{right-line}
 use Rattle.readings.proofs.LinesRead.{values-count, line-size-at, Split, split-count, split-before, split-here, split-more, split-all}
 
 pub refused-is : (L : ℕ) → record { verdict = Rejected 10 L; values = replicate 1024 (pos 0); marks = replicate 1024 0; lines = 0 } ≡ refusedAt L
@@ -162,10 +163,13 @@ module _ (rows : List ℤ) (sheet : List ℕ) (count : ℕ) where
           let n : 130 ≡ line + 2 = omega arith in
           ap refusedAt n ∙ fault-here (ap (λ (t : Bool). t || not (isSome (valuesOf (length (channels rows 1)) (getD ls line [])))) (le-leb maxLines line (omega arith)))
 
-      module _ (answer : Line) (values′ : List ℤ) (marks′ : List ℕ) (r : LineRead count line at (drop at sheet) values marks answer values′ marks′) where
+      module _ (answer : Line) (values′ : List ℤ) (marks′ : List ℕ) (r : (answer, values′, marks′) ≡ lineRead count line at (drop at sheet) values marks) where
+        answered : answer ≡ lineAs (valuesOf count here) (at + lineSize (drop at sheet))
+        answered = ap (λ (w : Line × List ℤ × List ℕ). w .0) r
+
         pub line-at-fault : answer ≡ line-variants.Wrong → refusedAt (line + 2) ≡ sheetRead rows sheet
         line-at-fault e =
-            let o : valuesOf count here ≡ none = line-none (valuesOf count here) (at + lineSize (drop at sheet)) (sym e ∙ r .answer) in
+            let o : valuesOf count here ≡ none = line-none (valuesOf count here) (at + lineSize (drop at sheet)) (sym e ∙ answered) in
             let q : valuesOf (length (channels rows 1)) (getD ls line []) ≡ none =
             ap₂ (λ (k i : ℕ). valuesOf k (getD ls i [])) (sym (h .so-wide)) (sym (h .so-many))
             ∙ split-here (valuesOf count) ls (lines (drop (at + lineSize (drop at sheet)) sheet)) here (h .done) left
@@ -175,7 +179,7 @@ module _ (rows : List ℤ) (sheet : List ℕ) (count : ℕ) where
 
         module _ (next : ℕ) (e : answer ≡ line-variants.Right next) (fit : line ≡ 128 → ⊥) where
           it : (v : List (Option ℤ)) × (valuesOf count here ≡ some v) × (next ≡ at + lineSize (drop at sheet))
-          it = line-some (valuesOf count here) (at + lineSize (drop at sheet)) next (sym e ∙ r .answer)
+          it = line-some (valuesOf count here) (at + lineSize (drop at sheet)) next (sym e ∙ answered)
 
           pub goes-forward : at < next
           goes-forward = omega (arith, it .2, line-size-at sheet at l)
@@ -197,11 +201,13 @@ module _ (rows : List ℤ) (sheet : List ℕ) (count : ℕ) where
                     split-more (valuesOf count) ls (lines (drop (at + lineSize (drop at sheet)) sheet)) here (h .done) v left (it .1)
                     ∙ ap (λ (n : ℕ). map some (h .done ++ (v ∷ [])) ++ map (valuesOf count) (lines (drop n sheet))) (sym (it .2));
                 values-kept =
-                    r .kept v (it .1) .0
+                    ap (λ (w : Line × List ℤ × List ℕ). w .1) r
+                    ∙ ap (λ (vs : List (Option ℤ)). putAll valueOf line 0 vs values) (right-line count (drop at sheet) v (it .1))
                     ∙ ap₂ (λ (n : ℕ) (l : List ℤ). putAll valueOf n 0 v l) (sym (h .so-many)) (h .values-kept)
                     ∙ put-line valueOf (h .done) room v;
                 marks-kept =
-                    r .kept v (it .1) .1
+                    ap (λ (w : Line × List ℤ × List ℕ). w .2) r
+                    ∙ ap (λ (vs : List (Option ℤ)). putAll markOf line 0 vs marks) (right-line count (drop at sheet) v (it .1))
                     ∙ ap₂ (λ (n : ℕ) (l : List ℕ). putAll markOf n 0 v l) (sym (h .so-many)) (h .marks-kept)
                     ∙ put-line markOf (h .done) room v;
               }

@@ -1,15 +1,14 @@
 -- A line of values, as the code holds it, and where its readings are put.
-use mathlib.Core.Path.{_≡_}
 use mathlib.Core.List.{List, [], _∷_}
 use mathlib.Core.Option.{Option, none, some}
-use Prim.Native.Nat.{ℕ, suc, _+_, _*_}
+use Prim.Native.Nat.{ℕ, zero, suc, _+_, _*_}
 use lib.IntN.{ℤ}
-use lib.ListN.{set}
+use lib.ListN.{take, drop, set}
 use lib.Dec.{ltb}
 use Rattle.meaning.specs.Basics.{ifElse}
 use Rattle.meaning.specs.Lines.{lineSize}
-use Rattle.meaning.specs.Sheet.{valuesOf}
-use Rattle.table.specs.Fields.{firstLine}
+use Rattle.meaning.specs.Sheet.{reading, valuesOf}
+use Rattle.table.specs.Fields.{fieldSize, firstLine, opens, stopOf}
 use Rattle.readings.specs.declared.lines.Line.{Line}
 use Rattle.readings.specs.declared.lines.Line.the-variants.{Right, Wrong}
 use Rattle.readings.specs.Fields.{valueOf, markOf}
@@ -29,7 +28,21 @@ abbrev pub lineAs : Option (List (Option ℤ)) → ℕ → Line
 lineAs none next = Wrong
 lineAs (some vs) next = Right next
 
--- the first line of some bytes at a place is read: the answer, and what the values and the marks hold if the line is right
-pub record LineRead (count line from : ℕ) (s : List ℕ) (values : List ℤ) (marks : List ℕ) (r : Line) (values′ : List ℤ) (marks′ : List ℕ) : Type 0 where
-  pub answer : r ≡ lineAs (valuesOf count (firstLine s)) (from + lineSize s)
-  pub kept : (vs : List (Option ℤ)) → valuesOf count (firstLine s) ≡ some vs → (values′ ≡ putAll valueOf line 0 vs values) × (marks′ ≡ putAll markOf line 0 vs marks)
+-- a field's reading in front of others, none of them if the field is no reading
+abbrev pub upToWrong : Option (Option ℤ) → List (Option ℤ) → List (Option ℤ)
+upToWrong none vs = []
+upToWrong (some v) vs = v ∷ vs
+
+-- the readings of a line that is to have so many fields, up to the first field that is no reading or not ended as it is to be
+unfoldable pub rightFields : ℕ → List ℕ → List (Option ℤ)
+rightFields zero s = []
+rightFields (suc after) s =
+    let n = fieldSize s in
+    let rest = rightFields after (drop (n + 1) s) in
+    ifElse (opens (stopOf after) (drop n s)) (upToWrong (reading (take n s)) rest) []
+
+-- what reading the first line of some bytes at a place gives: the answer; and the values and the marks, with what is kept of the fields before the first wrong one
+abbrev pub lineRead : ℕ → ℕ → ℕ → List ℕ → List ℤ → List ℕ → Line × List ℤ × List ℕ
+lineRead count line from s values marks =
+    let vs = rightFields count s in
+    (lineAs (valuesOf count (firstLine s)) (from + lineSize s), putAll valueOf line 0 vs values, putAll markOf line 0 vs marks)

@@ -3,7 +3,7 @@ ghost use mathlib.Core.Path.{_≡_};
 ghost use Prim.Native.Nat.{_<_};
 ghost use lib.ListN.{length, drop};
 ghost use Rattle.table.specs.Fields.{stopOf};
-ghost use Rattle.readings.specs.Lines.{put, LineRead};
+ghost use Rattle.readings.specs.Lines.{put, lineRead};
 use crate::fields;
 
 // Where the next line begins, or that the line is not right.
@@ -38,7 +38,7 @@ fn put_mark(marks: &mut [u8], line: usize, j: usize, mark: u8)
     }
 }
 
-// The line of so many readings that begins at a place, put into the values and the marks.
+// The line of so many readings that begins at a place, put into the values and the marks; of a wrong line, those before the first wrong field.
 pub fn read_line(
     sheet: &[u8],
     from: usize,
@@ -48,7 +48,7 @@ pub fn read_line(
     marks: &mut [u8],
 ) -> Line
     requires { ⌜ (line < 128) × (length (now values) ≡ 1024) × (length (now marks) ≡ 1024) ⌝ }
-    ensures { λ r. ⌜ LineRead count line from (drop from (now (sheet .entry))) (now (values .entry)) (now (marks .entry)) r (now (values .exit)) (now (marks .exit)) ⌝ }
+    ensures { λ r. ⌜ (r, now (values .exit), now (marks .exit)) ≡ lineRead count line from (drop from (now (sheet .entry))) (now (values .entry)) (now (marks .entry)) ⌝ }
 {
     if count == 0 {
         return Line::Wrong;

@@ -103,7 +103,7 @@ pub fn declarations(rows: &[i32]) -> usize
 }
 
 // Whether row r, of d declarations, is a variable.
-pub fn is_variable(rows: &[i32], d: usize, r: usize) -> bool
+fn is_variable(rows: &[i32], d: usize, r: usize) -> bool
     requires { ⌜ d ≡ declarations (now rows) ⌝ }
     ensures { λ t. ⌜ t ≡ isVariable (now (rows .entry)) r ⌝ }
 {

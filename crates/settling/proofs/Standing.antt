@@ -16,7 +16,8 @@ use Rattle.meaning.specs.Basics.{isSome}
 use Rattle.meaning.specs.Declarations.{variableAt, sinkAt}
 use Rattle.meaning.specs.Tree.{Expr, Action, stop, skip, sequence, parallel, assign, receive, send, conditional, loop, alternation, Process, node, Members, empty, Part, noPart, andMember, receiveOf, partOf, partAt}
 use Rattle.meaning.specs.Settle.{mode, endsWhenClosed, statesOf}
-use Rattle.agreement.proofs.TableTree.{above, part-at, part-past}
+use Rattle.meaning.specs.PartClaims.{higherPart}
+use Rattle.agreement.proofs.TableTree.{part-at, part-past}
 use Rattle.layout.specs.Operands.{operandAt}
 use Rattle.layout.proofs.RowNodes.{nodeOf, node-of-kind}
 use Rattle.settling.specs.declared.shape.Mode as code
@@ -28,7 +29,7 @@ use Rattle.settling.specs.Members.{modeOf, alone}
 
 module _ (rows : List ℤ) where
   -- what row b says to row r stands at the row that the code goes to
-  higher-part : (r b : ℕ) → above rows r b ≡ partAt rows (higherRow rows r b)
+  higher-part : (r b : ℕ) → higherPart rows r b ≡ partAt rows (higherRow rows r b)
   unfolding higherRow
   higher-part r b = go (ltb r b)
     where
@@ -100,7 +101,7 @@ module _ (rows : List ℤ) where
         }
 
     -- a process with the members of link b
-    inner : (a : Action) (m : code.Mode) (b : ℕ) → partAt rows r .process ≡ some (node a r (above rows r b .members)) → partAt rows r .members ≡ empty → mode a ≡ modeOf m → endsWhenClosed a ≡ true → EndingAt r m (higherRow rows r b)
+    inner : (a : Action) (m : code.Mode) (b : ℕ) → partAt rows r .process ≡ some (node a r (higherPart rows r b .members)) → partAt rows r .members ≡ empty → mode a ≡ modeOf m → endsWhenClosed a ≡ true → EndingAt r m (higherRow rows r b)
     inner a m b e n i x =
         record {
           action = a;
@@ -111,40 +112,40 @@ module _ (rows : List ℤ) where
           fewer = higher-left r b l;
         }
 
-    link : (a b : ℕ) → partAt rows r .process ≡ none → partAt rows r .members ≡ andMember (above rows r a .process) (above rows r b .members) → LinkAt r (higherRow rows r a) (higherRow rows r b)
+    link : (a b : ℕ) → partAt rows r .process ≡ none → partAt rows r .members ≡ andMember (higherPart rows r a .process) (higherPart rows r b .members) → LinkAt r (higherRow rows r a) (higherRow rows r b)
     link a b n e =
         record {
           no-process = n;
           members-are =
               e
-              ∙ ap (λ (o : Maybe Process). andMember o (above rows r b .members)) (processes (higher-part r a))
+              ∙ ap (λ (o : Maybe Process). andMember o (higherPart rows r b .members)) (processes (higher-part r a))
               ∙ ap (λ (ms : Members). andMember (partAt rows (higherRow rows r a) .process) ms) (members (higher-part r b));
           fewer-process = higher-left r a l;
           fewer-next = higher-left r b l;
         }
 
-    by-node : (k : Node) → partAt rows r ≡ partOf rows r (above rows r) k → Stands r (shapeOf rows r k)
+    by-node : (k : Node) → partAt rows r ≡ partOf rows r (higherPart rows r) k → Stands r (shapeOf rows r k)
     by-node (Literal x) e = record { no-process = processes e; no-members = members e }
     by-node (Element a b) e = record { no-process = processes e; no-members = members e }
     by-node (Monadic a b) e = record { no-process = processes e; no-members = members e }
     by-node (Dyadic a b c) e = record { no-process = processes e; no-members = members e }
     by-node Stop e = leaf stop ByStep (processes e) (members e) refl refl
     by-node Skip e = leaf skip InTurn (processes e) (members e) refl refl
-    by-node (Assignment a b c) e = leaf (assign (variableAt rows a) (above rows r b .expr) (above rows r c .expr)) ByStep (processes e) (members e) refl refl
-    by-node (Input a b c) e = leaf (receive (receiveOf rows r (above rows r) a b c)) ByStep (processes e) (members e) refl refl
-    by-node (Output a b c) e = leaf (send (sinkAt rows a) (above rows r b .expr) (above rows r c .expr)) ByStep (processes e) (members e) refl refl
+    by-node (Assignment a b c) e = leaf (assign (variableAt rows a) (higherPart rows r b .expr) (higherPart rows r c .expr)) ByStep (processes e) (members e) refl refl
+    by-node (Input a b c) e = leaf (receive (receiveOf rows r (higherPart rows r) a b c)) ByStep (processes e) (members e) refl refl
+    by-node (Output a b c) e = leaf (send (sinkAt rows a) (higherPart rows r b .expr) (higherPart rows r c .expr)) ByStep (processes e) (members e) refl refl
     by-node (Seq a) e = inner sequence InTurn a (processes e) (members e) refl refl
     by-node (Par a) e = inner parallel Together a (processes e) (members e) refl refl
-    by-node (If a) e = inner (conditional (above rows r a .tests)) ByStep a (processes e) (members e) refl refl
+    by-node (If a) e = inner (conditional (higherPart rows r a .tests)) ByStep a (processes e) (members e) refl refl
     by-node (While a b) e =
         record {
-          test = above rows r a .expr;
+          test = higherPart rows r a .expr;
           named = b;
-          process-is = processes e ∙ ap (λ (o : Maybe Process). some (node (loop (above rows r a .expr) b) r (alone o))) (processes (higher-part r b));
+          process-is = processes e ∙ ap (λ (o : Maybe Process). some (node (loop (higherPart rows r a .expr) b) r (alone o))) (processes (higher-part r b));
           no-members = members e;
           fewer = higher-left r b l;
         }
-    by-node (Alt a) e = inner (alternation (above rows r a .branches)) ByStep a (processes e) (members e) refl refl
+    by-node (Alt a) e = inner (alternation (higherPart rows r a .branches)) ByStep a (processes e) (members e) refl refl
     by-node (Member a b) e = link a b (processes e) (members e)
     by-node (Choice a b c) e = link a b (processes e) (members e)
     by-node (Option a b c) e = link a b (processes e) (members e)

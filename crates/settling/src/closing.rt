@@ -32,7 +32,7 @@ pub fn is_over<'a>(rows: &'a [i32], p: usize, idle: bool, states: &'a [u8]) -> b
 }
 
 // Whether the process of row p, if there is one, has ended.
-pub fn has_ended<'a>(rows: &'a [i32], p: usize, states: &'a [u8]) -> bool
+fn has_ended<'a>(rows: &'a [i32], p: usize, states: &'a [u8]) -> bool
     ensures { λ t. ⌜ t ≡ anyOf isEnded (statesOf (alone (partAt (now (rows .entry)) p .process)) (now (states .entry))) ⌝ }
 {
     if is_process(rows, p) {

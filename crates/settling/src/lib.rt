@@ -84,7 +84,7 @@ pub fn settle_from(
 }
 
 // The members from link m on, each as the mode says.
-pub fn settle_members(rows: &[i32], m: usize, mode: Mode, states: &mut [u8], touched: &mut [usize])
+fn settle_members(rows: &[i32], m: usize, mode: Mode, states: &mut [u8], touched: &mut [usize])
     ensures settled { λ _. ⌜ now (states .exit) ≡ meaning.settleMembers (partAt (now (rows .entry)) m .members) (modeOf mode) (now (states .entry)) ⌝ }
     ensures records { λ _. ⌜ Records (now (states .entry)) (now (states .exit)) (now (touched .entry)) (now (touched .exit)) ⌝ }
 {

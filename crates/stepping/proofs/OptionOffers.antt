@@ -17,9 +17,10 @@ use Rattle.meaning.specs.Tree.{AltOption, Action, stop, skip, sequence, paralle
 use Rattle.meaning.specs.State.{program, processAt}
 use Rattle.meaning.specs.Intent.{Offer}
 use Rattle.meaning.specs.Ready.{optionRow}
-use Rattle.agreement.proofs.OptionRows.{rowsOf, optionRows}
+use Rattle.agreement.proofs.OptionRows.{rowsOfOptions, optionRows}
 use Rattle.agreement.proofs.Active.{offerAt}
-use Rattle.agreement.proofs.TableTree.{above, part-at, part-past, process-is}
+use Rattle.meaning.specs.PartClaims.{higherPart}
+use Rattle.agreement.proofs.TableTree.{part-at, part-past, process-is}
 use Rattle.layout.specs.Operands.{operandAt}
 use Rattle.layout.proofs.Parts.{operand-higher}
 use Rattle.offers.specs.Rows.{optionAt}
@@ -47,14 +48,14 @@ module _ (rows : List ℤ) where
       go (yes l) k = here l (eqb (kindAt rows t) 42) refl k
       go (no l) k = past t (omega arith)
 
-  higher-known : (r a : ℕ) → OfRows (above rows r a .branches)
+  higher-known : (r a : ℕ) → OfRows (higherPart rows r a .branches)
   higher-known r a = go (ltb r a)
     where
       go : (t : Bool) → OfRows (ifElse t (partAt rows a) noPart .branches)
       go true = branches-known (rowCount rows) a (omega arith)
       go false = tt
 
-  node-known : (r : ℕ) (k : Node) → OfRows (optionsOf (actionOf (orStop (partOf rows r (above rows r) k .process))))
+  node-known : (r : ℕ) (k : Node) → OfRows (optionsOf (actionOf (orStop (partOf rows r (higherPart rows r) k .process))))
   node-known r (Literal x) = tt
   node-known r (Element a b) = tt
   node-known r (Monadic a b) = tt
@@ -83,7 +84,7 @@ module _ (rows : List ℤ) where
       go (no l) = rw (part-past rows r (omega arith)) tt
 
   -- the rows of an action's options
-  pub rows-of-options : (k : Action) → rowsOf (optionsOf k) ≡ optionRows k
+  pub rows-of-options : (k : Action) → rowsOfOptions (optionsOf k) ≡ optionRows k
   rows-of-options stop = refl
   rows-of-options skip = refl
   rows-of-options sequence = refl
@@ -124,13 +125,13 @@ module _ (rows : List ℤ) where
     twice false (some x) = refl
 
     -- the offer of row j is what the option of row j offers by itself
-    pub offer-of-row : (bs : List AltOption) → OfRows bs → offerAt j (concat (map f bs)) ≡ ifElse (among j (rowsOf bs)) (offerAt j (f (optionAt rows j))) none
+    pub offer-of-row : (bs : List AltOption) → OfRows bs → offerAt j (concat (map f bs)) ≡ ifElse (among j (rowsOfOptions bs)) (offerAt j (f (optionAt rows j))) none
     unfolding concat any
     offer-of-row [] h = refl
     offer-of-row (b ∷ l) h = append (f b) (concat (map f l)) ∙ ap (first (offerAt j (f b))) (offer-of-row l (h .1)) ∙ go (eqb j (b .row)) refl
       where
-        go : (t : Bool) → eqb j (b .row) ≡ t → first (offerAt j (f b)) (ifElse (any (eqb j) (rowsOf l)) (offerAt j (f (optionAt rows j))) none) ≡ ifElse (t || any (eqb j) (rowsOf l)) (offerAt j (f (optionAt rows j))) none
+        go : (t : Bool) → eqb j (b .row) ≡ t → first (offerAt j (f b)) (ifElse (any (eqb j) (rowsOfOptions l)) (offerAt j (f (optionAt rows j))) none) ≡ ifElse (t || any (eqb j) (rowsOfOptions l)) (offerAt j (f (optionAt rows j))) none
         go true e =
             let q : f b ≡ f (optionAt rows j) = ap f (h .0 ∙ ap (optionAt rows) (sym (eqb-true j (b .row) e))) in
-            rw q (twice (any (eqb j) (rowsOf l)) (offerAt j (f (optionAt rows j))))
+            rw q (twice (any (eqb j) (rowsOfOptions l)) (offerAt j (f (optionAt rows j))))
         go false e = rw (other (b .row) (f b) (own b) (λ q. eqb-false j (b .row) e (sym q)))

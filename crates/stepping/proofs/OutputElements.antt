@@ -26,7 +26,8 @@ use Rattle.meaning.specs.Intent.{Sheet, Intent, waits, moves, inputsFrom, outpu
 use Rattle.meaning.specs.Ready.{live, intentAt}
 use Rattle.meaning.specs.Answers.{check}
 use Rattle.meaning.proofs.AnswerLaws.{accepted}
-use Rattle.agreement.proofs.TableTree.{above, part-at, part-past, process-is}
+use Rattle.meaning.specs.PartClaims.{higherPart}
+use Rattle.agreement.proofs.TableTree.{part-at, part-past, process-is}
 use Rattle.machine.proofs.Numbered.{sum-past, sum-bound}
 
 module _ (N : ℕ) where
@@ -168,7 +169,7 @@ module _ (rows : List ℤ) (ok : check rows ≡ none) where
   action-in r = rw (process-is rows r) (go (decLt r (rowCount rows)))
     where
       go : Dec (r < rowCount rows) → SinkIn 256 (actionOf (orStop (partAt rows r .process)))
-      go (yes l) = rw (part-at rows r l) (node-in r (above rows r) (nodeAt rows r))
+      go (yes l) = rw (part-at rows r l) (node-in r (higherPart rows r) (nodeAt rows r))
       go (no l) = rw (part-past rows r (omega arith)) tt
 
   -- an output is to one of 256 elements

@@ -23,7 +23,7 @@ use Rattle.meaning.specs.Order.{OrderOf}
 use Rattle.meaning.specs.Answers.{check}
 use Rattle.meaning.proofs.LowestLaws.{lowest-is}
 use Rattle.agreement.proofs.Active.{offerAt}
-use Rattle.agreement.proofs.OptionRows.{rowsOf, optionRows}
+use Rattle.agreement.proofs.OptionRows.{rowsOfOptions, optionRows}
 use Rattle.evaluation.specs.Cells.{decoded, cellOf}
 use Rattle.evaluation.proofs.CellLaws.{decoded-at, past-numbers}
 use Rattle.offers.specs.declared.Offer.{Offer}
@@ -267,7 +267,7 @@ module _ (rows : List ℤ) (ok : check rows ≡ none) (sheet : Sheet) (l : List 
     offer-noted r j q e =
         let bs = optionsOf (action r) in
         let (os, p) = selects-looks (action r) r (selecting-does r e) in
-        let t : among j (rowsOf bs) ≡ true = ap (λ (m : List ℕ). among j m) (rows-of-options rows (action r)) ∙ T-true _ (found-below (isOptionOf rows j) (rowCount rows) r (sym (alt-lowest rows j) ∙ q) .1) in
+        let t : among j (rowsOfOptions bs) ≡ true = ap (λ (m : List ℕ). among j m) (rows-of-options rows (action r)) ∙ T-true _ (found-below (isOptionOf rows j) (rowCount rows) r (sym (alt-lowest rows j) ∙ q) .1) in
         ap (λ (L : Looked). offerAt j (offersIn L)) p ∙ ap (offerAt j) (offers-in-order sheet (s .store) bs os p) ∙ offer-of-row rows offeredBy offered j bs (options-known rows r)
         ∙ ap (λ (u : Bool). ifElse u (offerAt j (offeredBy (optionAt rows j))) none) t
         ∙ ap (λ (L : Looked). offerAt j (offersIn L)) (sym (option-stands sheet (s .store) (b .cells) (b .marks) (b .places) (b .counts) store-held (optionAt rows j)))

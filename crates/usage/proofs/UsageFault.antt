@@ -13,11 +13,10 @@ use borrow.Author.Tests.{eq-eqb, ne-eqb}
 use Rattle.meaning.specs.Rows.{ifElse, rowCount, declarations}
 use Rattle.meaning.specs.Basics.{any}
 use Rattle.meaning.specs.Verdict.{limitFault}
-use Rattle.meaning.specs.Faults.{WithinLimits, LimitStage}
+use Rattle.meaning.specs.Faults.{WithinLimits}
 use Rattle.meaning.specs.Tree.{Action, stop, skip, sequence, parallel, assign, receive, send, conditional, loop, alternation, Process, node, Members, partAt}
 use Rattle.meaning.specs.Usage.{gather, gatherAll, cellClash, inputClash, outputClash, pairs, clashes, usageFault}
-use Rattle.meaning.proofs.FaultLaws.{limit-stage}
-use Rattle.meaning.proofs.AnswerLaws.{finds-none}
+use Rattle.meaning.proofs.StageLaws.{limit-none}
 use Rattle.usage.specs.declared.clash.Clash.{Clash}
 use Rattle.marks.specs.Marks.{marks, allMarks}
 use Rattle.usage.specs.Clashes.{clashesFrom, clashesBy, clashesOf, clashesAt, earliest}
@@ -108,8 +107,7 @@ module _ (p : ℕ → Bool) (n : ℕ) where
 module _ (rows : List ℤ) (limits : limitFault rows ≡ none) where
   -- the declarations are within the limits
   pub within-limits : (r : ℕ) → r < declarations rows → WithinLimits rows r
-  unfolding LimitStage
-  within-limits = finds-none 6 (WithinLimits rows) (declarations rows) (limitFault rows) (limit-stage rows) .0 limits
+  within-limits = limit-none rows .0 limits
 
   cells-at : (r : ℕ) → clashesAt rows r .cells ≡ clashing 7 (partAt rows r .process)
   cells-at r = ap (λ (c : Clash). c .cells) (clashes-at rows within-limits r)

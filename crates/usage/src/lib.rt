@@ -28,7 +28,7 @@ fn earliest_of(found: usize, n: usize, here: bool, r: usize) -> usize
 }
 
 // The refusal of a table within the limits whose rows name what `names` says.
-pub fn usage_fault_with<'a>(rows: &'a [i32], names: &'a [u16]) -> Verdict
+fn usage_fault_with<'a>(rows: &'a [i32], names: &'a [u16]) -> Verdict
     requires { ⌜ (rowCount (now rows) ≤ 1024) × (limitFault (now rows) ≡ none) × Named (now rows) (now names) ⌝ }
     ensures { λ v. ⌜ v ≡ verdictOf (usageFault (now (rows .entry))) ⌝ }
 {

@@ -1,15 +1,16 @@
--- antt computes what each line means. Assumes nothing.
+-- antt computes each line, and what it means. Assumes nothing.
 use mathlib.Core.Path.{refl}
 use Rattle.meaning.specs.Basics.{allBelow}
 use Rattle.meaning.specs.Kinds.{shapes, shapeIn, shapeOf}
-use Rattle.kinds.specs.Table.{numbersIn, fieldOf, meantShape}
+use Rattle.meaning.specs.Usage.{range}
+use Rattle.kinds.specs.Table.{numbersIn, fieldOf, meantShape, maskOf, tableOfKinds}
 use Rattle.kinds.proofs.Tables.{shapesFrom, kindsFrom, table-means}
 use Rattle.kinds.proofs.kind_table.Statement.{statement}
 use Rattle.kinds.proofs.kind_table.Tie as tie
 
 returns : tie.Need-returns
-unfolding allBelow shapes shapeIn shapeOf numbersIn fieldOf meantShape shapesFrom kindsFrom
-returns c = table-means _ refl refl
+unfolding allBelow range shapes shapeIn shapeOf maskOf tableOfKinds numbersIn fieldOf meantShape shapesFrom kindsFrom
+returns c = (refl, table-means _ refl refl)
 
 pub kind-table-spec : {M : Type 1} → statement M
 kind-table-spec = tie.close (tie.spec returns)

@@ -13,7 +13,7 @@ unfolding KindTable tableShape
 returns c =
     let k = c .before .args .k in
     let e : tableShape (c .before .args .table .now) k ≡ noEntries = simp (le-ltb k _ (c .if1 .taken)) in
-    ap (meantShape k) (sym e) ∙ c .before .pre k
+    (sym e, ap (meantShape k) (sym e) ∙ c .before .pre k)
 
 mul-line : tie.Need-mul-line
 mul-line c = search needs
@@ -36,7 +36,7 @@ returns-2 c =
     let k = c .before .before .args .k in
     let table = c .before .before .args .table .now in
     let e : tableShape table k ≡ entriesOf table k = simp (lt-ltb k (length table) (omega arith)) in
-    ap (meantShape k) (sym e) ∙ c .before .before .pre k
+    (sym e, ap (meantShape k) (sym e) ∙ c .before .before .pre k)
 
 pub shape-of-spec : {M : Type 1} → statement M
 shape-of-spec =

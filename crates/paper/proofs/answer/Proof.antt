@@ -1,7 +1,6 @@
--- The buffer holds every page. Assumes nothing.
-use mathlib.Core.Path.{sym, subst}
-use Prim.Native.Nat.{ℕ, _≤_}
-use lib.ListN.{length, replicate, length-replicate}
+-- The buffer holds every page, and zeros after it. Assumes nothing.
+use Prim.Native.Nat.{ℕ}
+use lib.ListN.{replicate}
 use Rattle.meaning.specs.Runner.{runner}
 use Rattle.paper.proofs.Whole.{printed-inside, printed-whole}
 use borrow.Author.Needs.{needs}
@@ -17,10 +16,9 @@ answer-page-requires c κs = search needs
 returns : tie.Need-returns
 returns c =
     let r = c .before .answer-page in
-    let page = runner (c .before .before .before .before .args .input .now) in
-    let old = replicate {A = ℕ} 98304 0 in (
-      printed-whole page old (r .result) _ (r .ensures .0) (subst (λ (n : ℕ). length page ≤ n) (sym (length-replicate {A = ℕ} 98304 0)) (r .ensures .1)),
-      printed-inside page old (r .result) _ (r .ensures .0),
+    let bytes = runner (c .before .before .before .before .args .input .now) in (
+      printed-whole bytes 98304 (r .result) _ (r .ensures .0) (r .ensures .1),
+      printed-inside bytes (replicate {A = ℕ} 98304 0) (r .result) _ (r .ensures .0),
     )
 
 pub answer-spec : {M : Type 1} → statement M

@@ -15,7 +15,7 @@ split-requires : tie.Need-split-requires
 split-requires c κs = search needs
 
 slice-aggregate-table-page : tie.Need-slice-aggregate-table-page
-slice-aggregate-table-page c = sym (length-take-le _ _ (c .before .split .ensures .table-inside))
+slice-aggregate-table-page c = sym (length-take-le _ _ (c .before .split .ensures .1 .table-inside))
 
 sub-table-page : tie.Need-sub-table-page
 sub-table-page c = search needs
@@ -35,7 +35,7 @@ same-length c = search needs
 returns : tie.Need-returns
 returns c =
     let a = c .before .before .before .before .before .before .before .before .before .args in
-    let e = parts-printed (a .input .now) _ (c .before .before .before .before .before .before .split .ensures) in
+    let e = parts-printed (a .input .now) _ (c .before .before .before .before .before .before .split .ensures .1) in
     let p = c .before .before .table-page .ensures in
     (p .0 ∙ ap (λ (l : List ℕ). printedIn l (a .out .now)) e, subst (λ (l : List ℕ). length l ≤ maxPage) e (p .1))
 

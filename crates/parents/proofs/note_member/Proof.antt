@@ -5,6 +5,8 @@ use native.Mathlib.Omega.{arith}
 use borrow.Author.Needs.{needs}
 use Rattle.meaning.specs.Rows.{rowCount}
 use Rattle.parents.proofs.MemberNotes.{row-alone, member-noted, no-member-noted}
+use Rattle.parents.specs.Parents.{NextIs}
+use Rattle.parents.proofs.NextLinks.{numbered-none, member-numbered}
 use Rattle.parents.proofs.note_member.Statement.{statement}
 use Rattle.parents.proofs.note_member.Tie as tie
 
@@ -21,7 +23,7 @@ note-parent-requires c κs =
     let start = at-is .before .before .before in
     let a = start .args in
     let l : a .p < rowCount (a .rows .now) = row-alone (a .rows .now) (a .p) (sym (at-is .is-process .ensures) ∙ at-link .before .if1 .taken) .1 in
-    (omega (arith, l, start .pre .1 .0), omega (arith, l, start .pre .1 .1))
+    (omega (arith, l, start .pre .1 .0 .0), omega (arith, l, start .pre .1 .0 .1))
 
 same-length : tie.Need-same-length
 same-length c = search needs
@@ -36,13 +38,22 @@ returns c =
     let at-is = at-link .before .before in
     let start = at-is .before .before .before in
     let a = start .args in
-    member-noted (a .rows .now) (a .p) (a .t) (a .note) (a .parents .now) (a .nexts .now) (at-link .link-note .result) (at-note .note-parent .last .0) (at-note .note-parent .last .1 .0) (sym (at-is .is-process .ensures) ∙ at-link .before .if1 .taken) (start .pre .1 .0) (start .pre .1 .1) (at-link .link-note .ensures) (at-note .note-parent .ensures .0) (at-note .note-parent .ensures .1)
+    let rows = a .rows .now in
+    let some-process = sym (at-is .is-process .ensures) ∙ at-link .before .if1 .taken in
+    let here = row-alone rows (a .p) some-process .1 in
+    let next = at-link .link-note in (
+      member-noted rows (a .p) (a .t) (a .note) (a .parents .now) (a .nexts .now) (next .result) _ _ some-process (start .pre .1 .0 .0) (start .pre .1 .0 .1) (next .ensures) (at-note .note-parent .ensures .0) (at-note .note-parent .ensures .1),
+      member-numbered rows (a .p) (a .t) (a .note) (next .result) (a .parents .now) (a .nexts .now) here (omega (arith, here, start .pre .1 .0 .0)) (omega (arith, here, start .pre .1 .0 .1)) (start .pre .1 .1) (next .ensures) _ _ (at-note .note-parent .ensures .0) (at-note .note-parent .ensures .1),
+    )
 
 returns-2 : tie.Need-returns-2
 returns-2 c =
     let at-is = c .before in
     let a = at-is .before .before .before .args in
-    no-member-noted (a .rows .now) (a .p) (a .t) (a .note) (a .parents .now) (a .nexts .now) (sym (at-is .is-process .ensures) ∙ c .if1 .left)
+    let rows = a .rows .now in (
+      no-member-noted rows (a .p) (a .t) (a .note) (a .parents .now) (a .nexts .now) (sym (at-is .is-process .ensures) ∙ c .if1 .left),
+      numbered-none (NextIs rows (a .p) (a .t)) (a .parents .now) (a .nexts .now),
+    )
 
 pub note-member-spec : {M : Type 1} → statement M
 note-member-spec =

@@ -1,5 +1,5 @@
 -- `note_members` meets its contract. The invariant: what notes the members from t on notes those from m on.
-use mathlib.Core.Path.{_≡_, refl}
+use mathlib.Core.Path.{_≡_, refl, sym, _∙_}
 use mathlib.Core.List.{List}
 use Prim.Native.Nat.{ℕ, _-_}
 use lib.IntN.{ℤ}
@@ -8,8 +8,9 @@ use borrow.Author.Needs.{needs}
 use Rattle.meaning.specs.Rows.{rowCount}
 use Rattle.meaning.specs.Tree.{empty, partAt}
 use Rattle.settling.proofs.Standing.{found}
-use Rattle.parents.specs.Parents.{MembersNoted}
+use Rattle.parents.specs.Parents.{Numbered, NextOf, NextIs, MembersNoted}
 use Rattle.parents.proofs.MemberNotes.{none-past, no-members-noted, link-noted}
+use Rattle.parents.proofs.NextLinks.{numbered-none, numbered-then, numbered-more, link-next}
 use Rattle.parents.proofs.note_members.Statement.{statement}
 use Rattle.parents.proofs.note_members.Tie as tie
 
@@ -18,6 +19,7 @@ Inv-loop rows m note parents₀ nexts₀ t₀ parents nexts t =
     (length parents ≡ length parents₀)
     × (length nexts ≡ length nexts₀)
     × ((p n : List ℕ) → MembersNoted rows (partAt rows t .members) note parents nexts p n → MembersNoted rows (partAt rows m .members) note parents₀ nexts₀ p n)
+    × Numbered (NextOf rows) parents₀ nexts₀ parents nexts
 
 abbrev μ-loop : tie.MeasureT-loop
 μ-loop rows m note parents₀ nexts₀ t₀ parents nexts t = rowCount rows - t
@@ -31,11 +33,13 @@ module _ (c : tie.At-loop Inv-loop μ-loop) where
   note = c .before .before .before .args .note
 
   -- from t on there are no members: what is noted by now is all
-  no-more : partAt rows (c .loop .t) .members ≡ empty → MembersNoted rows (partAt rows (c .before .before .before .args .m) .members) note (c .before .before .before .args .parents .now) (c .before .before .before .args .nexts .now) (c .loop .parents) (c .loop .nexts)
-  no-more e = c .loop .inv .2 (c .loop .parents) (c .loop .nexts) (no-members-noted rows (partAt rows (c .loop .t) .members) note (c .loop .parents) (c .loop .nexts) e)
+  no-more : partAt rows (c .loop .t) .members ≡ empty
+      → MembersNoted rows (partAt rows (c .before .before .before .args .m) .members) note (c .before .before .before .args .parents .now) (c .before .before .before .args .nexts .now) (c .loop .parents) (c .loop .nexts)
+      × Numbered (NextOf rows) (c .before .before .before .args .parents .now) (c .before .before .before .args .nexts .now) (c .loop .parents) (c .loop .nexts)
+  no-more e = (c .loop .inv .2 (c .loop .parents) (c .loop .nexts) (no-members-noted rows (partAt rows (c .loop .t) .members) note (c .loop .parents) (c .loop .nexts) e), c .loop .inv .3)
 
 loop-holds : tie.Need-loop-holds Inv-loop μ-loop
-loop-holds c = (refl, refl, λ p n h. h)
+loop-holds c = let a = c .before .before .args in (refl, refl, (λ p n h. h), numbered-none (NextOf (a .rows .now)) (a .parents .now) (a .nexts .now))
 
 shape-at-requires : tie.Need-shape-at-requires Inv-loop μ-loop
 shape-at-requires c κs = search needs
@@ -91,7 +95,15 @@ loop-again c =
     let at-loop = at-shape .before .before in
     let l = at-loop .loop in
     let link = found (rows at-loop) (l .t) (at-shape .shape-at .ensures) (at-s .s .given .1) in
-    (search needs, search needs, λ p n h. l .inv .2 p n (link-noted (rows at-loop) (note at-loop) (at-loop .before .before .before .pre .1 .1) (l .parents) (l .nexts) _ _ p n link (at-note .note-member .ensures) h))
+    let a = at-loop .before .before .before .args in
+    let p = at-s .s .given .0 .0 in
+    let q = at-s .s .given .0 .1 .0 in (
+      search needs,
+      search needs,
+      (λ p n h. l .inv .2 p n (link-noted (rows at-loop) (note at-loop) (at-loop .before .before .before .pre .1 .1) (l .parents) (l .nexts) _ _ p n link (at-note .note-member .ensures .0) h)),
+      numbered-then (NextOf (rows at-loop)) (a .parents .now) (a .nexts .now) (l .parents) (l .nexts) _ _ (l .inv .3)
+          (numbered-more (NextIs (rows at-loop) p q) (NextOf (rows at-loop)) (l .parents) (l .nexts) _ _ (link-next (rows at-loop) (l .t) p (at-shape .before .loop-test .taken) q (sym (at-shape .shape-at .ensures) ∙ at-s .s .given .1)) (at-note .note-member .ensures .1)),
+    )
 
 enum-told-3 : tie.Need-enum-told-3 Inv-loop μ-loop
 enum-told-3 c = search needs

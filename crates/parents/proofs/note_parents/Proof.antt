@@ -8,12 +8,14 @@ use borrow.Author.Needs.{needs}
 use Rattle.meaning.specs.Rows.{rowCount}
 use Rattle.agreement.proofs.TableFit.{rows-limit}
 use Rattle.notes.proofs.Noting.{zeros-at}
-use Rattle.parents.proofs.MemberNotes.{NotedBelow, noted-first, noted-next, noted-all}
+use Rattle.parents.specs.Parents.{Numbered, NextOf}
+use Rattle.parents.proofs.MemberNotes.{NotedBelow, noted-first, noted-next, noted-parent, noted-all}
+use Rattle.parents.proofs.NextLinks.{numbered-none, numbered-then, parents-are, nexts-are}
 use Rattle.parents.proofs.note_parents.Statement.{statement}
 use Rattle.parents.proofs.note_parents.Tie as tie
 
 abbrev Inv-loop : tie.InvT-loop
-Inv-loop rows parents₀ nexts₀ r₀ parents nexts r = (r ≤ rowCount rows) × (length parents ≡ length parents₀) × (length nexts ≡ length nexts₀) × NotedBelow rows r parents nexts
+Inv-loop rows parents₀ nexts₀ r₀ parents nexts r = (r ≤ rowCount rows) × (length parents ≡ length parents₀) × (length nexts ≡ length nexts₀) × NotedBelow rows r parents nexts × Numbered (NextOf rows) parents₀ nexts₀ parents nexts
 
 abbrev μ-loop : tie.MeasureT-loop
 μ-loop rows parents₀ nexts₀ r₀ parents nexts r = rowCount rows - r
@@ -25,7 +27,7 @@ loop-holds : tie.Need-loop-holds Inv-loop μ-loop
 loop-holds c =
     let at-clear = c .before .before in
     let a = at-clear .before .before .before .before .args in
-    (zero-le, refl, refl, noted-first (a .rows .now) _ _ (λ j. ap (λ (o : List ℕ). getD o j 0) (at-clear .clear-notes .ensures) ∙ zeros-at (length (a .parents .now)) j))
+    (zero-le, refl, refl, noted-first (a .rows .now) _ _ (λ j. ap (λ (o : List ℕ). getD o j 0) (at-clear .clear-notes .ensures) ∙ zeros-at (length (a .parents .now)) j), numbered-none (NextOf (a .rows .now)) (at-clear .clear-notes .last .0) (a .nexts .now))
 
 note-row-requires : tie.Need-note-row-requires Inv-loop μ-loop
 note-row-requires c κs =
@@ -47,7 +49,7 @@ loop-again c =
     let at-note = c .before .before .before .before in
     let at-loop = at-note .before .before .before .before in
     let rows = at-loop .before .before .before .before .before .before .before .args .rows .now in
-    (search needs, search needs, search needs, noted-next rows (at-loop .loop .r) (at-loop .loop .parents) (at-loop .loop .nexts) _ _ (at-loop .loop .inv .3) (at-note .note-row .ensures))
+    (search needs, search needs, search needs, noted-next rows (at-loop .loop .r) (at-loop .loop .parents) (at-loop .loop .nexts) _ _ (at-loop .loop .inv .3) (at-note .note-row .ensures .0), numbered-then (NextOf rows) _ _ (at-loop .loop .parents) (at-loop .loop .nexts) _ _ (at-loop .loop .inv .4) (at-note .note-row .ensures .1))
 
 same-length : tie.Need-same-length Inv-loop μ-loop
 same-length c = search needs
@@ -58,8 +60,22 @@ same-length-2 c = search needs
 returns : tie.Need-returns Inv-loop μ-loop
 returns c =
     let at-loop = c .before in
-    let rows = at-loop .before .before .before .before .before .before .before .args .rows .now in
-    noted-all rows (at-loop .loop .r) (at-loop .loop .parents) (at-loop .loop .nexts) (omega (arith, at-loop .loop .inv .0)) (at-loop .loop .inv .3)
+    let at-clear = at-loop .before .before .before in
+    let start = at-clear .before .before .before .before in
+    let rows = start .args .rows .now in
+    let l = at-loop .loop in
+    let end : l .r ≡ rowCount rows = omega (arith, l .inv .0) in
+    let each = noted-parent rows (l .r) (l .parents) (l .nexts) end (l .inv .3) in
+    let size : length (l .parents) ≡ length (start .args .parents .now) = l .inv .1 ∙ ap (λ (o : List ℕ). length o) (at-clear .clear-notes .ensures) ∙ length-replicate (length (start .args .parents .now)) 0 in (
+      parents-are rows (l .parents) each (length (start .args .parents .now)) size,
+      (
+        nexts-are rows (l .parents) each (start .pre .0) (at-clear .clear-notes .last .0) (start .args .nexts .now) (l .nexts)
+            (λ j. ap (λ (o : List ℕ). getD o j 0) (at-clear .clear-notes .ensures) ∙ zeros-at (length (start .args .parents .now)) j)
+            (l .inv .2)
+            (l .inv .4),
+        noted-all rows (l .r) (l .parents) (l .nexts) end (l .inv .3),
+      ),
+    )
 
 pub note-parents-spec : {M : Type 1} → statement M
 note-parents-spec =

@@ -1,7 +1,11 @@
 -- `note_row` meets its contract, by the part of the row in settling.
+use mathlib.Core.Path.{sym, _∙_}
+use lib.ListN.{length}
 use borrow.Author.Needs.{needs}
 use Rattle.settling.proofs.Standing.{found}
 use Rattle.parents.proofs.MemberNotes.{ending-noted, repeating-noted, bare-noted}
+use Rattle.parents.specs.Parents.{NextOf, NextIs}
+use Rattle.parents.proofs.NextLinks.{numbered-none, numbered-more, body-next}
 use Rattle.parents.proofs.note_row.Statement.{statement}
 use Rattle.parents.proofs.note_row.Tie as tie
 
@@ -50,7 +54,7 @@ returns c =
     let at-s = at-note .before .before .before .before in
     let at-shape = at-s .before .before in
     let a = at-shape .before .before .before .args in
-    ending-noted (a .rows .now) (a .r) (a .parents .now) (a .nexts .now) _ _ (found (a .rows .now) (a .r) (at-shape .shape-at .ensures) (at-s .s .given .1)) (at-note .note-members .ensures)
+    (ending-noted (a .rows .now) (a .r) (a .parents .now) (a .nexts .now) _ _ (found (a .rows .now) (a .r) (at-shape .shape-at .ensures) (at-s .s .given .1)) (at-note .note-members .ensures .0), at-note .note-members .ensures .1)
 
 same-length-3 : tie.Need-same-length-3
 same-length-3 c = search needs
@@ -64,19 +68,22 @@ returns-2 c =
     let at-s = at-note .before .before .before .before in
     let at-shape = at-s .before .before in
     let a = at-shape .before .before .before .args in
-    repeating-noted (a .rows .now) (a .r) (a .parents .now) (a .nexts .now) _ _ (found (a .rows .now) (a .r) (at-shape .shape-at .ensures) (at-s .s2 .given .1)) (at-note .note-member .ensures)
+    let b = at-s .s2 .given .0 .0 in (
+      repeating-noted (a .rows .now) (a .r) (a .parents .now) (a .nexts .now) _ _ (found (a .rows .now) (a .r) (at-shape .shape-at .ensures) (at-s .s2 .given .1)) (at-note .note-member .ensures .0),
+      numbered-more (NextIs (a .rows .now) b (length (a .rows .now))) (NextOf (a .rows .now)) (a .parents .now) (a .nexts .now) _ _ (body-next (a .rows .now) (a .r) b (at-shape .before .before .before .pre .1 .1) (sym (at-shape .shape-at .ensures) ∙ at-s .s2 .given .1)) (at-note .note-member .ensures .1),
+    )
 
 returns-3 : tie.Need-returns-3
 returns-3 c =
     let at-shape = c .before .before in
     let a = at-shape .before .before .before .args in
-    bare-noted (a .rows .now) (a .r) (a .parents .now) (a .nexts .now) ((found (a .rows .now) (a .r) (at-shape .shape-at .ensures) (c .enum-told .given .1)) .no-process)
+    (bare-noted (a .rows .now) (a .r) (a .parents .now) (a .nexts .now) ((found (a .rows .now) (a .r) (at-shape .shape-at .ensures) (c .enum-told .given .1)) .no-process), numbered-none (NextOf (a .rows .now)) (a .parents .now) (a .nexts .now))
 
 returns-4 : tie.Need-returns-4
 returns-4 c =
     let at-shape = c .before .before in
     let a = at-shape .before .before .before .args in
-    bare-noted (a .rows .now) (a .r) (a .parents .now) (a .nexts .now) ((found (a .rows .now) (a .r) (at-shape .shape-at .ensures) (c .enum-told2 .given .1)) .no-process)
+    (bare-noted (a .rows .now) (a .r) (a .parents .now) (a .nexts .now) ((found (a .rows .now) (a .r) (at-shape .shape-at .ensures) (c .enum-told2 .given .1)) .no-process), numbered-none (NextOf (a .rows .now)) (a .parents .now) (a .nexts .now))
 
 pub note-row-spec : {M : Type 1} → statement M
 note-row-spec =

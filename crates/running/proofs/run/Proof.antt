@@ -4,6 +4,7 @@ use native.Mathlib.Nat.{le-trans}
 use borrow.Author.Needs.{needs}
 use Rattle.meaning.proofs.AnswerLaws.{accepted}
 use Rattle.agreement.proofs.TableFit.{rows-limit}
+use Rattle.notes.proofs.ByRow.{owner-noted}
 use Rattle.running.proofs.Starting.{root-is, started}
 use Rattle.running.proofs.run.Statement.{statement}
 use Rattle.running.proofs.run.Tie as tie
@@ -68,7 +69,7 @@ take-steps-requires c κs =
     let o = m .before .before .before .before in
     let p = o .before .before .before .before .before .before .pre in
     let rooted = root-is _ _ (o .before .before .declarations .ensures) in
-    (p .0, (rooted, (o .before .before .before .layout-of .ensures .1, ((λ j h. o .note-owners .ensures j (le-trans h (rows-limit _ (p .0)))), (m .note-parents .ensures, (p .1 .0, (p .1 .1, started _ (p .0) _ rooted _ (x .fresh .ensures .0) _ (i .start .ensures))))))))
+    (p .0, (rooted, (o .before .before .before .layout-of .ensures .1, ((λ j h. owner-noted _ _ _ (o .note-owners .ensures) j (le-trans h (rows-limit _ (p .0)))), (m .note-parents .ensures .1 .1, (p .1 .0, (p .1 .1, started _ (p .0) _ rooted _ (x .fresh .ensures .0) _ (i .start .ensures))))))))
 
 returns : tie.Need-returns
 returns c = λ sheet k. let R = c .before .before .before .before .before .before .before .take-steps .ensures sheet k in record { outcome = R .outcome; steps = R .steps; arrays = R .arrays }

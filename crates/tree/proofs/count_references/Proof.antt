@@ -45,7 +45,7 @@ loop-again c =
     let l = c .before .before .before .before .before .before .before in
     let s = l .before .before .before in
     let k = c .before .before .before .before .before .kind .result in
-    let shape = c .before .before .before .before .shape-of .ensures ∙ ap shapeOf (c .before .before .before .before .before .kind .ensures) in
+    let shape = c .before .before .before .before .shape-of .ensures .1 ∙ ap shapeOf (c .before .before .before .before .before .kind .ensures) in
     (l .loop .inv .0, omega arith, c .before .before .note-by .ensures k ∙ ap (noted (l .loop .counts)) (ap (targetsBy (s .args .rows .now) (l .loop .r)) shape) ∙ noted-more (s .args .rows .now) (s .args .counts .now) (l .loop .counts) (l .loop .r) (l .loop .inv .2))
 
 same-length : tie.Need-same-length Inv-loop μ-loop

@@ -19,7 +19,7 @@ leads-is : (c : tie.After-leads-by) →
     c .leads-by .result ≡ leadsBy (s .args .rows .now) (s .args .r) (shapeOf (kindAt (s .args .rows .now) (s .args .r)))
 leads-is c =
     c .leads-by .ensures (c .before .before .kind .result)
-    ∙ ap (leadsBy (c .before .before .before .before .args .rows .now) (c .before .before .before .before .args .r)) (c .before .shape-of .ensures ∙ ap shapeOf (c .before .before .kind .ensures))
+    ∙ ap (leadsBy (c .before .before .before .before .args .rows .now) (c .before .before .before .before .args .r)) (c .before .shape-of .ensures .1 ∙ ap shapeOf (c .before .before .kind .ensures))
 
 kind-requires : tie.Need-kind-requires
 kind-requires c κs = search needs

@@ -29,7 +29,7 @@ slice-aggregate-first-misplaced-2 c = search needs
 first-misplaced-requires : tie.Need-first-misplaced-requires
 first-misplaced-requires c κs =
     let s = c .before .before .before .before .before .before .before .before in
-    (c .before .before .before .before .before .before .before .kind-table .ensures, (counted (s .args .rows .now) (c .before .before .before .before .count-references .last .1 .1 .0) (s .pre) (c .before .before .before .before .count-references .ensures), c .before .declarations .ensures))
+    (c .before .before .before .before .before .before .before .kind-table .ensures .1, (counted (s .args .rows .now) (c .before .before .before .before .count-references .last .1 .1 .0) (s .pre) (c .before .before .before .before .count-references .ensures), c .before .declarations .ensures))
 
 returns : tie.Need-returns
 returns c = rw (c .before .before .declarations .ensures) at (c .first-misplaced .ensures)

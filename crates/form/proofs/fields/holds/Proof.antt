@@ -10,6 +10,7 @@ use Rattle.kinds.specs.Table.{fieldOf}
 use Rattle.kinds.proofs.Sorts.{other-sort}
 use borrow.Author.Needs.{needs}
 use native.Mathlib.Omega.{arith}
+use Rattle.form.proofs.FieldLaws.{value-inside}
 use Rattle.form.proofs.fields.holds.Statement.{statement}
 use Rattle.form.proofs.fields.holds.Tie as tie
 
@@ -45,7 +46,7 @@ same-requires c κs = search needs
 
 returns : tie.Need-returns
 unfolding holds fieldOf
-returns c = rw (c .match .keys1)
+returns c = rw (c .match .keys1) (value-inside (c .before .args .z) (c .before .fits .z))
 
 returns-2 : tie.Need-returns-2
 unfolding holds fieldOf

@@ -28,7 +28,7 @@ returns-2 : tie.Need-returns-2
 returns-2 c =
     let s = c .before .before .before .before .before in
     let k = c .before .before .kind .result in
-    let known = c .before .shape-of .ensures ∙ ap shapeOf (c .before .before .kind .ensures) in
+    let known = c .before .shape-of .ensures .1 ∙ ap shapeOf (c .before .before .kind .ensures) in
     ⊎-elim
     (λ w. early (s .args .rows .now) (s .args .d) (s .args .r) _ (meantShape k (c .before .shape-of .result)) (c .fits2 .ensures k) known (w .1 .left))
     (λ w. none-declared (s .args .rows .now) (s .args .d) (s .args .r) _ (meantShape k (c .before .shape-of .result)) (c .fits2 .ensures k) known (sym (c .before .before .before .before .declares .ensures) ∙ w .left))

@@ -10,10 +10,13 @@ use lib.ListN.{length, getD, replicate, length-replicate}
 use borrow.Author.Needs.{needs}
 use Rattle.meaning.specs.Basics.{among, lowest}
 use Rattle.meaning.specs.Rows.{rowCount}
-use Rattle.notes.specs.Marks.{rowNote, firstNote}
+use Rattle.meaning.specs.State.{program}
+use Rattle.machine.specs.RowSteps.{altOf}
+use Rattle.notes.specs.Marks.{rowNote, firstNote, ownerNotes}
 use Rattle.notes.proofs.Below.{lowest-none}
 use Rattle.notes.proofs.OptionLinks.{isOptionOf, alt-lowest}
 use Rattle.notes.proofs.Noting.{zeros-at}
+use Rattle.notes.proofs.ByRow.{by-row}
 use Rattle.notes.proofs.OwnerNotes.{with-alt, with-other}
 use Rattle.notes.proofs.owners.note_owners.Statement.{statement}
 use Rattle.notes.proofs.owners.note_owners.Tie as tie
@@ -72,13 +75,16 @@ same-length : tie.Need-same-length Inv-loop μ-loop
 same-length c = search needs
 
 returns : tie.Need-returns Inv-loop μ-loop
-returns c j l =
+unfolding ownerNotes
+returns c =
     let at-loop = c .before in
     let at-clear = at-loop .before .before .before in
     let args = at-clear .before .before .before .args in
-    let e : at-loop .loop .r ≡ rowCount (args .rows .now) = omega (arith, at-loop .loop .inv .0) in
+    let rows = args .rows .now in
+    let e : at-loop .loop .r ≡ rowCount rows = omega (arith, at-loop .loop .inv .0) in
     let n : length (at-clear .clear-notes .last .0) ≡ length (args .owners .now) = ap (λ (o : List ℕ). length o) (at-clear .clear-notes .ensures) ∙ length-replicate (length (args .owners .now)) 0 in
-    at-loop .loop .inv .2 j (rw n l) ∙ ap rowNote (ap (lowest (isOptionOf (args .rows .now) j)) e ∙ sym (alt-lowest (args .rows .now) j))
+    by-row (λ j. rowNote (altOf (program rows) j)) (length (args .owners .now)) (at-loop .loop .owners) (at-loop .loop .inv .1 ∙ n)
+    (λ j l. at-loop .loop .inv .2 j (rw n l) ∙ ap rowNote (ap (lowest (isOptionOf rows j)) e ∙ sym (alt-lowest rows j)))
 
 pub note-owners-spec : {M : Type 1} → statement M
 note-owners-spec =

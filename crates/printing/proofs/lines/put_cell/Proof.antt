@@ -5,7 +5,7 @@ use mir.Syntax.{w32}
 use mir.ValLaws.{toZ-ofZ}
 use Rattle.numbers.specs.Printing.{textOf}
 use Rattle.meaning.specs.Printing.{var, wordBytes, valueBytes}
-use Rattle.printing.specs.Decoding.{cellIn}
+use Rattle.meaning.specs.Buffers.{cellOf}
 use Rattle.printing.proofs.LineSteps.{one-line}
 use borrow.Author.Needs.{needs}
 use Rattle.printing.proofs.lines.put_cell.Statement.{statement}
@@ -25,7 +25,7 @@ same-length c = search needs
 
 returns : tie.Need-returns
 unfolding wordBytes
-returns c = let a = c .before .before .before .before .before .before .before .args in c .before .before .put-line .ensures ∙ one-line var (a .row) (a .position) (cellIn (a .mark) (a .value)) (c .before .before .before .before .cell-text .ensures ∙ ap (λ (z : ℤ). textOf (valueBytes (cellIn (a .mark) z))) (toZ-ofZ w32 (c .before .before .before .before .before .before .before .args .value) (c .before .before .before .before .before .before .before .fits .value))) (a .at, a .out .now)
+returns c = let a = c .before .before .before .before .before .before .before .args in c .before .before .put-line .ensures ∙ one-line var (a .row) (a .position) (cellOf (a .value) (a .mark)) (c .before .before .before .before .cell-text .ensures ∙ ap (λ (z : ℤ). textOf (valueBytes (cellOf z (a .mark)))) (toZ-ofZ w32 (c .before .before .before .before .before .before .before .args .value) (c .before .before .before .before .before .before .before .fits .value))) (a .at, a .out .now)
 
 pub put-cell-spec : {M : Type 1} → statement M
 put-cell-spec =

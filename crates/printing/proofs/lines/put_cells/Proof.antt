@@ -9,15 +9,15 @@ use mir.Syntax.{w32}
 use mir.ValLaws.{toZ-ofZ}
 use lib.ListN.{length, getD, drop}
 use Rattle.meaning.specs.Printing.{var, line, numbered}
+use Rattle.meaning.specs.Buffers.{cellOf, decoded}
 use Rattle.writing.specs.Writing.{Writer, putLines}
-use Rattle.printing.specs.Decoding.{cellIn, cellsIn}
 use Rattle.writing.proofs.Writers.{length-putLines}
 use Rattle.printing.proofs.LineSteps.{numbered-next, numbered-done, cells-next, cells-done, cells-out}
 use Rattle.printing.proofs.lines.put_cells.Statement.{statement}
 use Rattle.printing.proofs.lines.put_cells.Tie as tie
 
 abbrev Inv-loop : tie.InvT-loop
-Inv-loop row marks values out₀ at place₀ i₀ out place i = (i ≤ length values) × (length out ≡ length out₀) × (putLines (numbered var row i (drop i (cellsIn marks values))) (place, out) ≡ putLines (numbered var row 0 (cellsIn marks values)) (at, out₀))
+Inv-loop row marks values out₀ at place₀ i₀ out place i = (i ≤ length values) × (length out ≡ length out₀) × (putLines (numbered var row i (drop i (decoded values marks))) (place, out) ≡ putLines (numbered var row 0 (decoded values marks)) (at, out₀))
 
 abbrev μ-loop : tie.MeasureT-loop
 μ-loop row marks values out₀ at place₀ i₀ out place i = length values - i
@@ -29,7 +29,7 @@ same-length : tie.Need-same-length Inv-loop μ-loop
 same-length c = c .before .before .loop .inv .1
 
 returns : tie.Need-returns Inv-loop μ-loop
-returns c = let a = c .before .before .before .before .before .args in sym (numbered-done var (a .row) (cellsIn (a .marks .now) (a .values .now)) (c .before .before .loop .i) (c .before .before .loop .place, c .before .before .loop .out) (cells-done (a .marks .now) (a .values .now) (c .before .before .loop .i) (c .if1 .taken))) ∙ c .before .before .loop .inv .2
+returns c = let a = c .before .before .before .before .before .args in sym (numbered-done var (a .row) (decoded (a .values .now) (a .marks .now)) (c .before .before .loop .i) (c .before .before .loop .place, c .before .before .loop .out) (cells-done (a .marks .now) (a .values .now) (c .before .before .loop .i) (c .if1 .taken))) ∙ c .before .before .loop .inv .2
 
 cast-put-cell : tie.Need-cast-put-cell Inv-loop μ-loop
 cast-put-cell c = omega arith
@@ -53,11 +53,11 @@ loop-again : tie.Need-loop-again Inv-loop μ-loop
 loop-again c =
     let k = c .before .before .before .before .before .before .before .before in
     let a = c .before .before .before .before .before .before .before .before .before .before .before .args in
-    let xs = cellsIn (a .marks .now) (a .values .now) in
+    let xs = decoded (a .values .now) (a .marks .now) in
     let m = getD (a .marks .now) (k .loop .i) 0 in
-    let v = cellIn m (getD (a .values .now) (k .loop .i) (pos 0)) in
+    let v = cellOf (getD (a .values .now) (k .loop .i) (pos 0)) m in
     let e = c .before .before .put-cell .ensures
-    ∙ ap (λ (y : ℤ). putLines (line var (a .row) (k .loop .i) (cellIn m y) ∷ []) (k .loop .place, k .loop .out)) (toZ-ofZ w32 _ (record { sfits = c .before .before .before .before .number-at .ok }) ∙ c .before .before .before .before .number-at .ensures) in (
+    ∙ ap (λ (y : ℤ). putLines (line var (a .row) (k .loop .i) (cellOf y m) ∷ []) (k .loop .place, k .loop .out)) (toZ-ofZ w32 _ (record { sfits = c .before .before .before .before .number-at .ok }) ∙ c .before .before .before .before .number-at .ensures) in (
       search needs,
       ap (λ (w : Writer). length (w .1)) e ∙ length-putLines (line var (a .row) (k .loop .i) v ∷ []) (k .loop .place, k .loop .out) ∙ k .loop .inv .1,
       ap (putLines (numbered var (a .row) (k .loop .i + 1) (drop (k .loop .i + 1) xs))) e
@@ -69,7 +69,7 @@ same-length-2 : tie.Need-same-length-2 Inv-loop μ-loop
 same-length-2 c = c .before .loop .inv .1
 
 returns-2 : tie.Need-returns-2 Inv-loop μ-loop
-returns-2 c = let a = c .before .before .before .before .args in sym (numbered-done var (a .row) (cellsIn (a .marks .now) (a .values .now)) (c .before .loop .i) (c .before .loop .place, c .before .loop .out) (cells-out (a .marks .now) (a .values .now) (c .before .loop .i) (c .loop-test .left))) ∙ c .before .loop .inv .2
+returns-2 c = let a = c .before .before .before .before .args in sym (numbered-done var (a .row) (decoded (a .values .now) (a .marks .now)) (c .before .loop .i) (c .before .loop .place, c .before .loop .out) (cells-out (a .marks .now) (a .values .now) (c .before .loop .i) (c .loop-test .left))) ∙ c .before .loop .inv .2
 
 pub put-cells-spec : {M : Type 1} → statement M
 put-cells-spec =

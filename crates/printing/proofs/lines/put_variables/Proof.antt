@@ -8,15 +8,15 @@ use lib.ListN.{length}
 use Rattle.meaning.specs.Rows.{declarations}
 use Rattle.meaning.specs.Declarations.{sumBelow, cellsAt}
 use Rattle.meaning.specs.Printing.{Line}
+use Rattle.meaning.specs.Buffers.{decoded}
 use Rattle.writing.specs.Writing.{Writer, putLines}
-use Rattle.printing.specs.Decoding.{cellsIn}
 use Rattle.writing.proofs.Writers.{putLines-none, length-putLines}
 use Rattle.printing.proofs.RowLines.{cellsBelow, cells-below-none, cells-below-all, few-declarations, part-short, cells-step, sum-none, sum-more}
 use Rattle.printing.proofs.lines.put_variables.Statement.{statement}
 use Rattle.printing.proofs.lines.put_variables.Tie as tie
 
 abbrev Inv-loop : tie.InvT-loop
-Inv-loop rows marks values out₀ at count place₀ first₀ r₀ out place first r = (r ≤ count) × (first ≡ sumBelow (cellsAt rows) r) × (first ≤ r * 4294967296) × ((place, out) ≡ putLines (cellsBelow rows (cellsIn marks values) r) (at, out₀))
+Inv-loop rows marks values out₀ at count place₀ first₀ r₀ out place first r = (r ≤ count) × (first ≡ sumBelow (cellsAt rows) r) × (first ≤ r * 4294967296) × ((place, out) ≡ putLines (cellsBelow rows (decoded values marks) r) (at, out₀))
 
 abbrev μ-loop : tie.MeasureT-loop
 μ-loop rows marks values out₀ at count place₀ first₀ r₀ out place first r = count - r
@@ -30,7 +30,7 @@ loop-holds c =
       search needs,
       sum-none (cellsAt (a .rows .now)),
       omega arith,
-      sym (ap (λ (l : List Line). putLines l (a .at, a .out .now)) (cells-below-none (a .rows .now) (cellsIn (a .marks .now) (a .values .now))) ∙ putLines-none (a .at, a .out .now)),
+      sym (ap (λ (l : List Line). putLines l (a .at, a .out .now)) (cells-below-none (a .rows .now) (decoded (a .values .now) (a .marks .now))) ∙ putLines-none (a .at, a .out .now)),
     )
 
 cells-at-requires : tie.Need-cells-at-requires Inv-loop μ-loop
@@ -71,7 +71,7 @@ loop-again c =
     )
 
 same-length : tie.Need-same-length Inv-loop μ-loop
-same-length c = let a = c .before .before .before .before .before .args in ap (λ (w : Writer). length (w .1)) (c .before .loop .inv .3) ∙ length-putLines (cellsBelow (a .rows .now) (cellsIn (a .marks .now) (a .values .now)) (c .before .loop .r)) (a .at, a .out .now)
+same-length c = let a = c .before .before .before .before .before .args in ap (λ (w : Writer). length (w .1)) (c .before .loop .inv .3) ∙ length-putLines (cellsBelow (a .rows .now) (decoded (a .values .now) (a .marks .now)) (c .before .loop .r)) (a .at, a .out .now)
 
 returns : tie.Need-returns Inv-loop μ-loop
 returns c =
@@ -79,8 +79,8 @@ returns c =
     let x : Writer = (a .at, a .out .now) in
     let all : c .before .loop .r ≡ declarations (a .rows .now) = omega (arith, c .before .before .declarations .ensures, c .before .loop .inv) in
     c .before .loop .inv .3
-    ∙ ap (λ (q : ℕ). putLines (cellsBelow (a .rows .now) (cellsIn (a .marks .now) (a .values .now)) q) x) all
-    ∙ ap (λ (l : List Line). putLines l x) (cells-below-all (a .rows .now) (cellsIn (a .marks .now) (a .values .now)))
+    ∙ ap (λ (q : ℕ). putLines (cellsBelow (a .rows .now) (decoded (a .values .now) (a .marks .now)) q) x) all
+    ∙ ap (λ (l : List Line). putLines l x) (cells-below-all (a .rows .now) (decoded (a .values .now) (a .marks .now)))
 
 pub put-variables-spec : {M : Type 1} → statement M
 put-variables-spec =

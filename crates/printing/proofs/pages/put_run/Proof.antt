@@ -1,9 +1,9 @@
 -- The line of names, and the lines of the run's parts. Assumes nothing.
 use Rattle.meaning.specs.declared.Answer.the-variants.{Ran}
 use Rattle.meaning.specs.Declarations.{channels}
-use Rattle.meaning.specs.Buffers.{capacities}
+use Rattle.meaning.specs.Buffers.{decoded, capacities}
 use Rattle.meaning.specs.Printing.{answerLine, cellLines, outLines, stopLines}
-use Rattle.printing.specs.Decoding.{cellsIn, outputsIn}
+use Rattle.printing.specs.Decoding.{outputsIn}
 use Rattle.printing.proofs.PageLaws.{page-made}
 use borrow.Author.Needs.{needs}
 use Rattle.printing.proofs.pages.put_run.Statement.{statement}
@@ -34,7 +34,7 @@ returns : tie.Need-returns
 returns c =
     let a = c .before .before .before .before .before .before .before .before .before .before .before .before .before .before .before .before .before .before .before .before .before .before .before .before .before .args in
     page-made (answerLine (Ran (a .outcome) (a .steps)))
-    (cellLines (a .rows .now) (cellsIn (a .marks .now) (a .values .now)))
+    (cellLines (a .rows .now) (decoded (a .values .now) (a .marks .now)))
     (outLines (channels (a .rows .now) 2) (outputsIn (capacities (a .rows .now)) (a .counts .now) (a .numbers .now)))
     (stopLines 0 (a .states .now))
     (a .out .now)

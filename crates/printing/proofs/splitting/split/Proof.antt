@@ -4,7 +4,7 @@ use Prim.Native.Nat.{_-_}
 use native.Mathlib.Omega.{arith}
 use borrow.Author.Needs.{needs}
 use lib.ListN.{length}
-use Rattle.printing.proofs.Splits.{Passed, passed-none, passed-more, line-inside, splits-at, splits-nowhere}
+use Rattle.printing.proofs.Splits.{Passed, passed-none, passed-more, line-inside, splits-at, splits-nowhere, split-is}
 use Rattle.printing.proofs.splitting.split.Statement.{statement}
 use Rattle.printing.proofs.splitting.split.Tie as tie
 
@@ -33,7 +33,7 @@ is-separator-requires : tie.Need-is-separator-requires Inv-loop μ-loop
 is-separator-requires c κs = search needs
 
 returns : tie.Need-returns Inv-loop μ-loop
-returns c = splits-at (c .before .before .before .before .before .before .before .args .input .now) (c .before .before .before .before .before .loop .at) (c .before .before .before .line-end .result) (c .before .before .before .before .loop-test .taken) (c .before .before .before .line-end .ensures) (c .before .before .before .before .before .loop .inv) (sym (c .before .is-separator .ensures) ∙ c .if1 .taken)
+returns c = split-is _ _ (splits-at (c .before .before .before .before .before .before .before .args .input .now) (c .before .before .before .before .before .loop .at) (c .before .before .before .line-end .result) (c .before .before .before .before .loop-test .taken) (c .before .before .before .line-end .ensures) (c .before .before .before .before .before .loop .inv) (sym (c .before .is-separator .ensures) ∙ c .if1 .taken))
 
 loop-less : tie.Need-loop-less Inv-loop μ-loop
 loop-less c = let h = line-inside (c .before .before .before .before .before .before .before .args .input .now) (c .before .before .before .before .before .loop .at) (c .before .before .before .line-end .result) (c .before .before .before .before .loop-test .taken) (c .before .before .before .line-end .ensures) in omega arith
@@ -42,7 +42,7 @@ loop-again : tie.Need-loop-again Inv-loop μ-loop
 loop-again c = passed-more (c .before .before .before .before .before .before .before .args .input .now) (c .before .before .before .before .before .loop .at) (c .before .before .before .line-end .result) (c .before .before .before .before .loop-test .taken) (c .before .before .before .line-end .ensures) (c .before .before .before .before .before .loop .inv) (sym (c .before .is-separator .ensures) ∙ c .if1 .left)
 
 returns-2 : tie.Need-returns-2 Inv-loop μ-loop
-returns-2 c = splits-nowhere (c .before .before .before .args .input .now) (c .before .loop .at) (c .before .loop .inv) (c .loop-test .left)
+returns-2 c = split-is _ _ (splits-nowhere (c .before .before .before .args .input .now) (c .before .loop .at) (c .before .loop .inv) (c .loop-test .left))
 
 pub split-spec : {M : Type 1} → statement M
 split-spec =

@@ -1,15 +1,13 @@
 -- The loop keeps how far the line is read. Assumes nothing.
-use mathlib.Core.Path.{ap, _∙_}
-use Prim.Native.Nat.{ℕ, _-_}
+use mathlib.Core.Path.{_∙_}
+use Prim.Native.Nat.{_-_}
 use lib.ListN.{drop}
 use borrow.Author.Tests.{not-true, not-false}
 use mir.Syntax.{w32}
 use mir.Val.{SFits}
 use mir.ValLaws.{toZ-ofZ}
-use Rattle.meaning.specs.Sheet.{valuesOf}
-use Rattle.table.specs.Fields.{firstLine}
 use borrow.Author.Needs.{needs}
-use Rattle.readings.proofs.LineSteps.{no-channel, line-wrong, Halfway, line-begun, values-length, marks-length, stopped, passed, line-right}
+use Rattle.readings.proofs.LineSteps.{none-put, Halfway, line-begun, values-length, marks-length, stopped, passed, line-right}
 use Rattle.readings.proofs.lines.read_line.Statement.{statement}
 use Rattle.readings.proofs.lines.read_line.Tie as tie
 
@@ -20,11 +18,7 @@ abbrev μ-loop : tie.MeasureT-loop
 μ-loop sheet from count line values₀ marks₀ at₀ j₀ values marks at j = count - j
 
 returns : tie.Need-returns Inv-loop μ-loop
-returns c =
-    let a = c .before .before .before .args in
-    let s = drop (a .from) (a .sheet .now) in
-    line-wrong (a .count) (a .line) (a .from) s (a .values .now) (a .marks .now) (a .values .now) (a .marks .now)
-    (ap (λ (k : ℕ). valuesOf k (firstLine s)) (c .if1 .taken) ∙ no-channel s)
+returns c = let a = c .before .before .before .args in none-put (a .count) (a .line) (a .from) (drop (a .from) (a .sheet .now)) (a .values .now) (a .marks .now) (c .if1 .taken)
 
 loop-holds : tie.Need-loop-holds Inv-loop μ-loop
 loop-holds c = let a = c .before .before .before .args in line-begun (a .sheet .now) (a .from) (a .count) (a .line) (a .values .now) (a .marks .now) (c .if1 .left)

@@ -1,0 +1,46 @@
+-- The rows of a step, the rows of an ALT's options, and the offer of an option.
+use mathlib.Core.Logic.{_≢_}
+use mathlib.Core.Option.{Option, none, some}
+use mathlib.Core.List.{List, [], _∷_}
+use Prim.Native.Nat.{ℕ}
+use lib.Dec.{eqb}
+use Rattle.meaning.specs.Rows.{ifElse}
+use Rattle.meaning.specs.Tree.{AltOption, Action, stop, skip, sequence, parallel, assign, receive, send, conditional, loop, alternation}
+use Rattle.meaning.specs.Intent.{Offer}
+use Rattle.meaning.specs.Ready.{Label, own, pass, take, takeFrom, optionRow}
+
+-- the rows of a step
+pub data RowOf : Label → ℕ → Type 0 where
+  its : {r : ℕ} → RowOf (own r) r
+  receiver : {i o : ℕ} → RowOf (pass i o) i
+  sender : {i o : ℕ} → RowOf (pass i o) o
+  chooser : {r j : ℕ} → RowOf (take r j) r
+  selector : {r j o : ℕ} → RowOf (takeFrom r j o) r
+  giver : {r j o : ℕ} → RowOf (takeFrom r j o) o
+
+-- a row is none of a step's
+abbrev pub NoneOf : Label → ℕ → Type 0
+NoneOf x r = (q : ℕ) → RowOf x q → q ≢ r
+
+-- the rows of some options
+abbrev pub rowsOfOptions : List AltOption → List ℕ
+rowsOfOptions [] = []
+rowsOfOptions (b ∷ l) = b .row ∷ rowsOfOptions l
+
+-- the rows of an action's options
+abbrev pub optionRows : Action → List ℕ
+optionRows stop = []
+optionRows skip = []
+optionRows sequence = []
+optionRows parallel = []
+optionRows (assign v e f) = []
+optionRows (receive i) = []
+optionRows (send c e f) = []
+optionRows (conditional ts) = []
+optionRows (loop e b) = []
+optionRows (alternation bs) = rowsOfOptions bs
+
+-- the first offer of an option
+abbrev pub offerAt : ℕ → List Offer → Option Offer
+offerAt j [] = none
+offerAt j (o ∷ l) = ifElse (eqb (optionRow o) j) (some o) (offerAt j l)

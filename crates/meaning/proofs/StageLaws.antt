@@ -1,0 +1,37 @@
+-- The stages 4, 5 and 6 find nothing exactly if every place is right.
+use mathlib.Core.Path.{_≡_, sym, _∙_}
+use mathlib.Core.Logic.{_↔_}
+use mathlib.Core.List.{List}
+use mathlib.Core.Option.{Option, none, some, Option·map, Option·some-ne-none}
+use Prim.Native.Nat.{ℕ, suc, _<_}
+use lib.IntN.{ℤ}
+use Rattle.meaning.specs.Basics.{Lowest}
+use Rattle.meaning.specs.Rows.{rowCount, declarations}
+use Rattle.meaning.specs.TableBytes.{Refusal}
+use Rattle.meaning.specs.Verdict.{formFault, treeFault, limitFault}
+use Rattle.meaning.specs.Faults.{WellFormed, WellPlaced, WithinLimits}
+use Rattle.meaning.specs.StageClaims.{Finds, FormStage, TreeStage, LimitStage}
+use Rattle.meaning.proofs.Decides.{not-wrong}
+use Rattle.meaning.proofs.FaultLaws.{well-formed, form-stage, within-limits, limit-stage}
+use Rattle.meaning.proofs.TreeLaws.{well-placed, tree-stage}
+
+-- a stage that finds nothing: all places are right
+finds-none : (number : ℕ) (Right : ℕ → Type 0) → ((i : ℕ) → ¬ (¬ Right i) → Right i) → (n : ℕ) (found : Option Refusal) → Finds number Right n found → (found ≡ none) ↔ ((i : ℕ) → i < n → Right i)
+finds-none number Right stable n found h = go (h .0) (h .1) (h .2)
+  where
+    go : (o : Option ℕ) → found ≡ Option·map (λ r. (number, r)) o → Lowest (λ i. ¬ Right i) n o → (found ≡ none) ↔ ((i : ℕ) → i < n → Right i)
+    go none e w = (λ z i l. stable i (w i l), λ z. e)
+    go (some i) e w = (λ z. absurd (Option·some-ne-none (number, i) (sym e ∙ z)), λ z. absurd (w .1 (z i (w .0))))
+
+module _ (rows : List ℤ) where
+  pub form-none : (formFault rows ≡ none) ↔ ((r : ℕ) → r < rowCount rows → WellFormed rows r)
+  unfolding FormStage
+  form-none = finds-none 4 (WellFormed rows) (λ r. not-wrong (well-formed rows r)) (rowCount rows) (formFault rows) (form-stage rows)
+
+  pub tree-none : (treeFault rows ≡ none) ↔ ((r : ℕ) → r < suc (rowCount rows) → WellPlaced rows r)
+  unfolding TreeStage
+  tree-none = finds-none 5 (WellPlaced rows) (λ r. not-wrong (well-placed rows r)) (suc (rowCount rows)) (treeFault rows) (tree-stage rows)
+
+  pub limit-none : (limitFault rows ≡ none) ↔ ((r : ℕ) → r < declarations rows → WithinLimits rows r)
+  unfolding LimitStage
+  limit-none = finds-none 6 (WithinLimits rows) (λ r. not-wrong (within-limits rows r)) (declarations rows) (limitFault rows) (limit-stage rows)
