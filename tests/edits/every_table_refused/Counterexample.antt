@@ -8,7 +8,8 @@ use native.Mathlib.Omega.{arith}
 use lib.IntN.{ℤ, pos}
 use Rattle.meaning.specs.Rows.{kindAt}
 use Rattle.meaning.specs.Kinds.{Field, unused, value, within, elements, capacity, variable, channel, reference, link, Shape}
-use Rattle.meaning.specs.Faults.{Place, of-a, of-b, of-c, fieldOf, Holds, WellFormed, RefersBy, Leads, numberOf, Refers, Placed, WellPlaced}
+use Rattle.meaning.specs.References.{Place, of-a, of-b, of-c, fieldOf, numberOf, RefersBy, Refers}
+use Rattle.meaning.specs.Faults.{Holds, WellFormed, Leads, Placed, WellPlaced}
 use Rattle.meaning.specs.Clash as C
 use Rattle.meaning.specs.Clash.{IsMember, Components, components, Clash}
 use Rattle.meaning.proofs.ComputesAnswers.{computesAnswers}
@@ -31,18 +32,22 @@ unfolding computesAnswers WellFormed Holds
 formed zero h = (λ k. absurd (early k), (shape, refl, refl, refl, refl))
 formed (suc r) h = absurd (let k : suc r < 1 = h in omega arith)
 
--- a row refers to a higher one only
-refers-up : (q t : ℕ) (f : Field) (z : ℤ) → RefersBy rows q f z t → q < t
+-- a row refers to a higher one, and there is none
+refers-up : (q t : ℕ) (f : Field) (z : ℤ) → RefersBy rows q f z t → ⊥
 unfolding RefersBy
-refers-up q t unused z h = absurd h
-refers-up q t value z h = absurd h
-refers-up q t (within lo hi) z h = absurd h
-refers-up q t elements z h = absurd h
-refers-up q t capacity z h = absurd h
-refers-up q t variable z h = absurd h
-refers-up q t (channel roles) z h = absurd h
-refers-up q t (reference kinds) z (e, u) = u .0
-refers-up q t (link kinds) z (e, u) = u .0
+refers-up q t unused z h = h
+refers-up q t value z h = h
+refers-up q t (within lo hi) z h = h
+refers-up q t elements z h = h
+refers-up q t capacity z h = h
+refers-up q t variable z h = h
+refers-up q t (channel roles) z h = h
+refers-up q t (reference kinds) z (e, u) = let n : t < 1 = u .1 in omega (arith, u .0)
+refers-up q t (link kinds) z (e, u) = let n : t < 1 = u .1 in omega (arith, u .0)
+
+none-refers : (q : ℕ) (o : Place) (t : ℕ) → ¬ Refers rows q o t
+unfolding Refers
+none-refers q o t (s, k, h) = refers-up q t (fieldOf s o) (numberOf rows q o) h
 
 leads : (p : Place) → Leads rows 0 (fieldOf shape p) (numberOf rows 0 p)
 unfolding Leads
@@ -51,11 +56,11 @@ leads of-b = tt
 leads of-c = tt
 
 root-placed : Placed rows 0
-unfolding computesAnswers Placed Refers
+unfolding computesAnswers Placed
 root-placed = (
   λ s e p. subst (λ (o : Option Shape). Leads rows 0 (fieldOf (Option·getD o shape) p) (numberOf rows 0 p)) e (leads p),
   λ e. List·Memᴰ·tail (List·Memᴰ·head refl),
-  λ e q o h. let u = refers-up q 0 (fieldOf (h .0) o) (numberOf rows q o) (h .2) in omega arith,
+  λ e q o. none-refers q o 0,
   λ n. absurd (n refl),
 )
 
@@ -64,10 +69,10 @@ unfolding computesAnswers WellPlaced
 placed zero h = (λ e. absurd (let d : _≡_ {A = ℕ} 0 1 = e in omega arith), λ b. root-placed)
 placed (suc r) h = (λ e d. let n : 0 ≡ suc r = d in omega arith, λ b. absurd (let n : suc r < 1 = b .1 in omega arith))
 
--- a member of a PAR is a higher row, and there is none
+-- so a PAR has no member
 no-member : {r m : ℕ} → IsMember rows r m → ⊥
-no-member (C.first {m} e u) = let n : m < 1 = u .2 in omega (arith, u .1)
-no-member (C.next {m} {b} i e u) = no-member i
+no-member {r} (C.first {m} k u) = none-refers r of-a m u
+no-member (C.next i u) = no-member i
 
 apart : {r p q : ℕ} → Components rows r p q → ⊥
 apart (components m n d e f) = no-member m
