@@ -74,7 +74,7 @@ pub counterexample : (¬ SetByNumber) × (¬ AbsentUnsets) × (¬ MissingAnswere
 unfolding computesAnswers
 counterexample = (
   λ h. given (h P sheet start (own 2) read reads 0 (pos 0) refl),
-  λ h. let e : _≡_ {A = ℕ} 1 0 = ap present (h rows sheet start (own 2) 0 absent .1 read reads) in omega arith,
+  λ h. let e : _≡_ {A = ℕ} 1 0 = ap present (h rows sheet start (own 2) 0 absent .2 read reads) in omega arith,
   λ h.
       let (ran, cells) = h task lentBuffers Ended 1 refl in
       let handed = cells 0 (omega arith) .0 (λ e. let d : _≡_ {A = ℕ} 1 0 = e in omega arith) .1 in

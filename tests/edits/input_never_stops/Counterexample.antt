@@ -8,12 +8,10 @@ use lib.IntN.{ℤ, pos}
 use Rattle.meaning.specs.Tree.{Action, actionOf}
 use Rattle.meaning.specs.State.{State, Program, program, processAt, Effect}
 use Rattle.meaning.specs.Labels.{Label, own}
-use Rattle.meaning.specs.SettlingRules.{rest}
 use Rattle.meaning.specs.Step.{Live, live, Lacks, assign-subscript, assign-value, output-subscript, output-value, while-test, if-test, alt-guard, Allows, assignment, while-false, while-true, if-true, communication, host, host-read, host-write, alt-skip, alt-read, alt-communication, stopping}
-use Rattle.meaning.specs.Order.{halt, OrderOf}
 use Rattle.meaning.proofs.ComputesAnswers.{computesAnswers}
 use Rattle.agreement.specs.MissingClaims.{cell-unset, in-target, in-receive, ActionNeedsUnset, UnsetLacks, UnsetStops}
-use Rattle.counterexample.specs.Concrete.{present, rowIn, other-sort, action-at, other-step, other-action, idle-by-test, settles}
+use Rattle.counterexample.specs.Concrete.{present, rowIn, other-sort, action-at, other-step, other-action, idle-by-test}
 
 abbrev rows : List ℤ
 rows =
@@ -32,10 +30,6 @@ P = program rows
 
 abbrev start : State
 start = record { states = 0 ∷ 0 ∷ 0 ∷ 1 ∷ 0 ∷ 0 ∷ 0 ∷ 0 ∷ []; store = record { cells = none ∷ none ∷ []; places = 0 ∷ []; outputs = [] } }
-
-order : OrderOf rows [] [] start
-unfolding computesAnswers
-order = record { beginning = start; begins = record { settles = settles P rest refl; unset = refl; unread = refl; unwritten = refl }; order = halt }
 
 abbrev action : Action
 action = actionOf (processAt P 3)
@@ -78,5 +72,5 @@ pub counterexample : (¬ UnsetLacks) × (¬ UnsetStops)
 unfolding computesAnswers
 counterexample = (
   λ h. lacks-none (h (start .store .cells) action .1 needs) refl,
-  λ h. let (t, step) = h rows [] start 3 action runs needs .0 refl ([], order) in none-allowed (step .allowed) refl,
+  λ h. none-allowed (h rows [] start 3 action runs needs .0) refl,
 )

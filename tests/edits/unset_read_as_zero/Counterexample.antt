@@ -50,7 +50,7 @@ counterexample = (
       let e : _≡_ {A = ℕ} 0 1001 = ap told (read .1 (cell-unset refl refl)) in
       omega arith,
   λ h.
-      let stops = h rows [] start 2 (actionOf (processAt P 2)) runs (assign-from refl (cell-unset refl refl)) .1 (own 2) assigned assigns refl in
+      let stops = h rows [] start 2 (actionOf (processAt P 2)) runs (assign-from refl (cell-unset refl refl)) .2 (own 2) assigned assigns refl in
       let e : _≡_ {A = ℕ} 1 0 = ap (λ (s : Store). present (getD (s .cells) 0 none)) (stops .1 .stores) in
       omega arith,
 )
