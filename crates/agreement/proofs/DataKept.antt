@@ -19,7 +19,8 @@ use Rattle.meaning.specs.Ready.{Label}
 use Rattle.meaning.specs.Step.{Live, live, host, Allows, assignment, while-false, while-true, if-true, communication, host-read, host-write, alt-skip, alt-read, alt-communication, stopping}
 use Rattle.agreement.specs.Coherence.{RowState}
 use Rattle.agreement.proofs.KnownStates.{set-keeps, ChangesOk}
-use Rattle.agreement.proofs.TableTree.{above, part-at, part-past, process-is}
+use Rattle.meaning.specs.PartClaims.{higherPart}
+use Rattle.agreement.proofs.TableTree.{part-at, part-past, process-is}
 use Rattle.agreement.proofs.TableHosts.{same-row}
 
 -- ---- the channel of an output is one that a row declares
@@ -62,7 +63,7 @@ module _ (rows : List ℤ) where
   every-sink r = rw (process-is rows r) (go (decLt r (rowCount rows)))
     where
       go : Dec (r < rowCount rows) → Sink (actionOf (orStop (partAt rows r .process)))
-      go (yes l) = rw (part-at rows r l) (part-sink r (above rows r) (nodeAt rows r))
+      go (yes l) = rw (part-at rows r l) (part-sink r (higherPart rows r) (nodeAt rows r))
       go (no l) = rw (part-past rows r (omega arith)) tt
 
   -- of two such channels of the host with one number the capacity is one

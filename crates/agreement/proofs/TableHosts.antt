@@ -21,7 +21,8 @@ use Rattle.meaning.specs.Tree.{Action, Process, node, Members, Part, partOf, pa
 use Rattle.meaning.proofs.AnswerLaws.{RightRows}
 use Rattle.meaning.proofs.LowestLaws.{lowest-is}
 use Rattle.agreement.proofs.Fit.{HostAt, GuardAt, GuardsAt, HostsAt}
-use Rattle.agreement.proofs.TableTree.{above, Known, every-row}
+use Rattle.meaning.specs.PartClaims.{higherPart}
+use Rattle.agreement.proofs.TableTree.{Known, every-row}
 use Rattle.agreement.proofs.TableStarts.{root-below}
 
 and-true : (s t : Bool) → (s && t) ≡ true → (s ≡ true) × (t ≡ true)
@@ -167,7 +168,7 @@ module _ (rows : List ℤ) (A : RightRows rows) where
   part-ok r at h Other = (tt, tt, tt)
 
   every-part : (r : ℕ) → HostsOk r (partAt rows r)
-  every-part = every-row rows HostsOk (λ r. (tt, tt, tt)) (λ r l e h. part-ok r (above rows r) (λ b. of-known r b (above rows r b) (h b)) (nodeAt rows r))
+  every-part = every-row rows HostsOk (λ r. (tt, tt, tt)) (λ r l e h. part-ok r (higherPart rows r) (λ b. of-known r b (higherPart rows r b) (h b)) (nodeAt rows r))
 
   -- the host channels of the process at a row
   pub hosts-at : (r : ℕ) (k : Action) (ms : Members) → partAt rows r .process ≡ some (node k r ms) → HostsAt (sourceOf rows) (sinkOf rows) k

@@ -17,7 +17,8 @@ use Rattle.meaning.proofs.ReferenceCounts.{a-not-b}
 use Rattle.agreement.proofs.Again.{Out}
 use Rattle.agreement.proofs.Reach.{Sub}
 use Rattle.agreement.proofs.OptionRows.{optionRows, OptionRows, rowsOfOptions}
-use Rattle.agreement.proofs.TableTree.{process-is, Known, every-row, above}
+use Rattle.meaning.specs.PartClaims.{higherPart}
+use Rattle.agreement.proofs.TableTree.{process-is, Known, every-row}
 use Rattle.agreement.proofs.TableReferences.{members-shape, option-shape, Fields, fields-are, refers-to, once}
 use Rattle.agreement.proofs.TableApart.{row-sub}
 use Rattle.agreement.proofs.TableFit.{inside-stands}
@@ -88,7 +89,7 @@ module _ (rows : List ℤ) (A : RightRows rows) where
     part-ok Other e f = nothing r
 
   every-part : (r : ℕ) → OptionsOk r (partAt rows r)
-  every-part = every-row rows OptionsOk nothing (λ r l e h. part-ok r l (above rows r) h (nodeAt rows r) e (fields-are rows r))
+  every-part = every-row rows OptionsOk nothing (λ r l e h. part-ok r l (higherPart rows r) h (nodeAt rows r) e (fields-are rows r))
 
   -- the options of a process inside the whole
   options-at : (k : Action) (r : ℕ) (ms : Members) → Sub k r ms (whole (program rows)) → (j : ℕ) → List·Memᴰ j (optionRows k) → (c : ℕ) × Refers rows r of-a c × From c j

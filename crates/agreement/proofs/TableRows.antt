@@ -18,7 +18,8 @@ use Rattle.meaning.proofs.AnswerLaws.{RightRows}
 use Rattle.meaning.proofs.ReferenceCounts.{a-not-b}
 use Rattle.agreement.proofs.Frame.{Off}
 use Rattle.agreement.proofs.Again.{Out, Sound, SoundM}
-use Rattle.agreement.proofs.TableTree.{above, Known, every-row}
+use Rattle.meaning.specs.PartClaims.{higherPart}
+use Rattle.agreement.proofs.TableTree.{Known, every-row}
 use Rattle.agreement.proofs.TableReferences.{members-shape, while-shape, member-shape, choice-shape, option-shape, Leading, unguarded, Shaped, Holding, Fields, fields-are, refers-to, refers-up, once, Desc, self, desc-le, desc-from, parted}
 
 abbrev pub rowsOf : Option Process → List ℕ
@@ -136,7 +137,7 @@ module _ (rows : List ℤ) (A : RightRows rows) where
     part-ok Other f = nothing r
 
   every-part : (r : ℕ) → RowsOk r (partAt rows r)
-  every-part = every-row rows RowsOk nothing (λ r l e h. part-ok r l (above rows r) h (nodeAt rows r) (fields-are rows r))
+  every-part = every-row rows RowsOk nothing (λ r l e h. part-ok r l (higherPart rows r) h (nodeAt rows r) (fields-are rows r))
 
   -- the rows of the process at a row are that row, or beneath it and not of guards
   pub down-at : (r x : ℕ) → List·Memᴰ x (rowsOf (partAt rows r .process)) → Desc rows A r x

@@ -20,7 +20,8 @@ use Rattle.meaning.specs.Tree.{IfChoice, AltOption, Action, Process, node, Memb
 use Rattle.meaning.proofs.AnswerLaws.{RightRows}
 use Rattle.agreement.proofs.Commute.{Child, eldest, younger}
 use Rattle.agreement.proofs.Fit.{ChoicesIn, OptionsIn, Starts}
-use Rattle.agreement.proofs.TableTree.{above, part-at, Known, every-row}
+use Rattle.meaning.specs.PartClaims.{higherPart}
+use Rattle.agreement.proofs.TableTree.{part-at, Known, every-row}
 use Rattle.agreement.proofs.TableReferences.{while-shape, choice-shape, option-shape, Shaped, Holding, Fields, fields-are, placed-at, leads-at}
 
 all-in : (P : ℕ → Type 0) (ks : List ℕ) → Each P ks → (k : ℕ) → List·Memᴰ k ks → P k
@@ -37,8 +38,8 @@ module _ (rows : List ℤ) where
   IsProcess b = (k : Action) × (ms : Members) × (partAt rows b .process ≡ some (node k b ms))
 
   module _ (b : ℕ) (l : b < rowCount rows) where
-    there : (N : Node) (k : Action) (ms : Members) → nodeAt rows b ≡ N → partOf rows b (above rows b) N .process ≡ some (node k b ms) → IsProcess b
-    there N k ms e h = (k, ms, ap (λ (q : Part). q .process) (part-at rows b l ∙ ap (partOf rows b (above rows b)) e) ∙ h)
+    there : (N : Node) (k : Action) (ms : Members) → nodeAt rows b ≡ N → partOf rows b (higherPart rows b) N .process ≡ some (node k b ms) → IsProcess b
+    there N k ms e h = (k, ms, ap (λ (q : Part). q .process) (part-at rows b l ∙ ap (partOf rows b (higherPart rows b)) e) ∙ h)
 
     -- a row of one of the kinds 20 to 34 is a process
     pub is-process : List·Memᴰ (kindAt rows b) processes → IsProcess b
@@ -115,9 +116,9 @@ module _ (rows : List ℤ) (A : RightRows rows) where
   of-known r b p (inl e) = rw e (tt, tt, tt)
   of-known r b p (inr h) = h .3
 
-  module _ (r : ℕ) (l : r < rowCount rows) (known : (b : ℕ) → StartsOk b (above rows r b)) where
+  module _ (r : ℕ) (l : r < rowCount rows) (known : (b : ℕ) → StartsOk b (higherPart rows r b)) where
     abbrev at : ℕ → Part
-    at = above rows r
+    at = higherPart rows r
 
     -- the process that a field refers to comes first among the members
     comes-first : (k b : ℕ) (s : Shape) (p : Place) (ms : Members) → Shaped rows r k s → fieldOf s p ≡ reference processes → Holding rows r p b → Child b (andMember (at b .process) ms)
@@ -147,7 +148,7 @@ module _ (rows : List ℤ) (A : RightRows rows) where
     part-ok Other f = (tt, tt, tt)
 
   every-part : (r : ℕ) → StartsOk r (partAt rows r)
-  every-part = every-row rows StartsOk (λ r. (tt, tt, tt)) (λ r l e h. part-ok r l (λ b. of-known r b (above rows r b) (h b)) (nodeAt rows r) (fields-are rows r))
+  every-part = every-row rows StartsOk (λ r. (tt, tt, tt)) (λ r l e h. part-ok r l (λ b. of-known r b (higherPart rows r b) (h b)) (nodeAt rows r) (fields-are rows r))
 
   -- what the process at a row may start is one of its members
   pub starts-at : (r : ℕ) (k : Action) (ms : Members) → partAt rows r .process ≡ some (node k r ms) → Starts k ms

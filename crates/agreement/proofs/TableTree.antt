@@ -39,11 +39,7 @@ occupied : {k : Action} {r : ℕ} {ms : Members} (ps : Members) → SubM k r ms 
 occupied (also p ps) h = tt
 
 module _ (rows : List ℤ) where
-  -- what stands at a row, if row r may refer to it
-  abbrev pub above : ℕ → ℕ → Part
-  above r = higherPart rows r
-
-  pub part-at : (r : ℕ) → r < rowCount rows → partAt rows r ≡ partOf rows r (above r) (nodeAt rows r)
+  pub part-at : (r : ℕ) → r < rowCount rows → partAt rows r ≡ partOf rows r (higherPart rows r) (nodeAt rows r)
   part-at r = part-unfolds rows r .0
 
   pub part-past : (r : ℕ) → rowCount rows ≤ r → partAt rows r ≡ noPart
@@ -59,7 +55,7 @@ module _ (rows : List ℤ) where
 
   -- what holds of a row if it holds of the rows that it may refer to, and where nothing stands, holds of every row
   module _ (Q : ℕ → Part → Type 0) (nothing : (r : ℕ) → Q r noPart)
-      (step : (r : ℕ) → r < rowCount rows → partAt rows r ≡ partOf rows r (above r) (nodeAt rows r) → ((b : ℕ) → Known Q r b (above r b)) → Q r (partOf rows r (above r) (nodeAt rows r))) where
+      (step : (r : ℕ) → r < rowCount rows → partAt rows r ≡ partOf rows r (higherPart rows r) (nodeAt rows r) → ((b : ℕ) → Known Q r b (higherPart rows r b)) → Q r (partOf rows r (higherPart rows r) (nodeAt rows r))) where
     known : (r b : ℕ) (t : Bool) → ltb r b ≡ t → Dec (b < rowCount rows) → ((c : ℕ) → r < c → Q c (partAt rows c)) → Known Q r b (ifElse t (partAt rows b) noPart)
     known r b true e (yes l) f = inr (ltb-true r b e, l, refl, f b (ltb-true r b e))
     known r b true e (no l) f = inl (part-past b (omega arith))
@@ -140,7 +136,7 @@ module _ (rows : List ℤ) where
   of-known r b p (inr h) = h .3
 
   every-part : (r : ℕ) → PartOk r (partAt rows r)
-  every-part = every-row PartOk (λ r. (nothing, none-in)) (λ r l e h. part-ok r (above r) (λ b. of-known r b (above r b) (h b)) (nodeAt rows r) e)
+  every-part = every-row PartOk (λ r. (nothing, none-in)) (λ r l e h. part-ok r (higherPart rows r) (λ b. of-known r b (higherPart rows r b) (h b)) (nodeAt rows r) e)
 
   -- a process inside that of a row stands at its own row
   pub stands : (r : ℕ) (k : Action) (q : ℕ) (ms : Members) → SubO k q ms (partAt rows r .process) → partAt rows q .process ≡ some (node k q ms)

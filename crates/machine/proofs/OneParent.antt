@@ -25,7 +25,8 @@ use Rattle.meaning.proofs.AnswerLaws.{RightRows, accepted}
 use Rattle.meaning.proofs.LowestLaws.{lowest-is}
 use Rattle.meaning.proofs.ReferenceCounts.{a-not-b}
 use Rattle.agreement.proofs.Separate.{processes-length}
-use Rattle.agreement.proofs.TableTree.{above, part-past, process-is, Known, every-row}
+use Rattle.meaning.specs.PartClaims.{higherPart}
+use Rattle.agreement.proofs.TableTree.{part-past, process-is, Known, every-row}
 use Rattle.agreement.proofs.TableReferences.{members-shape, while-shape, member-shape, choice-shape, option-shape, Leading, Shaped, Holding, Fields, fields-are, refers-to, refers-up, placed-at, once}
 use Rattle.machine.specs.RowSteps.{liveByMembers}
 use Rattle.machine.specs.Upward.{memberRows, parentOf}
@@ -156,7 +157,7 @@ module _ (rows : List ℤ) (A : RightRows rows) where
     part-held Other f = nothing r
 
   every-held : (r : ℕ) → PartHeld r (partAt rows r)
-  every-held = every-row rows PartHeld nothing (λ r l e h. part-held r l (above rows r) h (nodeAt rows r) (fields-are rows r))
+  every-held = every-row rows PartHeld nothing (λ r l e h. part-held r l (higherPart rows r) h (nodeAt rows r) (fields-are rows r))
 
   or-stop-held : (q x : ℕ) (o : Option Process) → ProcessHeld q o → List·Memᴰ x (memberRows (membersIn (orStop o))) → MemberOf q x
   or-stop-held q x none h m = absurd (List·Memᴰ·not-nil m)

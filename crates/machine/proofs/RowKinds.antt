@@ -15,7 +15,8 @@ use Rattle.meaning.specs.Tree.{Process, Part, noPart, partOf, partAt, orStop, a
 use Rattle.meaning.specs.State.{State, program, processAt}
 use Rattle.meaning.specs.Intent.{Sheet, intent}
 use Rattle.agreement.proofs.OptionRows.{optionRows, rowsOfOptions}
-use Rattle.agreement.proofs.TableTree.{part-at, part-past, process-is, Known, every-row, above}
+use Rattle.meaning.specs.PartClaims.{higherPart}
+use Rattle.agreement.proofs.TableTree.{part-at, part-past, process-is, Known, every-row}
 use Rattle.machine.specs.RowSteps.{isOption, ownStepBy, waitingAt, ownStep}
 use Rattle.machine.proofs.LiveRows.{intent-waits}
 
@@ -68,7 +69,7 @@ module _ (rows : List ℤ) where
   of-known r b p (inr h) = h .3
 
   every-part : (r : ℕ) → PartOk r (partAt rows r)
-  every-part = every-row rows PartOk nothing (λ r l e h. part-ok r (above rows r) (λ b. of-known r b (above rows r b) (h b)) (nodeAt rows r) refl)
+  every-part = every-row rows PartOk nothing (λ r l e h. part-ok r (higherPart rows r) (λ b. of-known r b (higherPart rows r b) (h b)) (nodeAt rows r) refl)
 
   or-stop : (o : Option Process) → Options (ofProcess o) → Options (optionRows (actionOf (orStop o)))
   or-stop none h = h
@@ -105,7 +106,7 @@ module _ (rows : List ℤ) where
   no-process j e = go (decLt j (rowCount rows))
     where
       go : Dec (j < rowCount rows) → partAt rows j .process ≡ none
-      go (yes l) = rw (part-at rows j l) (no-process-of j (above rows j) (nodeAt rows j) e)
+      go (yes l) = rw (part-at rows j l) (no-process-of j (higherPart rows j) (nodeAt rows j) e)
       go (no l) = rw (part-past rows j (omega arith)) refl
 
   module _ (sheet : Sheet) (s : State) where
