@@ -15,7 +15,7 @@ use Rattle.meaning.specs.declared.Node.{Node}
 use Rattle.meaning.specs.declared.Node.the-variants.{Literal, Element, Monadic, Dyadic, Stop, Skip, Assignment, Input, Output, Seq, Par, If, While, Alt, Member, Choice, Option as Alternative, Guard, Other}
 use Rattle.meaning.specs.Basics.{ifElse, lowest, Lowest}
 use Rattle.meaning.specs.Rows.{rowCount, nodeAt}
-use Rattle.meaning.specs.Faults.{of-a, of-b, Refers}
+use Rattle.meaning.specs.References.{of-a, of-b, Refers}
 use Rattle.meaning.specs.State.{program}
 use Rattle.meaning.specs.Answers.{check}
 use Rattle.meaning.proofs.AnswerLaws.{RightRows, accepted}
