@@ -1,6 +1,5 @@
 -- Settling, steps and orders of one table at hand, told by tests that compute. All of it holds of the right definitions and of the wrong ones.
 use mathlib.Core.Path.{_≡_, refl, sym, ap, subst, _∙_}
-use mathlib.Core.Logic.{_≢_}
 use mathlib.Core.Bool.{Bool, true, false, not, _&&_, _||_, false≢true}
 use mathlib.Core.List.{List, [], _∷_, List·Memᴰ, List·Memᴰ·head, List·Memᴰ·tail}
 use mathlib.Core.Option.{Option, none, some}
@@ -24,7 +23,7 @@ use Rattle.meaning.specs.Values.{value, index}
 use Rattle.meaning.specs.State.{Message, State, Program, processAt, whole, stateOf, changeStates, writeAll, Effect}
 use Rattle.meaning.specs.Labels.{Label, own, pass, take, takeFrom}
 use Rattle.meaning.specs.Readings.{Sheet}
-use Rattle.meaning.specs.SettlingRules.{Among, first, later, All, no-more, and-then, Next, here, after, Inside, itself, beneath, Runs, Settles, skip-ends, seq-starts, par-starts, seq-ends, par-ends, if-ends, alt-ends, while-again, Settling, Final, SettlesTo}
+use Rattle.meaning.specs.SettlingRules.{Among, first, later, All, no-more, and-then, Next, here, after, Inside, itself, beneath, Runs, skip-ends, seq-starts, par-starts, seq-ends, par-ends, if-ends, alt-ends, while-again, Settling, Final, SettlesTo}
 use Rattle.meaning.specs.Step.{targetOf, Live, live, Allows, assignment, while-false, while-true, if-true, communication, host-read, host-write, alt-skip, alt-read, alt-communication, stopping, Step}
 use Rattle.meaning.specs.Order.{Rest}
 use Rattle.meaning.specs.Buffers.{Buffers}

@@ -12,9 +12,8 @@ use Rattle.meaning.specs.Ready.{ready, after}
 use Rattle.meaning.specs.Order.{chosenStep}
 use Rattle.meaning.specs.Run.{Result, goFrom, go, run}
 use Rattle.meaning.specs.Sheet.{sheetFault, readings}
-use Rattle.meaning.specs.Buffers.{Buffers}
 use Rattle.meaning.specs.Stages.{bufferFault, budgetFault}
-use Rattle.meaning.specs.Answers.{Task, check, replyOf, unless, ran, result, reply}
+use Rattle.meaning.specs.Answers.{Task, check, replyOf, unless, ran, result}
 use Rattle.meaning.proofs.AnswerLaws.{result-stages, reply-stages}
 use Rattle.agreement.specs.ChoiceClaims.{withZeros, ZeroIsMeant}
 

@@ -1,6 +1,6 @@
 -- A host write with one more than the capacity: a channel of capacity 0 takes a number, and its list is then longer than the capacity.
-use mathlib.Core.Path.{_≡_, refl}
-use mathlib.Core.Option.{none, some}
+use mathlib.Core.Path.{refl}
+use mathlib.Core.Option.{some}
 use mathlib.Core.List.{List, [], _∷_}
 use Prim.Native.Nat.{_<_, _≤_}
 use native.Mathlib.Omega.{arith}

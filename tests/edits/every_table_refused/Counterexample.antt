@@ -11,7 +11,7 @@ use Rattle.meaning.specs.Kinds.{Field, unused, value, within, elements, capacit
 use Rattle.meaning.specs.References.{Place, of-a, of-b, of-c, fieldOf, numberOf, RefersBy, Refers}
 use Rattle.meaning.specs.Faults.{Holds, WellFormed, Leads, Placed, WellPlaced}
 use Rattle.meaning.specs.Clash as C
-use Rattle.meaning.specs.Clash.{IsMember, Components, components, Clash}
+use Rattle.meaning.specs.Clash.{IsMember, Components, components}
 use Rattle.meaning.proofs.ComputesAnswers.{computesAnswers}
 use Rattle.agreement.specs.VerdictClaims.{EachFormed, EachPlaced, NoClash, VerdictExact}
 use Rattle.counterexample.specs.Concrete.{present}

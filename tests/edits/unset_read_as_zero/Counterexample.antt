@@ -1,5 +1,5 @@
 -- An unset cell is read as 0: x := y with y unset has a value to assign, reason 1 is not met, and x is set.
-use mathlib.Core.Path.{_≡_, refl, sym, ap}
+use mathlib.Core.Path.{_≡_, refl, ap}
 use mathlib.Core.Option.{none, some}
 use mathlib.Core.List.{List, [], _∷_}
 use Prim.Native.Nat.{ℕ}

@@ -4,8 +4,7 @@ use mathlib.Core.List.{List, [], _∷_}
 use Prim.Native.Nat.{ℕ}
 use native.Mathlib.Omega.{arith}
 use lib.IntN.{ℤ, pos, negsuc}
-use lib.ListN.{getD, replicate}
-use Rattle.meaning.specs.Buffers.{Buffers}
+use lib.ListN.{getD}
 use Rattle.meaning.specs.Answers.{Task, Reply}
 use Rattle.meaning.proofs.ComputesAnswers.{computesAnswers}
 use Rattle.agreement.specs.ChoiceClaims.{ZeroIsMeant}

@@ -1,5 +1,5 @@
 -- A WHILE is not reset: in WHILE 1 SKIP the body has ended after one step, and the WHILE is running.
-use mathlib.Core.Path.{_≡_, refl}
+use mathlib.Core.Path.{refl}
 use mathlib.Core.List.{List, [], _∷_}
 use lib.IntN.{ℤ, pos}
 use Rattle.meaning.specs.Tree.{literal, node, skip, empty, also}
