@@ -9,7 +9,7 @@ use lib.Dec.{eqb, T, eqb→eq}
 use Rattle.meaning.specs.Rows.{ifElse}
 use Rattle.meaning.specs.State.{Message, Write, writeCell, Effect}
 use Rattle.meaning.specs.Intent.{Offer, openOffer, inputOffer, Intent, waits, moves, inputsFrom, outputsTo, selects}
-use Rattle.meaning.specs.Ready.{Label, own, pass, take, takeFrom, ownEffect, meeting, meetEffect, passEffect, takeEffect, takeFromEffect, optionRow, offerEffectAt, offerEffect, effectOf}
+use Rattle.meaning.specs.Ready.{Label, own, pass, take, takeFrom, ownEffect, WaitingInput, meeting, meetEffect, passEffect, takeEffect, takeFromEffect, optionRow, offerEffectAt, offerEffect, effectOf}
 use Rattle.meaning.specs.Step.{becomes, effect}
 pub use Rattle.agreement.specs.RowsOfSteps.{RowOf, its, receiver, sender, chooser, selector, giver, offerAt}
 
@@ -55,22 +55,22 @@ module _ (w : ℕ → Intent) where
   active-own r e (selects l) h q = absurd (Option·none-ne-some e q)
 
   -- the row o outputs to the element at which a receiver meets it
-  meets-output : (x : Label) (e : Effect) (d i y v o a : ℕ) (u : Intent) → w o ≡ u → ((z : Message) → w o ≡ outputsTo d z → Active w x (effect (becomes i y v ∷ becomes o o 2 ∷ []) (writeCell a z ∷ [])))
-      → meetEffect d i y v o a u ≡ some e → Active w x e
-  meets-output x e d i y v o a waits h k q = absurd (Option·none-ne-some e q)
-  meets-output x e d i y v o a (moves c b ws) h k q = absurd (Option·none-ne-some e q)
-  meets-output x e d i y v o a (inputsFrom c b) h k q = absurd (Option·none-ne-some e q)
-  meets-output x e d i y v o a (selects l) h k q = absurd (Option·none-ne-some e q)
-  meets-output x e d i y v o a (outputsTo f z) h k q = go (eqb d f) refl q
+  meets-output : (x : Label) (e : Effect) (i : WaitingInput) (o : ℕ) (u : Intent) → w o ≡ u → ((z : Message) → w o ≡ outputsTo (i .element) z → Active w x (effect (i .change ∷ becomes o o 2 ∷ []) (writeCell (i .cell) z ∷ [])))
+      → meetEffect i o u ≡ some e → Active w x e
+  meets-output x e i o waits h k q = absurd (Option·none-ne-some e q)
+  meets-output x e i o (moves c b ws) h k q = absurd (Option·none-ne-some e q)
+  meets-output x e i o (inputsFrom c b) h k q = absurd (Option·none-ne-some e q)
+  meets-output x e i o (selects l) h k q = absurd (Option·none-ne-some e q)
+  meets-output x e i o (outputsTo f z) h k q = go (eqb (i .element) f) refl q
     where
-      go : (t : Bool) → eqb d f ≡ t → meeting t i y v o a z ≡ some e → Active w x e
-      go true g q = same-effect x e (effect (becomes i y v ∷ becomes o o 2 ∷ []) (writeCell a z ∷ [])) q (k z (h ∙ ap (λ (c : ℕ). outputsTo c z) (sym (eqb-is d f g))))
+      go : (t : Bool) → eqb (i .element) f ≡ t → meeting t i o z ≡ some e → Active w x e
+      go true g q = same-effect x e (effect (i .change ∷ becomes o o 2 ∷ []) (writeCell (i .cell) z ∷ [])) q (k z (h ∙ ap (λ (c : ℕ). outputsTo c z) (sym (eqb-is (i .element) f g))))
       go false g q = absurd (Option·none-ne-some e q)
 
   active-pass : (i o : ℕ) (e : Effect) (u : Intent) → w i ≡ u → passEffect i o u (w o) ≡ some e → Active w (pass i o) e
   active-pass i o e waits h q = absurd (Option·none-ne-some e q)
   active-pass i o e (moves x v ws) h q = absurd (Option·none-ne-some e q)
-  active-pass i o e (inputsFrom d a) h q = meets-output (pass i o) e d i i 2 o a (w o) refl (λ z g. passes-on h g) q
+  active-pass i o e (inputsFrom d a) h q = meets-output (pass i o) e (record { element = d; cell = a; change = becomes i i 2 }) o (w o) refl (λ z g. passes-on h g) q
   active-pass i o e (outputsTo d v) h q = absurd (Option·none-ne-some e q)
   active-pass i o e (selects l) h q = absurd (Option·none-ne-some e q)
 
@@ -89,7 +89,7 @@ module _ (w : ℕ → Intent) where
 
   active-takeFrom : (r j o : ℕ) (e : Effect) (os : List Offer) (p : Offer) → w r ≡ selects os → offerAt j os ≡ some p → takeFromEffect r o (w o) p ≡ some e → Active w (takeFrom r j o) e
   active-takeFrom r j o e os (openOffer i q ws) h g z = absurd (Option·none-ne-some e z)
-  active-takeFrom r j o e os (inputOffer i q d a) h g z = meets-output (takeFrom r j o) e d r q 1 o a (w o) refl (λ m k. takes-input h g k) z
+  active-takeFrom r j o e os (inputOffer i q d a) h g z = meets-output (takeFrom r j o) e (record { element = d; cell = a; change = becomes r q 1 }) o (w o) refl (λ m k. takes-input h g k) z
 
   pub active : (x : Label) (e : Effect) → effectOf x w ≡ some e → Active w x e
   active (own r) e q = active-own r e (w r) refl q

@@ -18,7 +18,7 @@ use Rattle.meaning.specs.Tree.{Expr, Receive, IfChoice, AltOption, Action, stop
 use Rattle.meaning.specs.Values.{isTrue, value, index}
 use Rattle.meaning.specs.State.{Message, State, Program, processAt, Write, writeCell, writePlace, writeOutput, Effect}
 use Rattle.meaning.specs.Intent.{Sheet, entry, Offer, openOffer, inputOffer, Intent, waits, moves, inputsFrom, outputsTo, selects, assigning, testing, choosing, hosting, sending, Reception, lacks, later, reads, fromElement, reading, receiving, inputting, Looked, fails, offers, adding, admitting, opening, guarding, selecting, reception, receptionIf, tests, looks, intent}
-use Rattle.meaning.specs.Ready.{Label, own, pass, take, takeFrom, allIdle, live, intentAt, ownEffect, meeting, meetEffect, passEffect, takeEffect, takeFromEffect, optionRow, offerEffectAt, offerEffect, effectOf}
+use Rattle.meaning.specs.Ready.{Label, own, pass, take, takeFrom, allIdle, live, intentAt, ownEffect, WaitingInput, meeting, meetEffect, passEffect, takeEffect, takeFromEffect, optionRow, offerEffectAt, offerEffect, effectOf}
 use Rattle.meaning.specs.Step.{channelOf, targetOf, Holds, holds, refuted, LacksIn, channel-lacks, target-lacks, FirstTrue, LacksTest, boolean-lacks, input-lacks, Complete, closed, open-skip, open-input, LacksOption, AllComplete, no-more, and-then, assign-subscript, assign-value, input-subscript, output-subscript, output-value, while-test, if-test, alt-guard, Inner, inner, Host, host, Sends, sends, Live, becomes, effect, Allows, assignment, while-false, while-true, if-true, communication, host-read, host-write, alt-skip, alt-read, alt-communication, stopping}
 
 is-true : (t : Bool) → t ≡ true → T t
@@ -241,16 +241,16 @@ module _ (P : Program) (sheet : Sheet) (s : State) where
   own-allowed r e (selects l) h q = absurd (Option·none-ne-some e q)
 
   -- the two sides of a communication at one element
-  meet-allowed : (x : Label) (e : Effect) (d i y v o a : ℕ) (u : Intent) → Sound o u
-      → ((z : Message) → Sound o (outputsTo d z) → To x (effect (becomes i y v ∷ becomes o o 2 ∷ []) (writeCell a z ∷ []))) → meetEffect d i y v o a u ≡ some e → To x e
-  meet-allowed x e d i y v o a waits h k q = absurd (Option·none-ne-some e q)
-  meet-allowed x e d i y v o a (moves c w ws) h k q = absurd (Option·none-ne-some e q)
-  meet-allowed x e d i y v o a (inputsFrom c w) h k q = absurd (Option·none-ne-some e q)
-  meet-allowed x e d i y v o a (selects l) h k q = absurd (Option·none-ne-some e q)
-  meet-allowed x e d i y v o a (outputsTo f z) h k q = go (eqb d f) refl q
+  meet-allowed : (x : Label) (e : Effect) (i : WaitingInput) (o : ℕ) (u : Intent) → Sound o u
+      → ((z : Message) → Sound o (outputsTo (i .element) z) → To x (effect (i .change ∷ becomes o o 2 ∷ []) (writeCell (i .cell) z ∷ []))) → meetEffect i o u ≡ some e → To x e
+  meet-allowed x e i o waits h k q = absurd (Option·none-ne-some e q)
+  meet-allowed x e i o (moves c w ws) h k q = absurd (Option·none-ne-some e q)
+  meet-allowed x e i o (inputsFrom c w) h k q = absurd (Option·none-ne-some e q)
+  meet-allowed x e i o (selects l) h k q = absurd (Option·none-ne-some e q)
+  meet-allowed x e i o (outputsTo f z) h k q = go (eqb (i .element) f) refl q
     where
-      go : (t : Bool) → eqb d f ≡ t → meeting t i y v o a z ≡ some e → To x e
-      go true g q = to x e (effect (becomes i y v ∷ becomes o o 2 ∷ []) (writeCell a z ∷ [])) q (k z (rw (eqb→eq d f (is-true (eqb d f) g)) h))
+      go : (t : Bool) → eqb (i .element) f ≡ t → meeting t i o z ≡ some e → To x e
+      go true g q = to x e (effect (i .change ∷ becomes o o 2 ∷ []) (writeCell (i .cell) z ∷ [])) q (k z (rw (eqb→eq (i .element) f (is-true (eqb (i .element) f) g)) h))
       go false g q = absurd (Option·none-ne-some e q)
 
   pass-allowed : (i o : ℕ) (e : Effect) (w u : Intent) → Sound i w → Sound o u → passEffect i o w u ≡ some e → To (pass i o) e
@@ -259,7 +259,7 @@ module _ (P : Program) (sheet : Sheet) (s : State) where
   pass-allowed i o e (outputsTo d v) u h k q = absurd (Option·none-ne-some e q)
   pass-allowed i o e (selects l) u h k q = absurd (Option·none-ne-some e q)
   pass-allowed i o e (inputsFrom d a) u h k q =
-      meet-allowed (pass i o) e d i i 2 o a u k (λ z g. communication (h .1) (g .1 .1 .1 .0) (h .2) (g .1 .1 .1 .1)) q
+      meet-allowed (pass i o) e (record { element = d; cell = a; change = becomes i i 2 }) o u k (λ z g. communication (h .1) (g .1 .1 .1 .0) (h .2) (g .1 .1 .1 .1)) q
 
   -- an option's offer, put to f
   offer-allowed : (x : Label) (e : Effect) (j : ℕ) (bs : List AltOption) (f : Offer → Option Effect)
@@ -282,7 +282,7 @@ module _ (P : Program) (sheet : Sheet) (s : State) where
   one-takeFrom r j o e u bs k g c p (by-skip b m h i) n q = absurd (Option·none-ne-some e q)
   one-takeFrom r j o e u bs k g c p (by-host b i a y v m h w t) n q = absurd (Option·none-ne-some e q)
   one-takeFrom r j o e u bs k g c p (by-inner b i d a m h w t) n q =
-      meet-allowed (takeFrom r j o) e d r (b .process) 1 o a u k (λ z y. rw (← n) (alt-communication g c m (y .1 .1 .1 .0) h w t (y .1 .1 .1 .1))) q
+      meet-allowed (takeFrom r j o) e (record { element = d; cell = a; change = becomes r (b .process) 1 }) o u k (λ z y. rw (← n) (alt-communication g c m (y .1 .1 .1 .0) h w t (y .1 .1 .1 .1))) q
 
   take-allowed : (x : Label) (j : ℕ) (e : Effect) (f : Offer → Option Effect) (r : ℕ) (w : Intent) → Sound r w
       → ((bs : List AltOption) → Live P s r (alternation bs) → AllComplete cells bs → (o : Offer) → OfferOf bs o → optionRow o ≡ j → f o ≡ some e → To x e) → offerEffect j f w ≡ some e → To x e

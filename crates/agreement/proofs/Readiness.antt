@@ -13,7 +13,7 @@ use Rattle.meaning.specs.Rows.{ifElse}
 use Rattle.meaning.specs.Tree.{actionOf, membersIn, rowsBeneath}
 use Rattle.meaning.specs.State.{Message, State, Program, processAt, Write, writeCell, StateChange, Effect}
 use Rattle.meaning.specs.Intent.{Sheet, Offer, openOffer, inputOffer, Intent, waits, moves, inputsFrom, outputsTo, selects, intent}
-use Rattle.meaning.specs.Ready.{Label, own, pass, take, takeFrom, orderRow, allIdle, running, ownEffect, meeting, meetEffect, passEffect, takeEffect, takeFromEffect, optionRow, offerEffectAt, offerEffect, effectOf, RunningRow, outputAt, outputsAt, offered, stepsOf, stepsAll, stepsAt, byRow, live, intentAt, runningRows, ready}
+use Rattle.meaning.specs.Ready.{Label, own, pass, take, takeFrom, orderRow, allIdle, running, ownEffect, WaitingInput, meeting, meetEffect, passEffect, takeEffect, takeFromEffect, optionRow, offerEffectAt, offerEffect, effectOf, RunningRow, outputAt, outputsAt, offered, stepsOf, stepsAll, stepsAt, byRow, live, intentAt, runningRows, ready}
 
 true-is : (t : Bool) → T t → t ≡ true
 true-is true h = refl
@@ -215,8 +215,8 @@ module _ (P : Program) (sheet : Sheet) (s : State) where
   at-work : (r : ℕ) → tag (W r) ≡ 1 → getD (s .states) r 0 ≡ 1
   at-work r e = busy r (λ z. let y : _≡_ {A = ℕ} 0 1 = ap tag (sym z) ∙ e in omega arith)
 
-  from-gives : (d i y v o a : ℕ) (z : Message) → W o ≡ outputsTo d z → (e : Effect) × (meetEffect d i y v o a (W o) ≡ some e)
-  from-gives d i y v o a z h = (effect (mark i y v ∷ mark o o 2 ∷ []) (writeCell a z ∷ []), rw (h, eqb-same d))
+  from-gives : (w : WaitingInput) (o : ℕ) (z : Message) → W o ≡ outputsTo (w .element) z → (e : Effect) × (meetEffect w o (W o) ≡ some e)
+  from-gives w o z h = (effect (w .change ∷ mark o o 2 ∷ []) (writeCell (w .cell) z ∷ []), rw (h, eqb-same (w .element)))
 
   giver-wants : (d o : ℕ) → List·Memᴰ o (outputsAt d B) → (z : Message) × (W o ≡ outputsTo d z)
   giver-wants d o m = let (b, (n, (e, (z, h)))) = mem-givers d o B m in (z, ap W (sym e) ∙ bid-is b n ∙ h)
@@ -229,7 +229,7 @@ module _ (P : Program) (sheet : Sheet) (s : State) where
     made r l x h (by-free j q ws m) = (effect (mark r q 1 ∷ []) ws, rw h (found (takeEffect r) (openOffer j q ws) l (D r l h) m))
     made r l x h (by-meets j q d a o m n) =
         let (z, g) = giver-wants d o n in
-        let (e, k) = from-gives d r q 1 o a z g in
+        let (e, k) = from-gives (record { element = d; cell = a; change = mark r q 1 }) o z g in
         (e, rw h (found (takeFromEffect r o (W o)) (inputOffer j q d a) l (D r l h) m ∙ k))
 
     step-can : (r : ℕ) (w : Intent) (x : Label) → W r ≡ w → List·Memᴰ x (stepsOf B r w) → (e : Effect) × (effectOf x W ≡ some e)
@@ -239,7 +239,7 @@ module _ (P : Program) (sheet : Sheet) (s : State) where
     step-can r (inputsFrom d a) x h m =
         let (o, (n, e)) = mem-map (pass r) x (outputsAt d B) m in
         let (z, g) = giver-wants d o n in
-        let (f, k) = from-gives d r r 2 o a z g in
+        let (f, k) = from-gives (record { element = d; cell = a; change = mark r r 2 }) o z g in
         rw e (f, rw h k)
     step-can r (outputsTo d v) x h m = absurd (List·Memᴰ·not-nil m)
     step-can r (selects l) x h m = made r l x h (mem-offered r B x l m)
@@ -270,15 +270,15 @@ module _ (P : Program) (sheet : Sheet) (s : State) where
       own-listed r e (selects l) h q = absurd (Option·none-ne-some e q)
 
       -- the partner of a communication outputs to its element
-      partner : (d i y v o a : ℕ) (e : Effect) (u : Intent) → meetEffect d i y v o a u ≡ some e → (z : Message) × (u ≡ outputsTo d z)
-      partner d i y v o a e waits q = absurd (Option·none-ne-some e q)
-      partner d i y v o a e (moves x w ws) q = absurd (Option·none-ne-some e q)
-      partner d i y v o a e (inputsFrom f c) q = absurd (Option·none-ne-some e q)
-      partner d i y v o a e (selects l) q = absurd (Option·none-ne-some e q)
-      partner d i y v o a e (outputsTo f z) q = go (eqb d f) refl q
+      partner : (w : WaitingInput) (o : ℕ) (e : Effect) (u : Intent) → meetEffect w o u ≡ some e → (z : Message) × (u ≡ outputsTo (w .element) z)
+      partner w o e waits q = absurd (Option·none-ne-some e q)
+      partner w o e (moves x v ws) q = absurd (Option·none-ne-some e q)
+      partner w o e (inputsFrom f c) q = absurd (Option·none-ne-some e q)
+      partner w o e (selects l) q = absurd (Option·none-ne-some e q)
+      partner w o e (outputsTo f z) q = go (eqb (w .element) f) refl q
         where
-          go : (t : Bool) → eqb d f ≡ t → meeting t i y v o a z ≡ some e → (k : Message) × (outputsTo f z ≡ outputsTo d k)
-          go true g q = (z, ap (λ (k : ℕ). outputsTo k z) (sym (eqb-is d f g)))
+          go : (t : Bool) → eqb (w .element) f ≡ t → meeting t w o z ≡ some e → (k : Message) × (outputsTo f z ≡ outputsTo (w .element) k)
+          go true g q = (z, ap (λ (k : ℕ). outputsTo k z) (sym (eqb-is (w .element) f g)))
           go false g q = absurd (Option·none-ne-some e q)
 
       pass-listed : (i o : ℕ) (e : Effect) (w : Intent) → W i ≡ w → passEffect i o w (W o) ≡ some e → List·Memᴰ (pass i o) (ready P sheet s)
@@ -287,7 +287,7 @@ module _ (P : Program) (sheet : Sheet) (s : State) where
       pass-listed i o e (outputsTo d v) h q = absurd (Option·none-ne-some e q)
       pass-listed i o e (selects l) h q = absurd (Option·none-ne-some e q)
       pass-listed i o e (inputsFrom d a) h q =
-          let (z, g) = partner d i i 2 o a e (W o) q in
+          let (z, g) = partner (record { element = d; cell = a; change = mark i i 2 }) o e (W o) q in
           listed (pass i o) i (rw h) (rw h (map-mem (pass i) o (outputsAt d B) (wants-giver d o z g))) (below i (rw h))
 
       offer-listed : (r j : ℕ) (x : Label) (e : Effect) (f : Offer → Option Effect) (w : Intent) → W r ≡ w
@@ -308,7 +308,7 @@ module _ (P : Program) (sheet : Sheet) (s : State) where
       meets-listed : (r j p : ℕ) (e : Effect) (l : List Offer) (o : Offer) → List·Memᴰ o l → optionRow o ≡ j → takeFromEffect r p (W p) o ≡ some e → List·Memᴰ (takeFrom r j p) (offered r B l)
       meets-listed r j p e l (openOffer i q ws) m g t = absurd (Option·none-ne-some e t)
       meets-listed r j p e l (inputOffer i q d a) m g t =
-          let (z, h) = partner d r q 1 p a e (W p) t in
+          let (z, h) = partner (record { element = d; cell = a; change = mark r q 1 }) p e (W p) t in
           rw (← g) (meets-mem r i q d a p B l m (wants-giver d p z h))
 
       -- a step that can be taken is ready

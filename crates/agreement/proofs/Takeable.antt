@@ -17,7 +17,7 @@ use Rattle.meaning.specs.Tree.{Expr, Receive, IfChoice, AltOption, Action, assi
 use Rattle.meaning.specs.Values.{isTrue, value, index}
 use Rattle.meaning.specs.State.{Message, State, Program, Write, writeCell, writePlace, writeOutput, Effect}
 use Rattle.meaning.specs.Intent.{Sheet, entry, Offer, openOffer, inputOffer, Intent, moves, inputsFrom, outputsTo, Reception, lacks, later, reads, fromElement, reading, Looked, fails, offers, adding, admitting, guarding, reception, receptionIf, tests, looks, intent}
-use Rattle.meaning.specs.Ready.{Label, own, allIdle, live, intentAt, ownEffect, meetEffect, takeEffect, takeFromEffect, optionRow, offerEffectAt, offerEffect, effectOf}
+use Rattle.meaning.specs.Ready.{Label, own, allIdle, live, intentAt, ownEffect, WaitingInput, meetEffect, takeEffect, takeFromEffect, optionRow, offerEffectAt, offerEffect, effectOf}
 use Rattle.meaning.specs.Step.{channelOf, targetOf, Holds, holds, refuted, LacksIn, channel-lacks, target-lacks, FirstTrue, LacksTest, boolean-lacks, input-lacks, Complete, closed, open-skip, open-input, LacksOption, AllComplete, no-more, and-then, Lacks, assign-subscript, assign-value, input-subscript, output-subscript, output-value, while-test, if-test, alt-guard, Inner, inner, Host, host, Sends, sends, Live, becomes, effect, Allows, assignment, while-false, while-true, if-true, communication, host-read, host-write, alt-skip, alt-read, alt-communication, stopping}
 
 true-is : (t : Bool) → T t → t ≡ true
@@ -220,8 +220,8 @@ module _ (P : Program) (sheet : Sheet) (s : State) where
       let (os, z) = all-offers bs c in
       rw (live-want r (alternation bs) g, z) (pick-out b o f h n bs c d m os z ∙ q)
 
-  meets-is : (d i y v o a : ℕ) (z : Message) (u : Intent) → u ≡ outputsTo d z → meetEffect d i y v o a u ≡ some (effect (becomes i y v ∷ becomes o o 2 ∷ []) (writeCell a z ∷ []))
-  meets-is d i y v o a z u e = rw (e, eqb-same d)
+  meets-is : (w : WaitingInput) (o : ℕ) (z : Message) (u : Intent) → u ≡ outputsTo (w .element) z → meetEffect w o u ≡ some (effect (w .change ∷ becomes o o 2 ∷ []) (writeCell (w .cell) z ∷ []))
+  meets-is w o z u e = rw (e, eqb-same (w .element))
 
   -- the options of every ALT have distinct rows
   abbrev pub DistinctOptions : Type 0
@@ -235,7 +235,7 @@ module _ (P : Program) (sheet : Sheet) (s : State) where
   takeable D x t (while-true {r} {b} {e} g (holds {x = y} p q)) = can-own r (loop e b) g b 1 [] (can-while r b e true y p q)
   takeable D x t (if-true {r} {q} {ts} g h) = can-own r (conditional ts) g q 1 [] (first-true r q ts h)
   takeable D x t (communication {r} {o} {d} {a} {i} {c} {e} {f} {m = z} g k h w) =
-      rw (live-want r (receive i) g, gets-is r d a i h, live-want o (send c e f) k) (meets-is d r r 2 o a z _ (sends-is o d c e f z w))
+      rw (live-want r (receive i) g, gets-is r d a i h, live-want o (send c e f) k) (meets-is (record { element = d; cell = a; change = becomes r r 2 }) o z _ (sends-is o d c e f z w))
   takeable D x t (host-read {r} {a} {n} {i} {v} g h) = can-own r (receive i) g r 2 (writeCell a v ∷ writePlace (i .channel .port) (suc n) ∷ []) (can-read r a n i v h)
   takeable D x t (host-write {r} {d} {c} {e} {f} {z} {l} g h p q o m) = can-own r (send c e f) g r 2 (writeOutput (c .port) (l ++ (some z ∷ [])) ∷ []) (can-write r d c e f z l h p q o m)
   takeable D x t (alt-skip {r} {bs} {b} g c m (holds e h) q) =
@@ -245,5 +245,5 @@ module _ (P : Program) (sheet : Sheet) (s : State) where
       can-pick x r bs b (openOffer (b .row) (b .process) ws) (takeEffect r) _ g c (D r bs g) m (λ L. open-is b i h q L ∙ rw (in-host i a n v k)) refl refl
   takeable D x t (alt-communication {r} {o} {d} {a} {bs} {b} {i} {c = ch} {e} {f} {m = z} g c m k h q w y) =
       can-pick x r bs b (inputOffer (b .row) (b .process) d a) (takeFromEffect r o (intentAt P sheet s o)) _ g c (D r bs g) m (λ L. open-is b i h q L ∙ rw (in-inner i d a w)) refl
-      (meets-is d r (b .process) 1 o a z (intentAt P sheet s o) (live-want o (send ch e f) k ∙ sends-is o d ch e f z y))
+      (meets-is (record { element = d; cell = a; change = becomes r (b .process) 1 }) o z (intentAt P sheet s o) (live-want o (send ch e f) k ∙ sends-is o d ch e f z y))
   takeable D x t (stopping {r} {k} {a} g h) = can-own r a g r (10 + k) [] (lacks-want r k a h)

@@ -7,7 +7,7 @@ use lib.ListN.{length, getD}
 use lib.Dec.{eqb}
 use Rattle.meaning.specs.Rows.{ifElse}
 use Rattle.meaning.specs.Tree.{actionOf, membersIn, rowsBeneath}
-use Rattle.meaning.specs.State.{Message, State, Program, processAt, writeCell, Effect}
+use Rattle.meaning.specs.State.{Message, State, Program, processAt, writeCell, StateChange, Effect}
 pub use Rattle.meaning.specs.Labels.{Label, own, pass, take, takeFrom, label-discrete, orderRow}
 use Rattle.meaning.specs.Settle.{settled}
 use Rattle.meaning.specs.Intent.{Sheet, Offer, openOffer, inputOffer, Intent, waits, moves, inputsFrom, outputsTo, selects, intent}
@@ -30,25 +30,30 @@ ownEffect r (inputsFrom e a) = none
 ownEffect r (outputsTo e v) = none
 ownEffect r (selects l) = none
 
--- a value passes to a cell, where the elements are the same: row x becomes v for the receiver i, and the output o ends
-abbrev pub meeting : Bool → ℕ → ℕ → ℕ → ℕ → ℕ → Message → Option Effect
-meeting false i x v o a z = none
-meeting true i x v o a z =
-    some (record { changes = record { by = i; at = x; become = v } ∷ record { by = o; at = o; become = 2 } ∷ []; writes = writeCell a z ∷ [] })
+-- an input that waits for an output: at which element, into which cell, and the change of a row state by which it takes place
+pub record WaitingInput : Type 0 where
+  pub element : ℕ
+  pub cell : ℕ
+  pub change : StateChange
 
--- the receiver i, at element e, and what the row o would do
-abbrev pub meetEffect : ℕ → ℕ → ℕ → ℕ → ℕ → ℕ → Intent → Option Effect
-meetEffect e i x v o a waits = none
-meetEffect e i x v o a (moves y w ws) = none
-meetEffect e i x v o a (inputsFrom f c) = none
-meetEffect e i x v o a (outputsTo f z) = meeting (eqb e f) i x v o a z
-meetEffect e i x v o a (selects l) = none
+-- a value passes to the cell of a waiting input, where the elements are the same, and the output o ends
+abbrev pub meeting : Bool → WaitingInput → ℕ → Message → Option Effect
+meeting false w o z = none
+meeting true w o z = some (record { changes = w .change ∷ record { by = o; at = o; become = 2 } ∷ []; writes = writeCell (w .cell) z ∷ [] })
+
+-- a waiting input, and what the row o would do
+abbrev pub meetEffect : WaitingInput → ℕ → Intent → Option Effect
+meetEffect w o waits = none
+meetEffect w o (moves y v ws) = none
+meetEffect w o (inputsFrom f c) = none
+meetEffect w o (outputsTo f z) = meeting (eqb (w .element) f) w o z
+meetEffect w o (selects l) = none
 
 -- "an input and an output on the same channel element: the value passes, both end"
 abbrev pub passEffect : ℕ → ℕ → Intent → Intent → Option Effect
 passEffect i o waits u = none
 passEffect i o (moves x v ws) u = none
-passEffect i o (inputsFrom e a) u = meetEffect e i i 2 o a u
+passEffect i o (inputsFrom e a) u = meetEffect (record { element = e; cell = a; change = record { by = i; at = i; become = 2 } }) o u
 passEffect i o (outputsTo e v) u = none
 passEffect i o (selects l) u = none
 
@@ -59,7 +64,7 @@ takeEffect r (inputOffer j q e a) = none
 
 abbrev pub takeFromEffect : ℕ → ℕ → Intent → Offer → Option Effect
 takeFromEffect r o u (openOffer j q ws) = none
-takeFromEffect r o u (inputOffer j q e a) = meetEffect e r q 1 o a u
+takeFromEffect r o u (inputOffer j q e a) = meetEffect (record { element = e; cell = a; change = record { by = r; at = q; become = 1 } }) o u
 
 abbrev pub optionRow : Offer → ℕ
 optionRow (openOffer j q ws) = j
