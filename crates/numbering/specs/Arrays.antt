@@ -4,7 +4,7 @@ use Prim.Native.Nat.{ℕ, zero, suc, _+_, _-_}
 use lib.IntN.{ℤ}
 use lib.ListN.{getD, take, drop, set}
 use Rattle.meaning.specs.Rows.{rowCount, kindAt, declarations}
-use Rattle.meaning.specs.Faults.{Place, of-a, of-b, of-c, fieldOf, numberOf}
+use Rattle.meaning.specs.References.{Place, of-a, of-b, of-c, fieldOf, numberOf}
 use Rattle.meaning.specs.Usage.{range}
 use Rattle.top_down.specs.Forms.{isReference, shapeFor, formAt, sizeOf}
 use Rattle.top_down.specs.New.{childRow}
