@@ -17,14 +17,15 @@ use Rattle.meaning.specs.declared.Value.{Value}
 use Rattle.meaning.specs.declared.Value.the-variants.{Number, Missing}
 use Rattle.meaning.specs.declared.Index.{Index}
 use Rattle.meaning.specs.declared.Index.the-variants.{At, Fails}
-use Rattle.meaning.specs.Rows.{ifElse, rowCount, kindAt}
-use Rattle.meaning.specs.Tree.{Action, stop, skip, sequence, parallel, assign, receive, send, conditional, loop, alternation, Process, node, Members, empty, also, orStop, actionOf}
-use Rattle.meaning.specs.Values.{value, index}
-use Rattle.meaning.specs.State.{Message, State, Program, processAt, whole, stateOf, changeStates, writeAll, Effect}
-use Rattle.meaning.specs.Labels.{Label, own, pass, take, takeFrom}
+use Rattle.meaning.specs.Basics.{ifElse}
+use Rattle.meaning.specs.Rows.{rowCount, kindAt}
+use Rattle.meaning.specs.Tree.{Action, stop, skip, sequence, parallel, assign, input, output, conditional, loop, alternation, Process, node, Processes, empty, also, orStop, actionOf}
+use Rattle.meaning.specs.Values.{Message, value, index}
+use Rattle.meaning.specs.State.{State, Program, processAt, whole, stateOf, changeStates, writeAll, Effect}
+use Rattle.meaning.specs.Labels.{Label, own, pass, takeOption, takeWithOutput}
 use Rattle.meaning.specs.Readings.{Sheet}
-use Rattle.meaning.specs.SettlingRules.{Among, first, later, All, no-more, and-then, Next, here, after, Inside, itself, beneath, Runs, skip-ends, seq-starts, par-starts, seq-ends, par-ends, if-ends, alt-ends, while-again, Settling, Final, SettlesTo}
-use Rattle.meaning.specs.Step.{targetOf, Live, live, Allows, assignment, while-false, while-true, if-true, communication, host-read, host-write, alt-skip, alt-read, alt-communication, stopping, Step}
+use Rattle.meaning.specs.SettlingRules.{Among, among-first, among-later, All, all-none, all-more, Next, next-here, next-after, Inside, itself, beneath, Runs, skip-ends, seq-starts, par-starts, seq-ends, par-ends, if-ends, alt-ends, while-again, Settling, Final, SettlesTo}
+use Rattle.meaning.specs.Step.{targetCell, Live, live, Allows, assignment, while-false, while-true, if-true, communication, host-read, host-write, alt-skip, alt-read, alt-communication, stopping, Step}
 use Rattle.meaning.specs.Order.{Rest}
 use Rattle.meaning.specs.Buffers.{Buffers}
 use Rattle.agreement.specs.Statements.{NoAlt}
@@ -37,76 +38,76 @@ both-true false b e = absurd (false≢true e)
 
 -- a test passes at every process that stands in a process
 abbrev mutual
-  pub everywhere : (Action → ℕ → Members → Bool) → Process → Bool
+  pub everywhere : (Action → ℕ → Processes → Bool) → Process → Bool
   everywhere f (node a r ms) = f a r ms && everyMember f ms
 
-  pub everyMember : (Action → ℕ → Members → Bool) → Members → Bool
+  pub everyMember : (Action → ℕ → Processes → Bool) → Processes → Bool
   everyMember f empty = true
   everyMember f (also p ms) = everywhere f p && everyMember f ms
 
-module _ (f : Action → ℕ → Members → Bool) where
-  at-member : {q : Process} {ms : Members} → Among q ms → everyMember f ms ≡ true → everywhere f q ≡ true
-  at-member {q} (first {ms}) e = both-true (everywhere f q) (everyMember f ms) e .0
-  at-member (later {p} {ms} m) e = at-member m (both-true (everywhere f p) (everyMember f ms) e .1)
+module _ (f : Action → ℕ → Processes → Bool) where
+  at-member : {q : Process} {ms : Processes} → Among q ms → everyMember f ms ≡ true → everywhere f q ≡ true
+  at-member {q} (among-first {ms}) e = both-true (everywhere f q) (everyMember f ms) e .0
+  at-member (among-later {p} {ms} m) e = at-member m (both-true (everywhere f p) (everyMember f ms) e .1)
 
   at-inside : {w q : Process} → Inside w q → everywhere f w ≡ true → everywhere f q ≡ true
   at-inside itself e = e
   at-inside (beneath {a} {r} {ms} i m) e = at-member m (both-true (f a r ms) (everyMember f ms) (at-inside i e) .1)
 
-  at-node : {w : Process} {a : Action} {r : ℕ} {ms : Members} → Inside w (node a r ms) → everywhere f w ≡ true → f a r ms ≡ true
+  at-node : {w : Process} {a : Action} {r : ℕ} {ms : Processes} → Inside w (node a r ms) → everywhere f w ≡ true → f a r ms ≡ true
   at-node {a} {r} {ms} i e = both-true (f a r ms) (everyMember f ms) (at-inside i e) .0
 
 module _ (s : List ℕ) where
   -- no member is in this state; every one is
-  abbrev pub noneIs : ℕ → Members → Bool
+  abbrev pub noneIs : ℕ → Processes → Bool
   noneIs n empty = true
   noneIs n (also p ms) = not (eqb (stateOf s p) n) && noneIs n ms
 
-  abbrev pub eachIs : ℕ → Members → Bool
+  abbrev pub eachIs : ℕ → Processes → Bool
   eachIs n empty = true
   eachIs n (also p ms) = eqb (stateOf s p) n && eachIs n ms
 
   -- the first member that has not ended is not idle
-  abbrev pub atWork : Members → Bool
+  abbrev pub atWork : Processes → Bool
   atWork empty = false
   atWork (also p ms) = ifElse (eqb (stateOf s p) 2) (atWork ms) (not (eqb (stateOf s p) 0))
 
   -- no rule of settling applies to a running process
-  abbrev pub calm : Action → Members → Bool
+  abbrev pub calm : Action → Processes → Bool
   calm stop ms = true
   calm skip ms = false
   calm sequence ms = atWork ms
   calm parallel ms = noneIs 0 ms && not (eachIs 2 ms)
   calm (assign v e f) ms = true
-  calm (receive i) ms = true
-  calm (send c e f) ms = true
+  calm (input i) ms = true
+  calm (output c e f) ms = true
   calm (conditional ts) ms = noneIs 2 ms
   calm (loop e b) ms = noneIs 2 ms
   calm (alternation bs) ms = noneIs 2 ms
 
-  abbrev pub settledHere : Action → ℕ → Members → Bool
+  abbrev pub settledHere : Action → ℕ → Processes → Bool
   settledHere a r ms = not (eqb (getD s r 0) 1) || calm a ms
 
   -- what the tests say of the relations that the rules use
-  none-is : (n : ℕ) {q : Process} {ms : Members} → Among q ms → stateOf s q ≡ n → noneIs n ms ≡ true → ⊥
-  none-is n {q} (first {ms}) e t = false≢true (subst (λ (b : Bool). not b ≡ true) (eq-eqb (stateOf s q) n e) (both-true (not (eqb (stateOf s q) n)) (noneIs n ms) t .0))
-  none-is n {q} (later {p} {ms} m) e t = none-is n m e (both-true (not (eqb (stateOf s p) n)) (noneIs n ms) t .1)
+  none-is : (n : ℕ) {q : Process} {ms : Processes} → Among q ms → stateOf s q ≡ n → noneIs n ms ≡ true → ⊥
+  none-is n {q} (among-first {ms}) e t = false≢true (subst (λ (b : Bool). not b ≡ true) (eq-eqb (stateOf s q) n e) (both-true (not (eqb (stateOf s q) n)) (noneIs n ms) t .0))
+  none-is n {q} (among-later {p} {ms} m) e t = none-is n m e (both-true (not (eqb (stateOf s p) n)) (noneIs n ms) t .1)
 
-  each-is : (n : ℕ) {ms : Members} → All n s ms → eachIs n ms ≡ true
-  each-is n no-more = refl
-  each-is n (and-then {p} {ms} e l) = rw (eq-eqb (stateOf s p) n e) (each-is n l)
+  each-is : (n : ℕ) {ms : Processes} → All n s ms → eachIs n ms ≡ true
+  each-is n all-none = refl
+  each-is n (all-more {p} {ms} e l) = rw (eq-eqb (stateOf s p) n e) (each-is n l)
 
-  at-work-next : {q : Process} {ms : Members} → Next s q ms → stateOf s q ≡ 0 → atWork ms ≡ true → ⊥
-  at-work-next (here {ms}) e t = false≢true (rw e at t)
-  at-work-next (after {p} {ms} d h) e t = at-work-next h e (rw d at t)
+  at-work-next : {q : Process} {ms : Processes} → Next s q ms → stateOf s q ≡ 0 → atWork ms ≡ true → ⊥
+  at-work-next (next-here {ms}) e t = false≢true (rw e at t)
+  at-work-next (next-after {p} {ms} d h) e t = at-work-next h e (rw d at t)
 
-  at-work-all : {ms : Members} → All 2 s ms → atWork ms ≡ true → ⊥
-  at-work-all no-more t = false≢true t
-  at-work-all (and-then {p} {ms} d h) t = at-work-all h (rw d at t)
+  at-work-all : {ms : Processes} → All 2 s ms → atWork ms ≡ true → ⊥
+  at-work-all all-none t = false≢true t
+  at-work-all (all-more {p} {ms} d h) t = at-work-all h (rw d at t)
 
   module _ (w : Process) (t : everywhere settledHere w ≡ true) where
     -- a running process is calm
-    calm-here : {a : Action} {r : ℕ} {ms : Members} → Runs w s a r ms → calm a ms ≡ true
+    calm-here : {a : Action} {r : ℕ} {ms : Processes} → Runs w s a r ms → calm a ms ≡ true
     calm-here {a} {r} {ms} (i, e) = subst (λ (b : Bool). not b || calm a ms ≡ true) (eq-eqb (getD s r 0) 1 e) (at-node settledHere i t)
 
     -- so no rule of settling applies
@@ -211,8 +212,8 @@ sortOf skip = 1
 sortOf sequence = 2
 sortOf parallel = 3
 sortOf (assign v e f) = 4
-sortOf (receive i) = 5
-sortOf (send c e f) = 6
+sortOf (input i) = 5
+sortOf (output c e f) = 6
 sortOf (conditional ts) = 7
 sortOf (loop e b) = 8
 sortOf (alternation bs) = 9
@@ -220,14 +221,14 @@ sortOf (alternation bs) = 9
 abbrev pub stepSort : Label → ℕ
 stepSort (own r) = 0
 stepSort (pass i o) = 1
-stepSort (take r j) = 2
-stepSort (takeFrom r j o) = 3
+stepSort (takeOption r j) = 2
+stepSort (takeWithOutput r j o) = 3
 
 abbrev pub rowIn : Label → ℕ
 rowIn (own r) = r
 rowIn (pass i o) = i
-rowIn (take r j) = r
-rowIn (takeFrom r j o) = r
+rowIn (takeOption r j) = r
+rowIn (takeWithOutput r j o) = r
 
 -- the cell that an assignment or an input changes, and the value that an assignment needs
 abbrev pub changedCell : List Message → Action → Index
@@ -236,8 +237,8 @@ changedCell cells skip = Fails 0
 changedCell cells sequence = Fails 0
 changedCell cells parallel = Fails 0
 changedCell cells (assign v e f) = index cells (v .first) (v .size) e
-changedCell cells (receive i) = targetOf cells i
-changedCell cells (send c e f) = Fails 0
+changedCell cells (input i) = targetCell cells i
+changedCell cells (output c e f) = Fails 0
 changedCell cells (conditional ts) = Fails 0
 changedCell cells (loop e b) = Fails 0
 changedCell cells (alternation bs) = Fails 0
@@ -248,8 +249,8 @@ neededValue cells skip = Missing 0
 neededValue cells sequence = Missing 0
 neededValue cells parallel = Missing 0
 neededValue cells (assign v e f) = value cells f
-neededValue cells (receive i) = Missing 0
-neededValue cells (send c e f) = Missing 0
+neededValue cells (input i) = Missing 0
+neededValue cells (output c e f) = Missing 0
 neededValue cells (conditional ts) = Missing 0
 neededValue cells (loop e b) = Missing 0
 neededValue cells (alternation bs) = Missing 0

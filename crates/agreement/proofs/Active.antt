@@ -1,17 +1,19 @@
 -- A step that can be taken, told by what its rows would do: one row by itself, an input and an output, an ALT's option without or with an output.
 use mathlib.Core.Path.{_≡_, refl, sym, ap, ap₂, subst, _∙_}
 use mathlib.Core.Bool.{Bool, true, false}
-use mathlib.Core.Option.{Option, none, some, Option·none-ne-some, Option·some-injective}
+use mathlib.Core.Option.{Option, some, Option·none-ne-some, Option·some-injective}
 use mathlib.Core.List.{List, [], _∷_, List·Memᴰ, List·Memᴰ·head, List·Memᴰ·tail}
 use Prim.Native.Nat.{ℕ}
 use native.Mathlib.Omega.{arith}
 use lib.Dec.{eqb, T, eqb→eq}
-use Rattle.meaning.specs.Rows.{ifElse}
-use Rattle.meaning.specs.State.{Message, Write, writeCell, Effect}
+use Rattle.meaning.specs.Basics.{ifElse}
+use Rattle.meaning.specs.Values.{Message}
+use Rattle.meaning.specs.State.{Write, writeCell, Effect}
+use Rattle.meaning.specs.Labels.{Label, own, pass, takeOption, takeWithOutput}
 use Rattle.meaning.specs.Intent.{Offer, openOffer, inputOffer, Intent, waits, moves, inputsFrom, outputsTo, selects}
-use Rattle.meaning.specs.Ready.{Label, own, pass, take, takeFrom, ownEffect, WaitingInput, meeting, meetEffect, passEffect, takeEffect, takeFromEffect, optionRow, offerEffectAt, offerEffect, effectOf}
+use Rattle.meaning.specs.Ready.{ownEffect, WaitingInput, communicationWhere, communicationEffect, passEffect, takeEffect, takeFromEffect, optionRow, offerEffectAt, offerEffect, effectOf}
 use Rattle.meaning.specs.Step.{becomes, effect}
-pub use Rattle.agreement.specs.RowsOfSteps.{RowOf, its, receiver, sender, chooser, selector, giver, offerAt}
+pub use Rattle.agreement.specs.RowsOfSteps.{RowOf, of-own, of-input, of-output, of-alt, of-alt-input, of-alt-output, offerAt}
 
 eqb-is : (m n : ℕ) → eqb m n ≡ true → m ≡ n
 eqb-is m n e = eqb→eq m n (subst (λ (t : Bool). T t) (sym e) tt)
@@ -39,9 +41,9 @@ found-at j f e (p ∷ os) q = go (eqb (optionRow p) j) q (λ z. found-at j f e o
 pub data Active (w : ℕ → Intent) : Label → Effect → Type 0 where
   acts-alone : {r x v : ℕ} {ws : List Write} → w r ≡ moves x v ws → Active w (own r) (effect (becomes r x v ∷ []) ws)
   passes-on : {i o e a : ℕ} {z : Message} → w i ≡ inputsFrom e a → w o ≡ outputsTo e z → Active w (pass i o) (effect (becomes i i 2 ∷ becomes o o 2 ∷ []) (writeCell a z ∷ []))
-  takes-open : {r j q i : ℕ} {ws : List Write} {os : List Offer} → w r ≡ selects os → offerAt j os ≡ some (openOffer i q ws) → Active w (take r j) (effect (becomes r q 1 ∷ []) ws)
+  takes-open : {r j q i : ℕ} {ws : List Write} {os : List Offer} → w r ≡ selects os → offerAt j os ≡ some (openOffer i q ws) → Active w (takeOption r j) (effect (becomes r q 1 ∷ []) ws)
   takes-input : {r j o q i e a : ℕ} {z : Message} {os : List Offer} → w r ≡ selects os → offerAt j os ≡ some (inputOffer i q e a) → w o ≡ outputsTo e z
-      → Active w (takeFrom r j o) (effect (becomes r q 1 ∷ becomes o o 2 ∷ []) (writeCell a z ∷ []))
+      → Active w (takeWithOutput r j o) (effect (becomes r q 1 ∷ becomes o o 2 ∷ []) (writeCell a z ∷ []))
 
 module _ (w : ℕ → Intent) where
   same-effect : (x : Label) (e f : Effect) → _≡_ {A = Option Effect} (some f) (some e) → Active w x f → Active w x e
@@ -56,14 +58,14 @@ module _ (w : ℕ → Intent) where
 
   -- the row o outputs to the element at which a receiver meets it
   meets-output : (x : Label) (e : Effect) (i : WaitingInput) (o : ℕ) (u : Intent) → w o ≡ u → ((z : Message) → w o ≡ outputsTo (i .element) z → Active w x (effect (i .change ∷ becomes o o 2 ∷ []) (writeCell (i .cell) z ∷ [])))
-      → meetEffect i o u ≡ some e → Active w x e
+      → communicationEffect i o u ≡ some e → Active w x e
   meets-output x e i o waits h k q = absurd (Option·none-ne-some e q)
   meets-output x e i o (moves c b ws) h k q = absurd (Option·none-ne-some e q)
   meets-output x e i o (inputsFrom c b) h k q = absurd (Option·none-ne-some e q)
   meets-output x e i o (selects l) h k q = absurd (Option·none-ne-some e q)
   meets-output x e i o (outputsTo f z) h k q = go (eqb (i .element) f) refl q
     where
-      go : (t : Bool) → eqb (i .element) f ≡ t → meeting t i o z ≡ some e → Active w x e
+      go : (t : Bool) → eqb (i .element) f ≡ t → communicationWhere t i o z ≡ some e → Active w x e
       go true g q = same-effect x e (effect (i .change ∷ becomes o o 2 ∷ []) (writeCell (i .cell) z ∷ [])) q (k z (h ∙ ap (λ (c : ℕ). outputsTo c z) (sym (eqb-is (i .element) f g))))
       go false g q = absurd (Option·none-ne-some e q)
 
@@ -83,26 +85,26 @@ module _ (w : ℕ → Intent) where
   active-offer x r j e f k (outputsTo d v) h q = absurd (Option·none-ne-some e q)
   active-offer x r j e f k (selects os) h q = let (o, g, z) = found-at j f e os q in k os o h g z
 
-  active-take : (r j : ℕ) (e : Effect) (os : List Offer) (o : Offer) → w r ≡ selects os → offerAt j os ≡ some o → takeEffect r o ≡ some e → Active w (take r j) e
-  active-take r j e os (openOffer i q ws) h g z = same-effect (take r j) e (effect (becomes r q 1 ∷ []) ws) z (takes-open h g)
+  active-take : (r j : ℕ) (e : Effect) (os : List Offer) (o : Offer) → w r ≡ selects os → offerAt j os ≡ some o → takeEffect r o ≡ some e → Active w (takeOption r j) e
+  active-take r j e os (openOffer i q ws) h g z = same-effect (takeOption r j) e (effect (becomes r q 1 ∷ []) ws) z (takes-open h g)
   active-take r j e os (inputOffer i q d a) h g z = absurd (Option·none-ne-some e z)
 
-  active-takeFrom : (r j o : ℕ) (e : Effect) (os : List Offer) (p : Offer) → w r ≡ selects os → offerAt j os ≡ some p → takeFromEffect r o (w o) p ≡ some e → Active w (takeFrom r j o) e
+  active-takeFrom : (r j o : ℕ) (e : Effect) (os : List Offer) (p : Offer) → w r ≡ selects os → offerAt j os ≡ some p → takeFromEffect r o (w o) p ≡ some e → Active w (takeWithOutput r j o) e
   active-takeFrom r j o e os (openOffer i q ws) h g z = absurd (Option·none-ne-some e z)
-  active-takeFrom r j o e os (inputOffer i q d a) h g z = meets-output (takeFrom r j o) e (record { element = d; cell = a; change = becomes r q 1 }) o (w o) refl (λ m k. takes-input h g k) z
+  active-takeFrom r j o e os (inputOffer i q d a) h g z = meets-output (takeWithOutput r j o) e (record { element = d; cell = a; change = becomes r q 1 }) o (w o) refl (λ m k. takes-input h g k) z
 
   pub active : (x : Label) (e : Effect) → effectOf x w ≡ some e → Active w x e
   active (own r) e q = active-own r e (w r) refl q
   active (pass i o) e q = active-pass i o e (w i) refl q
-  active (take r j) e q = active-offer (take r j) r j e (takeEffect r) (active-take r j e) (w r) refl q
-  active (takeFrom r j o) e q = active-offer (takeFrom r j o) r j e (takeFromEffect r o (w o)) (active-takeFrom r j o e) (w r) refl q
+  active (takeOption r j) e q = active-offer (takeOption r j) r j e (takeEffect r) (active-take r j e) (w r) refl q
+  active (takeWithOutput r j o) e q = active-offer (takeWithOutput r j o) r j e (takeFromEffect r o (w o)) (active-takeFrom r j o e) (w r) refl q
 
 -- a step does the same where its rows would do the same
 pub effect-same : (x : Label) (w u : ℕ → Intent) → ((r : ℕ) → RowOf x r → w r ≡ u r) → effectOf x w ≡ effectOf x u
-effect-same (own r) w u h = ap (ownEffect r) (h r its)
-effect-same (pass i o) w u h = ap₂ (passEffect i o) (h i receiver) (h o sender)
-effect-same (take r j) w u h = ap (offerEffect j (takeEffect r)) (h r chooser)
-effect-same (takeFrom r j o) w u h = ap₂ (λ (a b : Intent). offerEffect j (takeFromEffect r o a) b) (h o giver) (h r selector)
+effect-same (own r) w u h = ap (ownEffect r) (h r of-own)
+effect-same (pass i o) w u h = ap₂ (passEffect i o) (h i of-input) (h o of-output)
+effect-same (takeOption r j) w u h = ap (offerEffect j (takeEffect r)) (h r of-alt)
+effect-same (takeWithOutput r j o) w u h = ap₂ (λ (a b : Intent). offerEffect j (takeFromEffect r o a) b) (h o of-alt-output) (h r of-alt-input)
 
 -- ---- what a row would do is one thing
 

@@ -1,13 +1,13 @@
 -- To settle again changes nothing.
 use mathlib.Core.Path.{_≡_, refl, ap, _∙_}
-use mathlib.Core.Logic.{_≢_}
 use mathlib.Core.Bool.{Bool, true, false, and-false, true≢false}
 use mathlib.Core.List.{List, [], _∷_, List·Memᴰ, List·Memᴰ·head, List·Memᴰ·tail, Memᴰ·append-left, Memᴰ·append-right}
 use Prim.Native.Nat.{ℕ, zero, suc, _<_}
 use lib.ListN.{length, getD, set, length-set}
 use lib.Seq.{getD-set-same}
-use Rattle.meaning.specs.Tree.{Action, stop, skip, sequence, parallel, Process, node, Members, empty, also, rowOf, rowsIn, rowsBeneath, assign, receive, send, conditional, loop, alternation}
-use Rattle.meaning.specs.Settle.{stateOf, statesOf, Mode, byStep, mode, starts, nextMode, complete, makeIdle, endsWhenClosed, settleRunning, settleMembers, settle, allOf, anyOf, isIdleOrEnded, isEnded}
+use Rattle.meaning.specs.Tree.{Action, stop, skip, sequence, parallel, Process, node, Processes, empty, also, rowOf, rowsIn, rowsBeneath, assign, input, output, conditional, loop, alternation}
+use Rattle.meaning.specs.State.{stateOf, makeIdle, anyOf}
+use Rattle.meaning.specs.Settle.{statesOf, Mode, byStep, mode, starts, nextMode, complete, endsWhenClosed, settleRunning, settleEach, settle, allOf, isIdleOrEnded, isEnded}
 use Rattle.agreement.proofs.Frame.{body-node, body-shape, walk-none, walk-also, row-in, walk-local, see-local, zeros-local, Off, length-local, off-look, swap}
 
 abbrev pub Out : ℕ → List ℕ → Type 0
@@ -18,7 +18,7 @@ abbrev mutual
   pub Sound : Process → ℕ → Type 0
   Sound (node k r ms) n = (r < n) × Out r (rowsBeneath ms) × SoundM ms n
 
-  pub SoundM : Members → ℕ → Type 0
+  pub SoundM : Processes → ℕ → Type 0
   SoundM empty n = Unit {0}
   SoundM (also p ms) n = Sound p n × SoundM ms n × Off (rowsIn p) (rowsBeneath ms)
 
@@ -48,20 +48,20 @@ see-over p b s n e = rw e
 
 -- ---- idle members are left alone
 
-pub idle-walk : (ms : Members) (s : List ℕ) → Idle (rowsBeneath ms) s → settleMembers ms byStep s ≡ s
+pub idle-walk : (ms : Processes) (s : List ℕ) → Idle (rowsBeneath ms) s → settleEach ms byStep s ≡ s
 idle-walk empty s i = walk-none byStep s
 idle-walk (also p ms) s i =
     let e = see-idle p s (i (rowOf p) (Memᴰ·append-left (rowsBeneath ms) (row-in p))) in
     rw (walk-also p ms byStep s, e) (idle-walk ms s (λ x m. i x (Memᴰ·append-right (rowsIn p) m)))
 
-idle-some : (ms : Members) (s : List ℕ) → Idle (rowsBeneath ms) s → anyOf isEnded (statesOf ms s) ≡ false
+idle-some : (ms : Processes) (s : List ℕ) → Idle (rowsBeneath ms) s → anyOf isEnded (statesOf ms s) ≡ false
 idle-some empty s i = refl
 idle-some (also p ms) s i = rw (i (rowOf p) (Memᴰ·append-left (rowsBeneath ms) (row-in p))) (idle-some ms s (λ x m. i x (Memᴰ·append-right (rowsIn p) m)))
 
-pub idle-done : (ms : Members) (s : List ℕ) → Idle (rowsBeneath ms) s → complete byStep (statesOf ms s) ≡ false
+pub idle-done : (ms : Processes) (s : List ℕ) → Idle (rowsBeneath ms) s → complete byStep (statesOf ms s) ≡ false
 idle-done ms s i = rw (idle-some ms s i) (and-false (allOf isIdleOrEnded (statesOf ms s)))
 
-pub idle-body : (k : Action) (r : ℕ) (ms : Members) (s : List ℕ) → mode k ≡ byStep → Idle (rowsBeneath ms) s → settleRunning (node k r ms) s ≡ s
+pub idle-body : (k : Action) (r : ℕ) (ms : Processes) (s : List ℕ) → mode k ≡ byStep → Idle (rowsBeneath ms) s → settleRunning (node k r ms) s ≡ s
 idle-body k r ms s e i = rw (body-node k r ms s, e, idle-walk ms s i, idle-done ms s i)
 
 set-zero : (s : List ℕ) (r x : ℕ) → getD s x 0 ≡ 0 → getD (set s r 0) x 0 ≡ 0
@@ -90,8 +90,8 @@ loop-never skip e = absurd (true≢false e)
 loop-never sequence e = absurd (true≢false e)
 loop-never parallel e = absurd (true≢false e)
 loop-never (assign v a b) e = refl
-loop-never (receive i) e = refl
-loop-never (send c a b) e = refl
+loop-never (input i) e = refl
+loop-never (output c a b) e = refl
 loop-never (conditional ts) e = refl
 loop-never (loop a b) e = refl
 loop-never (alternation bs) e = refl
@@ -136,7 +136,7 @@ unfolding after
 under-after p s low = low
 under-after p s same = same
 
-pub walk-after : (p : Process) (ms : Members) (m : Mode) (s : List ℕ) → settleMembers (also p ms) m s ≡ settleMembers ms (after p m s) (settle p (starts m) s)
+pub walk-after : (p : Process) (ms : Processes) (m : Mode) (s : List ℕ) → settleEach (also p ms) m s ≡ settleEach ms (after p m s) (settle p (starts m) s)
 unfolding after
 walk-after = walk-also
 
@@ -144,15 +144,15 @@ pub after-eq : (p : Process) (m : Mode) (s t : List ℕ) → stateOf (settle p (
 unfolding after
 after-eq p m s t e = ap (nextMode m) e
 
-again-node : (k : Action) (r : ℕ) (ms : Members) (s : List ℕ) (b : Bool) → r < length s → Out r (rowsBeneath ms) → getD s r 0 ≡ 1
-    → settleMembers ms (mode k) (settleMembers ms (mode k) s) ≡ settleMembers ms (mode k) s → settle (node k r ms) b (settleRunning (node k r ms) s) ≡ settleRunning (node k r ms) s
+again-node : (k : Action) (r : ℕ) (ms : Processes) (s : List ℕ) (b : Bool) → r < length s → Out r (rowsBeneath ms) → getD s r 0 ≡ 1
+    → settleEach ms (mode k) (settleEach ms (mode k) s) ≡ settleEach ms (mode k) s → settle (node k r ms) b (settleRunning (node k r ms) s) ≡ settleRunning (node k r ms) s
 again-node k r ms s b h o e twice = go (complete (mode k) (statesOf ms w)) (endsWhenClosed k) refl refl
   where
     p : Process
     p = node k r ms
 
     w : List ℕ
-    w = settleMembers ms (mode k) s
+    w = settleEach ms (mode k) s
 
     e1 : getD w r 0 ≡ 1
     e1 = off-look (walk-local ms (mode k)) s r o ∙ e
@@ -173,18 +173,18 @@ mutual
   pub again : (p : Process) (n : ℕ) → Sound p n → Again p n
   again (node k r ms) n d s l e b = again-node k r ms s b (rw l (d .0)) (d .1) e (againM ms n (d .2) same s l)
 
-  pub againM : (ms : Members) (n : ℕ) → SoundM ms n → {m m′ : Mode} → Under m m′ → (s : List ℕ) → length s ≡ n → settleMembers ms m′ (settleMembers ms m s) ≡ settleMembers ms m′ s
+  pub againM : (ms : Processes) (n : ℕ) → SoundM ms n → {m m′ : Mode} → Under m m′ → (s : List ℕ) → length s ≡ n → settleEach ms m′ (settleEach ms m s) ≡ settleEach ms m′ s
   againM empty n d u s l = simp walk-none
   againM (also p ms) n d {m} {m′} u s l =
       let m1 = after p m s in
       let t1 = settle p (starts m′) s in
-      let key : settle p (starts m′) (settleMembers (also p ms) m s) ≡ settleMembers ms m1 t1
+      let key : settle p (starts m′) (settleEach (also p ms) m s) ≡ settleEach ms m1 t1
       = rw (
         walk-after p ms m s,
         swap (see-local p (starts m′)) (walk-local ms m1) (d .2) (settle p (starts m) s),
         see-again p n (λ s f e b. again p n (d .0) s f e b) (sound-row p n (d .0)) (under-starts u) s l,
       ) in
-      let mid : after p m′ (settleMembers (also p ms) m s) ≡ after p m′ s
-      = after-eq p m′ (settleMembers (also p ms) m s) s (rw key (off-look (walk-local ms m1) t1 (rowOf p) (d .2 (rowOf p) (row-in p)))) in
-      rw (walk-after p ms m′ (settleMembers (also p ms) m s), mid, key, walk-after p ms m′ s)
+      let mid : after p m′ (settleEach (also p ms) m s) ≡ after p m′ s
+      = after-eq p m′ (settleEach (also p ms) m s) s (rw key (off-look (walk-local ms m1) t1 (rowOf p) (d .2 (rowOf p) (row-in p)))) in
+      rw (walk-after p ms m′ (settleEach (also p ms) m s), mid, key, walk-after p ms m′ s)
       (againM ms n (d .1) (under-after p s u) t1 (length-local (see-local p (starts m′)) s ∙ l))

@@ -1,25 +1,26 @@
 -- Every step that the machine takes is one that the rules allow.
 use mathlib.Core.Path.{_≡_, refl, sym, subst}
-use mathlib.Core.Logic.{_≢_}
 use mathlib.Core.Bool.{Bool, true, false, _&&_, true≢false}
 use mathlib.Core.Option.{Option, none, some, Option·none-ne-some, Option·some-injective}
 use mathlib.Core.List.{List, [], _∷_, _++_, List·Memᴰ, List·Memᴰ·head, List·Memᴰ·tail}
 use Prim.Native.Nat.{ℕ, suc, _+_}
 use lib.IntN.{ℤ}
-use lib.ListN.{length, getD}
+use lib.ListN.{length, getD, getElem?}
 use lib.Dec.{ltb, eqb, T, eqb→eq, ltb→lt}
 use Rattle.meaning.specs.declared.Value.{Value}
 use Rattle.meaning.specs.declared.Value.the-variants.{Number, Missing}
 use Rattle.meaning.specs.declared.Index.{Index}
 use Rattle.meaning.specs.declared.Index.the-variants.{At, Fails}
-use Rattle.meaning.specs.Rows.{ifElse}
+use Rattle.meaning.specs.Basics.{ifElse}
 use Rattle.meaning.specs.Declarations.{Variable, Channel}
-use Rattle.meaning.specs.Tree.{Expr, Receive, IfChoice, AltOption, Action, stop, skip, sequence, parallel, assign, receive, send, conditional, loop, alternation, Process, node, actionOf, membersIn, rowsBeneath}
-use Rattle.meaning.specs.Values.{isTrue, value, index}
-use Rattle.meaning.specs.State.{Message, State, Program, processAt, Write, writeCell, writePlace, writeOutput, Effect}
-use Rattle.meaning.specs.Intent.{Sheet, entry, Offer, openOffer, inputOffer, Intent, waits, moves, inputsFrom, outputsTo, selects, assigning, testing, choosing, hosting, sending, Reception, lacks, later, reads, fromElement, reading, receiving, inputting, Looked, fails, offers, adding, admitting, opening, guarding, selecting, reception, receptionIf, tests, looks, intent}
-use Rattle.meaning.specs.Ready.{Label, own, pass, take, takeFrom, allIdle, live, intentAt, ownEffect, WaitingInput, meeting, meetEffect, passEffect, takeEffect, takeFromEffect, optionRow, offerEffectAt, offerEffect, effectOf}
-use Rattle.meaning.specs.Step.{channelOf, targetOf, Holds, holds, refuted, LacksIn, channel-lacks, target-lacks, FirstTrue, LacksTest, boolean-lacks, input-lacks, Complete, closed, open-skip, open-input, LacksOption, AllComplete, no-more, and-then, assign-subscript, assign-value, input-subscript, output-subscript, output-value, while-test, if-test, alt-guard, Inner, inner, Host, host, Sends, sends, Live, becomes, effect, Allows, assignment, while-false, while-true, if-true, communication, host-read, host-write, alt-skip, alt-read, alt-communication, stopping}
+use Rattle.meaning.specs.Tree.{Expr, ChannelInput, IfChoice, AltOption, Action, stop, skip, sequence, parallel, assign, input, output, conditional, loop, alternation, Process, node, actionOf, processesIn, rowsBeneath}
+use Rattle.meaning.specs.Values.{Message, isTrue, value, index}
+use Rattle.meaning.specs.State.{State, Program, processAt, Write, writeCell, writePlace, writeOutput, Effect}
+use Rattle.meaning.specs.Labels.{Label, own, pass, takeOption, takeWithOutput}
+use Rattle.meaning.specs.Readings.{Sheet}
+use Rattle.meaning.specs.Intent.{Offer, openOffer, inputOffer, Intent, waits, moves, inputsFrom, outputsTo, selects, assigning, testing, choosing, hostWrite, outputting, InputResult, lacks, notYet, reads, fromElement, hostRead, inputResultOf, inputting, OptionsResult, fails, offers, adding, admitting, opening, guarding, selecting, inputResult, inputResultIf, tests, optionsResult, intent}
+use Rattle.meaning.specs.Ready.{allIdle, isLive, intentAt, ownEffect, WaitingInput, communicationWhere, communicationEffect, passEffect, takeEffect, takeFromEffect, optionRow, offerEffectAt, offerEffect, effectOf}
+use Rattle.meaning.specs.Step.{channelElement, targetCell, Holds, holds, refuted, LacksIn, channel-lacks, target-lacks, FirstTrue, LacksTest, boolean-lacks, input-lacks, Complete, closed, open-skip, open-input, LacksOption, AllComplete, complete-none, complete-more, assign-subscript, assign-value, input-subscript, output-subscript, output-value, while-test, if-test, alt-guard, InnerInput, inner-input, HostInput, host-input, InnerOutput, inner-output, Live, becomes, effect, Allows, assignment, while-false, while-true, if-true, communication, host-read, host-write, alt-skip, alt-read, alt-communication, stopping}
 
 is-true : (t : Bool) → t ≡ true → T t
 is-true true e = tt
@@ -36,9 +37,9 @@ module _ (P : Program) (sheet : Sheet) (s : State) where
   -- an offer that a branch of l makes
   data OfferOf (l : List AltOption) : Offer → Type 0 where
     by-skip : (b : AltOption) → List·Memᴰ b l → Holds cells (b .guard .boolean) → b .guard .input ≡ none → OfferOf l (openOffer (b .row) (b .process) [])
-    by-host : (b : AltOption) (i : Receive) (a n : ℕ) (v : Option ℤ) → List·Memᴰ b l → Holds cells (b .guard .boolean) → b .guard .input ≡ some i → Host sheet (s .store) i a v n
-        → OfferOf l (openOffer (b .row) (b .process) (writeCell a v ∷ writePlace (i .channel .port) (suc n) ∷ []))
-    by-inner : (b : AltOption) (i : Receive) (e a : ℕ) → List·Memᴰ b l → Holds cells (b .guard .boolean) → b .guard .input ≡ some i → Inner (s .store) i e a
+    by-host : (b : AltOption) (i : ChannelInput) (a n : ℕ) (v : Option ℤ) → List·Memᴰ b l → Holds cells (b .guard .boolean) → b .guard .input ≡ some i → HostInput sheet (s .store) i a v n
+        → OfferOf l (openOffer (b .row) (b .process) (writeCell a v ∷ writePlace (i .channel .number) (suc n) ∷ []))
+    by-inner : (b : AltOption) (i : ChannelInput) (e a : ℕ) → List·Memᴰ b l → Holds cells (b .guard .boolean) → b .guard .input ≡ some i → InnerInput (s .store) i e a
         → OfferOf l (inputOffer (b .row) (b .process) e a)
 
   widen : (b : AltOption) (l : List AltOption) (o : Offer) → OfferOf l o → OfferOf (b ∷ l) o
@@ -58,8 +59,8 @@ module _ (P : Program) (sheet : Sheet) (s : State) where
   abbrev Sound : ℕ → Intent → Type 0
   Sound r waits = Unit {0}
   Sound r (moves x v ws) = Own r x v ws
-  Sound r (inputsFrom e a) = (i : Receive) × Live P s r (receive i) × Inner (s .store) i e a
-  Sound r (outputsTo d z) = (c : Channel) × ((e : Expr) × ((f : Expr) × (Live P s r (send c e f) × Sends (s .store) c e f d z)))
+  Sound r (inputsFrom e a) = (i : ChannelInput) × Live P s r (input i) × InnerInput (s .store) i e a
+  Sound r (outputsTo d z) = (c : Channel) × ((e : Expr) × ((f : Expr) × (Live P s r (output c e f) × InnerOutput (s .store) c e f d z)))
   Sound r (selects os) = (bs : List AltOption) × Live P s r (alternation bs) × AllComplete cells bs × AllOf bs os
 
   sound-assign : (r : ℕ) (v : Variable) (e f : Expr) → Live P s r (assign v e f) → (I : Index) (W : Value) → index cells (v .first) (v .size) e ≡ I → value cells f ≡ W → Sound r (assigning r I W)
@@ -87,101 +88,101 @@ module _ (P : Program) (sheet : Sheet) (s : State) where
   sound-tests : (r : ℕ) (l : List IfChoice) → ((q : ℕ) → FirstTrue cells l q → Own r q 1 []) → ((k : ℕ) → LacksTest cells l k → Own r r (10 + k) []) → Sound r (tests sheet r l (s .store))
   sound-tests r [] f g = tt
   sound-tests r (t ∷ l) f g =
-      sound-test r (t .process) (tests sheet r l (s .store)) (value cells (t .boolean)) (λ k e. g k (LacksTest.this e)) (λ x e h. f (t .process) (FirstTrue.this (holds e h)))
-      (λ x e h. sound-tests r l (λ q z. f q (FirstTrue.skip-false (refuted e h) z)) (λ k z. g k (LacksTest.skip-false (refuted e h) z)))
+      sound-test r (t .process) (tests sheet r l (s .store)) (value cells (t .boolean)) (λ k e. g k (LacksTest.test-lacks e)) (λ x e h. f (t .process) (FirstTrue.true-first (holds e h)))
+      (λ x e h. sound-tests r l (λ q z. f q (FirstTrue.false-before (refuted e h) z)) (λ k z. g k (LacksTest.false-before-lack (refuted e h) z)))
 
   -- what a reception means
-  abbrev Received : Receive → Reception → Type 0
+  abbrev Received : ChannelInput → InputResult → Type 0
   Received i (lacks k) = LacksIn cells i k
-  Received i later = (e : ℕ) × ((a : ℕ) × ((channelOf cells i ≡ At e) × (targetOf cells i ≡ At a)))
-  Received i (reads ws) = (a : ℕ) × ((n : ℕ) × ((v : Option ℤ) × (Host sheet (s .store) i a v n × (ws ≡ writeCell a v ∷ writePlace (i .channel .port) (suc n) ∷ []))))
-  Received i (fromElement e a) = Inner (s .store) i e a
+  Received i notYet = (e : ℕ) × ((a : ℕ) × ((channelElement cells i ≡ At e) × (targetCell cells i ≡ At a)))
+  Received i (reads ws) = (a : ℕ) × ((n : ℕ) × ((v : Option ℤ) × (HostInput sheet (s .store) i a v n × (ws ≡ writeCell a v ∷ writePlace (i .channel .number) (suc n) ∷ []))))
+  Received i (fromElement e a) = InnerInput (s .store) i e a
 
-  received : (i : Receive) (I J : Index) → channelOf cells i ≡ I → targetOf cells i ≡ J → Received i (receiving sheet (s .store .places) (i .channel) I J)
+  received : (i : ChannelInput) (I J : Index) → channelElement cells i ≡ I → targetCell cells i ≡ J → Received i (inputResultOf sheet (s .store .places) (i .channel) I J)
   received i (Fails k) J p q = channel-lacks p
   received i (At e) (Fails k) p q = target-lacks p q
   received i (At e) (At a) p q = go (i .channel .host) refl
     where
       n : ℕ
-      n = getD (s .store .places) (i .channel .port) 0
+      n = getD (s .store .places) (i .channel .number) 0
 
-      read : (o : Option (Option ℤ)) → i .channel .host ≡ true → entry (getD sheet (i .channel .port) []) n ≡ o → Received i (reading (i .channel .port) n a o)
+      read : (o : Option (Option ℤ)) → i .channel .host ≡ true → getElem? (getD sheet (i .channel .number) []) n ≡ o → Received i (hostRead (i .channel .number) n a o)
       read none h g = (e, (a, (p, q)))
-      read (some v) h g = (a, (n, (v, (host h p q refl g, refl))))
+      read (some v) h g = (a, (n, (v, (host-input h p q refl g, refl))))
 
-      go : (t : Bool) → i .channel .host ≡ t → Received i (ifElse t (reading (i .channel .port) n a (entry (getD sheet (i .channel .port) []) n)) (fromElement e a))
-      go true h = read (entry (getD sheet (i .channel .port) []) n) h refl
-      go false h = inner h p q
+      go : (t : Bool) → i .channel .host ≡ t → Received i (ifElse t (hostRead (i .channel .number) n a (getElem? (getD sheet (i .channel .number) []) n)) (fromElement e a))
+      go true h = read (getElem? (getD sheet (i .channel .number) []) n) h refl
+      go false h = inner-input h p q
 
-  reception-is : (i : Receive) → Received i (reception sheet i (s .store))
-  unfolding reception
-  reception-is i = received i (channelOf cells i) (targetOf cells i) refl refl
+  reception-is : (i : ChannelInput) → Received i (inputResult sheet i (s .store))
+  unfolding inputResult
+  reception-is i = received i (channelElement cells i) (targetCell cells i) refl refl
 
-  sound-input : (r : ℕ) (i : Receive) → Live P s r (receive i) → (R : Reception) → Received i R → Sound r (inputting r R)
+  sound-input : (r : ℕ) (i : ChannelInput) → Live P s r (input i) → (R : InputResult) → Received i R → Sound r (inputting r R)
   sound-input r i g (lacks k) h = stopping g (input-subscript h)
-  sound-input r i g later h = tt
+  sound-input r i g notYet h = tt
   sound-input r i g (reads ws) h = rw (h .1 .1 .1 .1) (host-read g (h .1 .1 .1 .0))
   sound-input r i g (fromElement e a) h = (i, g, h)
 
-  sound-output : (r : ℕ) (c : Channel) (e f : Expr) → Live P s r (send c e f) → (I : Index) (W : Value) → index cells (c .first) (c .size) e ≡ I → value cells f ≡ W → Sound r (sending r c (s .store .outputs) I W)
+  sound-output : (r : ℕ) (c : Channel) (e f : Expr) → Live P s r (output c e f) → (I : Index) (W : Value) → index cells (c .first) (c .size) e ≡ I → value cells f ≡ W → Sound r (outputting r c (s .store .outputs) I W)
   sound-output r c e f g (Fails k) W p q = stopping g (output-subscript p)
   sound-output r c e f g (At d) (Missing k) p q = stopping g (output-value p q)
   sound-output r c e f g (At d) (Number z) p q = go (c .host) refl
     where
       l : List Message
-      l = getD (s .store .outputs) (c .port) []
+      l = getD (s .store .outputs) (c .number) []
 
-      room : (t : Bool) → c .host ≡ true → ltb (length l) (c .capacity) ≡ t → Sound r (ifElse t (moves r 2 (writeOutput (c .port) (l ++ (some z ∷ [])) ∷ [])) waits)
+      room : (t : Bool) → c .host ≡ true → ltb (length l) (c .capacity) ≡ t → Sound r (ifElse t (moves r 2 (writeOutput (c .number) (l ++ (some z ∷ [])) ∷ [])) waits)
       room true h u = host-write g h p q refl (ltb→lt (length l) (c .capacity) (is-true (ltb (length l) (c .capacity)) u))
       room false h u = tt
 
-      go : (t : Bool) → c .host ≡ t → Sound r (ifElse t (hosting r c l (some z)) (outputsTo d (some z)))
+      go : (t : Bool) → c .host ≡ t → Sound r (ifElse t (hostWrite r c l (some z)) (outputsTo d (some z)))
       go true h = room (ltb (length l) (c .capacity)) h refl
-      go false h = (c, (e, (f, (g, sends h p q))))
+      go false h = (c, (e, (f, (g, inner-output h p q))))
 
   -- what options looked at mean
-  abbrev LookedAt : List AltOption → Looked → Type 0
+  abbrev LookedAt : List AltOption → OptionsResult → Type 0
   LookedAt l (fails k) = LacksOption cells l k
   LookedAt l (offers os) = AllComplete cells l × AllOf l os
 
-  look-add : (b : AltOption) (l : List AltOption) (o : Offer) (L : Looked) → Complete cells b → OfferOf (b ∷ l) o → LookedAt l L → LookedAt (b ∷ l) (adding o L)
+  look-add : (b : AltOption) (l : List AltOption) (o : Offer) (L : OptionsResult) → Complete cells b → OfferOf (b ∷ l) o → LookedAt l L → LookedAt (b ∷ l) (adding o L)
   look-add b l o (fails k) c h g = LacksOption.pass-over c g
-  look-add b l o (offers os) c h g = (and-then c (g .0), one-more h (widen-all b l (g .1)))
+  look-add b l o (offers os) c h g = (complete-more c (g .0), one-more h (widen-all b l (g .1)))
 
-  look-pass : (b : AltOption) (l : List AltOption) (L : Looked) → Complete cells b → LookedAt l L → LookedAt (b ∷ l) L
+  look-pass : (b : AltOption) (l : List AltOption) (L : OptionsResult) → Complete cells b → LookedAt l L → LookedAt (b ∷ l) L
   look-pass b l (fails k) c g = LacksOption.pass-over c g
-  look-pass b l (offers os) c g = (and-then c (g .0), widen-all b l (g .1))
+  look-pass b l (offers os) c g = (complete-more c (g .0), widen-all b l (g .1))
 
-  complete-host : (b : AltOption) {i : Receive} {a n : ℕ} {v : Option ℤ} → Holds cells (b .guard .boolean) → b .guard .input ≡ some i → Host sheet (s .store) i a v n → Complete cells b
-  complete-host b h q (host t c d g k) = open-input h q c d
+  complete-host : (b : AltOption) {i : ChannelInput} {a n : ℕ} {v : Option ℤ} → Holds cells (b .guard .boolean) → b .guard .input ≡ some i → HostInput sheet (s .store) i a v n → Complete cells b
+  complete-host b h q (host-input t c d g k) = open-input h q c d
 
-  complete-inner : (b : AltOption) {i : Receive} {e a : ℕ} → Holds cells (b .guard .boolean) → b .guard .input ≡ some i → Inner (s .store) i e a → Complete cells b
-  complete-inner b h q (inner t c d) = open-input h q c d
+  complete-inner : (b : AltOption) {i : ChannelInput} {e a : ℕ} → Holds cells (b .guard .boolean) → b .guard .input ≡ some i → InnerInput (s .store) i e a → Complete cells b
+  complete-inner b h q (inner-input t c d) = open-input h q c d
 
-  look-input : (b : AltOption) (l : List AltOption) (i : Receive) (R : Reception) (L : Looked) → Holds cells (b .guard .boolean) → b .guard .input ≡ some i → Received i R → LookedAt l L → LookedAt (b ∷ l) (admitting (b .row) (b .process) R L)
-  look-input b l i (lacks k) L h q g t = LacksOption.this (input-lacks h q g)
-  look-input b l i later L h q g t = look-pass b l L (open-input h q (g .1 .1 .0) (g .1 .1 .1)) t
+  look-input : (b : AltOption) (l : List AltOption) (i : ChannelInput) (R : InputResult) (L : OptionsResult) → Holds cells (b .guard .boolean) → b .guard .input ≡ some i → Received i R → LookedAt l L → LookedAt (b ∷ l) (admitting (b .row) (b .process) R L)
+  look-input b l i (lacks k) L h q g t = LacksOption.option-lacks (input-lacks h q g)
+  look-input b l i notYet L h q g t = look-pass b l L (open-input h q (g .1 .1 .0) (g .1 .1 .1)) t
   look-input b l i (reads ws) L h q (a, (n, (v, (g, e)))) t =
-      rw e (look-add b l (openOffer (b .row) (b .process) (writeCell a v ∷ writePlace (i .channel .port) (suc n) ∷ [])) L (complete-host b h q g) (by-host b i a n v (List·Memᴰ·head refl) h q g) t)
+      rw e (look-add b l (openOffer (b .row) (b .process) (writeCell a v ∷ writePlace (i .channel .number) (suc n) ∷ [])) L (complete-host b h q g) (by-host b i a n v (List·Memᴰ·head refl) h q g) t)
   look-input b l i (fromElement e a) L h q g t = look-add b l (inputOffer (b .row) (b .process) e a) L (complete-inner b h q g) (by-inner b i e a (List·Memᴰ·head refl) h q g) t
 
-  look-open : (b : AltOption) (l : List AltOption) (o : Option Receive) (L : Looked) → Holds cells (b .guard .boolean) → b .guard .input ≡ o → LookedAt l L → LookedAt (b ∷ l) (opening (b .row) (b .process) (receptionIf sheet o (s .store)) L)
+  look-open : (b : AltOption) (l : List AltOption) (o : Option ChannelInput) (L : OptionsResult) → Holds cells (b .guard .boolean) → b .guard .input ≡ o → LookedAt l L → LookedAt (b ∷ l) (opening (b .row) (b .process) (inputResultIf sheet o (s .store)) L)
   look-open b l none L h q t = look-add b l (openOffer (b .row) (b .process) []) L (open-skip h q) (by-skip b (List·Memᴰ·head refl) h q) t
-  look-open b l (some i) L h q t = look-input b l i (reception sheet i (s .store)) L h q (reception-is i) t
+  look-open b l (some i) L h q t = look-input b l i (inputResult sheet i (s .store)) L h q (reception-is i) t
 
-  look-guard : (b : AltOption) (l : List AltOption) (W : Value) (L : Looked) → value cells (b .guard .boolean) ≡ W → LookedAt l L → LookedAt (b ∷ l) (guarding (b .row) (b .process) W (receptionIf sheet (b .guard .input) (s .store)) L)
-  look-guard b l (Missing k) L p t = LacksOption.this (boolean-lacks p)
+  look-guard : (b : AltOption) (l : List AltOption) (W : Value) (L : OptionsResult) → value cells (b .guard .boolean) ≡ W → LookedAt l L → LookedAt (b ∷ l) (guarding (b .row) (b .process) W (inputResultIf sheet (b .guard .input) (s .store)) L)
+  look-guard b l (Missing k) L p t = LacksOption.option-lacks (boolean-lacks p)
   look-guard b l (Number x) L p t = go (isTrue x) refl
     where
-      go : (u : Bool) → isTrue x ≡ u → LookedAt (b ∷ l) (ifElse u (opening (b .row) (b .process) (receptionIf sheet (b .guard .input) (s .store)) L) L)
+      go : (u : Bool) → isTrue x ≡ u → LookedAt (b ∷ l) (ifElse u (opening (b .row) (b .process) (inputResultIf sheet (b .guard .input) (s .store)) L) L)
       go true q = look-open b l (b .guard .input) L (holds p q) refl t
       go false q = look-pass b l L (closed (refuted p q)) t
 
-  looked : (l : List AltOption) → LookedAt l (looks sheet l (s .store))
-  looked [] = (no-more, no-offer)
-  looked (b ∷ l) = look-guard b l (value cells (b .guard .boolean)) (looks sheet l (s .store)) refl (looked l)
+  looked : (l : List AltOption) → LookedAt l (optionsResult sheet l (s .store))
+  looked [] = (complete-none, no-offer)
+  looked (b ∷ l) = look-guard b l (value cells (b .guard .boolean)) (optionsResult sheet l (s .store)) refl (looked l)
 
-  sound-select : (r : ℕ) (bs : List AltOption) → Live P s r (alternation bs) → (L : Looked) → LookedAt bs L → Sound r (selecting r L)
+  sound-select : (r : ℕ) (bs : List AltOption) → Live P s r (alternation bs) → (L : OptionsResult) → LookedAt bs L → Sound r (selecting r L)
   sound-select r bs g (fails k) h = stopping g (alt-guard h)
   sound-select r bs g (offers os) h = (bs, g, h .0, h .1)
 
@@ -193,11 +194,11 @@ module _ (P : Program) (sheet : Sheet) (s : State) where
   sound r sequence g = tt
   sound r parallel g = tt
   sound r (assign v e f) g = sound-assign r v e f g (index cells (v .first) (v .size) e) (value cells f) refl refl
-  sound r (receive i) g = sound-input r i g (reception sheet i (s .store)) (reception-is i)
-  sound r (send c e f) g = sound-output r c e f g (index cells (c .first) (c .size) e) (value cells f) refl refl
+  sound r (input i) g = sound-input r i g (inputResult sheet i (s .store)) (reception-is i)
+  sound r (output c e f) g = sound-output r c e f g (index cells (c .first) (c .size) e) (value cells f) refl refl
   sound r (conditional ts) g = sound-tests r ts (λ q h. if-true g h) (λ k h. stopping g (if-test h))
   sound r (loop e b) g = sound-while r b e g (value cells e) refl
-  sound r (alternation bs) g = sound-select r bs g (looks sheet bs (s .store)) (looked bs)
+  sound r (alternation bs) g = sound-select r bs g (optionsResult sheet bs (s .store)) (looked bs)
 
   split : (a b : Bool) → (a && b) ≡ true → (a ≡ true) × (b ≡ true)
   split true b e = (refl, e)
@@ -209,20 +210,20 @@ module _ (P : Program) (sheet : Sheet) (s : State) where
   idle-all (r ∷ l) e b (List·Memᴰ·tail m) = idle-all l (split (eqb (getD (s .states) r 0) 0) (allIdle l (s .states)) e .1) b m
 
   -- a row that is live by the test is live by the rule
-  live-is : (r : ℕ) → live P sheet r s ≡ true → Live P s r (actionOf (processAt P r))
-  unfolding live
+  live-is : (r : ℕ) → isLive P sheet r s ≡ true → Live P s r (actionOf (processAt P r))
+  unfolding isLive
   live-is r e =
-      let (u, v) = split (eqb (getD (s .states) r 0) 1) (allIdle (rowsBeneath (membersIn (processAt P r))) (s .states)) e in
+      let (u, v) = split (eqb (getD (s .states) r 0) 1) (allIdle (rowsBeneath (processesIn (processAt P r))) (s .states)) e in
       go (processAt P r) refl (eqb→eq (getD (s .states) r 0) 1 (is-true (eqb (getD (s .states) r 0) 1) u)) v
     where
-      go : (p : Process) → processAt P r ≡ p → getD (s .states) r 0 ≡ 1 → allIdle (rowsBeneath (membersIn p)) (s .states) ≡ true → Live P s r (actionOf p)
+      go : (p : Process) → processAt P r ≡ p → getD (s .states) r 0 ≡ 1 → allIdle (rowsBeneath (processesIn p)) (s .states) ≡ true → Live P s r (actionOf p)
       go (node a q ms) e u v = Live.live e u (idle-all (rowsBeneath ms) v)
 
   wanted : (r : ℕ) → Sound r (intentAt P sheet s r)
   unfolding intentAt
-  wanted r = go (live P sheet r s) refl
+  wanted r = go (isLive P sheet r s) refl
     where
-      go : (t : Bool) → live P sheet r s ≡ t → Sound r (ifElse t (intent sheet (actionOf (processAt P r)) r (s .store)) waits)
+      go : (t : Bool) → isLive P sheet r s ≡ t → Sound r (ifElse t (intent sheet (actionOf (processAt P r)) r (s .store)) waits)
       go true e = sound r (actionOf (processAt P r)) (live-is r e)
       go false e = tt
 
@@ -242,14 +243,14 @@ module _ (P : Program) (sheet : Sheet) (s : State) where
 
   -- the two sides of a communication at one element
   meet-allowed : (x : Label) (e : Effect) (i : WaitingInput) (o : ℕ) (u : Intent) → Sound o u
-      → ((z : Message) → Sound o (outputsTo (i .element) z) → To x (effect (i .change ∷ becomes o o 2 ∷ []) (writeCell (i .cell) z ∷ []))) → meetEffect i o u ≡ some e → To x e
+      → ((z : Message) → Sound o (outputsTo (i .element) z) → To x (effect (i .change ∷ becomes o o 2 ∷ []) (writeCell (i .cell) z ∷ []))) → communicationEffect i o u ≡ some e → To x e
   meet-allowed x e i o waits h k q = absurd (Option·none-ne-some e q)
   meet-allowed x e i o (moves c w ws) h k q = absurd (Option·none-ne-some e q)
   meet-allowed x e i o (inputsFrom c w) h k q = absurd (Option·none-ne-some e q)
   meet-allowed x e i o (selects l) h k q = absurd (Option·none-ne-some e q)
   meet-allowed x e i o (outputsTo f z) h k q = go (eqb (i .element) f) refl q
     where
-      go : (t : Bool) → eqb (i .element) f ≡ t → meeting t i o z ≡ some e → To x e
+      go : (t : Bool) → eqb (i .element) f ≡ t → communicationWhere t i o z ≡ some e → To x e
       go true g q = to x e (effect (i .change ∷ becomes o o 2 ∷ []) (writeCell (i .cell) z ∷ [])) q (k z (rw (eqb→eq (i .element) f (is-true (eqb (i .element) f) g)) h))
       go false g q = absurd (Option·none-ne-some e q)
 
@@ -271,18 +272,18 @@ module _ (P : Program) (sheet : Sheet) (s : State) where
       go true g q ih = k o h (eqb→eq (optionRow o) j (is-true (eqb (optionRow o) j) g)) q
       go false g q ih = ih q
 
-  one-take : (r j : ℕ) (e : Effect) (bs : List AltOption) → Live P s r (alternation bs) → AllComplete cells bs → (o : Offer) → OfferOf bs o → optionRow o ≡ j → takeEffect r o ≡ some e → To (take r j) e
-  one-take r j e bs g c o (by-skip b m h i) n q = to (take r j) e (effect (becomes r (b .process) 1 ∷ []) []) q (rw (← n) (alt-skip g c m h i))
+  one-take : (r j : ℕ) (e : Effect) (bs : List AltOption) → Live P s r (alternation bs) → AllComplete cells bs → (o : Offer) → OfferOf bs o → optionRow o ≡ j → takeEffect r o ≡ some e → To (takeOption r j) e
+  one-take r j e bs g c o (by-skip b m h i) n q = to (takeOption r j) e (effect (becomes r (b .process) 1 ∷ []) []) q (rw (← n) (alt-skip g c m h i))
   one-take r j e bs g c o (by-host b i a k v m h u t) n q =
-      to (take r j) e (effect (becomes r (b .process) 1 ∷ []) (writeCell a v ∷ writePlace (i .channel .port) (suc k) ∷ [])) q (rw (← n) (alt-read g c m h u t))
+      to (takeOption r j) e (effect (becomes r (b .process) 1 ∷ []) (writeCell a v ∷ writePlace (i .channel .number) (suc k) ∷ [])) q (rw (← n) (alt-read g c m h u t))
   one-take r j e bs g c o (by-inner b i d a m h u t) n q = absurd (Option·none-ne-some e q)
 
   one-takeFrom : (r j o : ℕ) (e : Effect) (u : Intent) (bs : List AltOption) → Sound o u → Live P s r (alternation bs) → AllComplete cells bs → (p : Offer) → OfferOf bs p → optionRow p ≡ j → takeFromEffect r o u p ≡ some e
-      → To (takeFrom r j o) e
+      → To (takeWithOutput r j o) e
   one-takeFrom r j o e u bs k g c p (by-skip b m h i) n q = absurd (Option·none-ne-some e q)
   one-takeFrom r j o e u bs k g c p (by-host b i a y v m h w t) n q = absurd (Option·none-ne-some e q)
   one-takeFrom r j o e u bs k g c p (by-inner b i d a m h w t) n q =
-      meet-allowed (takeFrom r j o) e (record { element = d; cell = a; change = becomes r (b .process) 1 }) o u k (λ z y. rw (← n) (alt-communication g c m (y .1 .1 .1 .0) h w t (y .1 .1 .1 .1))) q
+      meet-allowed (takeWithOutput r j o) e (record { element = d; cell = a; change = becomes r (b .process) 1 }) o u k (λ z y. rw (← n) (alt-communication g c m (y .1 .1 .1 .0) h w t (y .1 .1 .1 .1))) q
 
   take-allowed : (x : Label) (j : ℕ) (e : Effect) (f : Offer → Option Effect) (r : ℕ) (w : Intent) → Sound r w
       → ((bs : List AltOption) → Live P s r (alternation bs) → AllComplete cells bs → (o : Offer) → OfferOf bs o → optionRow o ≡ j → f o ≡ some e → To x e) → offerEffect j f w ≡ some e → To x e
@@ -296,6 +297,6 @@ module _ (P : Program) (sheet : Sheet) (s : State) where
   pub allowed : (x : Label) (e : Effect) → effectOf x (intentAt P sheet s) ≡ some e → Allows P sheet s x e
   allowed (own r) e q = own-allowed r e (intentAt P sheet s r) (wanted r) q
   allowed (pass i o) e q = pass-allowed i o e (intentAt P sheet s i) (intentAt P sheet s o) (wanted i) (wanted o) q
-  allowed (take r j) e q = take-allowed (take r j) j e (takeEffect r) r (intentAt P sheet s r) (wanted r) (one-take r j e) q
-  allowed (takeFrom r j o) e q =
-      take-allowed (takeFrom r j o) j e (takeFromEffect r o (intentAt P sheet s o)) r (intentAt P sheet s r) (wanted r) (λ bs g c p h n z. one-takeFrom r j o e (intentAt P sheet s o) bs (wanted o) g c p h n z) q
+  allowed (takeOption r j) e q = take-allowed (takeOption r j) j e (takeEffect r) r (intentAt P sheet s r) (wanted r) (one-take r j e) q
+  allowed (takeWithOutput r j o) e q =
+      take-allowed (takeWithOutput r j o) j e (takeFromEffect r o (intentAt P sheet s o)) r (intentAt P sheet s r) (wanted r) (λ bs g c p h n z. one-takeFrom r j o e (intentAt P sheet s o) bs (wanted o) g c p h n z) q

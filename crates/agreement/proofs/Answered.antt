@@ -7,21 +7,21 @@ use Prim.Native.Nat.{ℕ, _≤_}
 use native.Mathlib.Omega.{arith}
 use lib.IntN.{ℤ}
 use lib.Dec.{ltb}
-use borrow.Author.Tests.{ltb-true}
 use Rattle.meaning.specs.Basics.{ifElse}
+use borrow.Author.Tests.{ltb-true}
 use Rattle.meaning.specs.Limits.{maxBudget}
 use Rattle.meaning.specs.TableBytes.{bytesFault, rowsOf}
 use Rattle.meaning.specs.State.{State}
-use Rattle.meaning.specs.Ready.{Label}
 use Rattle.meaning.specs.Run as R
 use Rattle.meaning.specs.Run.{run}
 use Rattle.meaning.specs.Sheet.{sheetFault, readings}
 use Rattle.meaning.specs.Buffers.{Buffers, tooShort}
 use Rattle.meaning.specs.Refusals.{Refusal}
+use Rattle.meaning.specs.Labels.{Label}
 use Rattle.meaning.specs.Stages.{budgetFault, bufferFault}
 use Rattle.meaning.specs.Answers.{Task, ran, check, result, Reply, replyOf, reply, replyToBytes}
 use Rattle.meaning.specs.Order.{OrderOf, RestOf, outcomeOf}
-use Rattle.meaning.specs.Accepted.{Accepted}
+use Rattle.meaning.specs.Accepted.{BothAccepted}
 use Rattle.meaning.proofs.AnswerLaws.{result-stages, result-of-bytes, reply-stages, reply-to-bytes}
 use Rattle.agreement.specs.Statements.{NoAlt, OneRest, CallsAnswer, Demand3, Demand3Bytes}
 use Rattle.agreement.proofs.TableFit.{fit}
@@ -42,7 +42,7 @@ budget-allowed budget h = go (ltb maxBudget budget) refl
 
 module _ (rows : List ℤ) (sheet : List ℕ) (accepted : check rows ≡ none) (read : sheetFault rows sheet ≡ none) where
   -- what runs
-  abbrev ending : List ℕ → ℕ → R.Result
+  abbrev ending : List ℕ → ℕ → R.RunResult
   ending choices budget = run rows (readings rows sheet) choices budget
 
   abbrev task : List ℕ → ℕ → Task
@@ -59,15 +59,15 @@ module _ (rows : List ℤ) (sheet : List ℕ) (accepted : check rows ≡ none) (
   module _ (w : NoAlt rows) (l : List Label) (s : State) (o : OrderOf rows (readings rows sheet) l s) (r : RestOf rows (readings rows sheet) s) where
     agreed : OneRest rows (readings rows sheet) l s
     agreed k t q =
-        let (n, z) = agreement Accepted (λ rows sheet a. (fit rows (a .0), option-rows rows (a .0))) rows (readings rows sheet) (accepted, (sheet, (read, refl))) w l s o r .0 k t q in
+        let (n, z) = agreement BothAccepted (λ rows sheet a. (fit rows (a .0), option-rows rows (a .0))) rows (readings rows sheet) (accepted, (sheet, (read, refl))) w l s o r .0 k t q in
         (n, λ y. (z y .0, z y .1, ap (outcomeOf rows) (z y .1)))
 
     -- a call that answers as its run does
     answers : (call : List ℕ → ℕ → Buffers → Reply) → ((choices : List ℕ) (budget : ℕ) (b : Buffers) → tooShort b ≡ false → budget ≤ maxBudget → call choices budget b ≡ replyOf rows b (ran (ending choices budget)))
         → CallsAnswer call rows l s
     answers call h choices budget b e m =
-        let (enough, less) = agreement Accepted (λ rows sheet a. (fit rows (a .0), option-rows rows (a .0))) rows (readings rows sheet) (accepted, (sheet, (read, refl))) w l s o r .1 choices budget in (
-          λ k. h choices budget b e m ∙ ap (λ (z : R.Result). replyOf rows b (ran z)) (enough k),
+        let (enough, less) = agreement BothAccepted (λ rows sheet a. (fit rows (a .0), option-rows rows (a .0))) rows (readings rows sheet) (accepted, (sheet, (read, refl))) w l s o r .1 choices budget in (
+          λ k. h choices budget b e m ∙ ap (λ (z : R.RunResult). replyOf rows b (ran z)) (enough k),
           λ k. ap (λ (z : Reply). z .answer) (h choices budget b e m) ∙ (let (p, q) = less k in rw (p, q)),
         )
 

@@ -6,12 +6,13 @@ use mathlib.Core.List.{List, [], _∷_, _++_}
 use Prim.Native.Nat.{ℕ, zero, suc}
 use lib.IntN.{ℤ}
 use lib.ListN.{length, getD, replicate, length-set, length-replicate}
-use Rattle.meaning.specs.Declarations.{totalCells, totalPorts}
-use Rattle.meaning.specs.State.{Message, Store, State, program, writeCell, writePlace, writeOutput, write, writeAll, Effect}
+use Rattle.meaning.specs.Declarations.{totalCells, hostChannels}
+use Rattle.meaning.specs.Values.{Message}
+use Rattle.meaning.specs.State.{Store, State, program, writeCell, writePlace, writeOutput, write, writeAll, Effect}
 use Rattle.meaning.specs.Labels.{Label}
 use Rattle.meaning.specs.Readings.{Sheet}
 use Rattle.meaning.specs.Step.{Allows, Step, assignment, while-false, while-true, if-true, communication, host-read, host-write, alt-skip, alt-read, alt-communication, stopping}
-use Rattle.meaning.specs.Order.{Begins, Order, halt, then}
+use Rattle.meaning.specs.Order.{Begins, Order, halt, next-step}
 use Rattle.meaning.specs.PrintedForms.{Each, each-none, each-more}
 use Rattle.agreement.specs.BufferClaims.{IsNumber, ReachedAsDeclared}
 use Rattle.agreement.proofs.KnownStates.{set-keeps}
@@ -30,8 +31,8 @@ none-given (suc k) (suc port) = none-given k port
 module _ (rows : List ℤ) (sheet : Sheet) where
   record Kept (x : Store) : Type 0 where
     cells : length (x .cells) ≡ totalCells rows
-    places : length (x .places) ≡ totalPorts 1 rows
-    outputs : length (x .outputs) ≡ totalPorts 2 rows
+    places : length (x .places) ≡ hostChannels 1 rows
+    outputs : length (x .outputs) ≡ hostChannels 2 rows
     numbers : (port : ℕ) → Each IsNumber (getD (x .outputs) port [])
 
   cell-kept : (a : ℕ) (m : Message) (x : Store) → Kept x → Kept (write (writeCell a m) x)
@@ -57,10 +58,10 @@ module _ (rows : List ℤ) (sheet : Sheet) where
   effect-kept s x e (while-true g h) k = k
   effect-kept s x e (if-true g h) k = k
   effect-kept s x e (communication {a} {m} g o h w) k = cell-kept a m (s .store) k
-  effect-kept s x e (host-read {a} {n} {i} {v} g h) k = place-kept (i .channel .port) (suc n) _ (cell-kept a v (s .store) k)
-  effect-kept s x e (host-write {c} {z} {l} g h p q o m) k = number-kept (c .port) l z (s .store) o k
+  effect-kept s x e (host-read {a} {n} {i} {v} g h) k = place-kept (i .channel .number) (suc n) _ (cell-kept a v (s .store) k)
+  effect-kept s x e (host-write {c} {z} {l} g h p q o m) k = number-kept (c .number) l z (s .store) o k
   effect-kept s x e (alt-skip g c m h q) k = k
-  effect-kept s x e (alt-read {a} {n} {i} {v} g c m h q o) k = place-kept (i .channel .port) (suc n) _ (cell-kept a v (s .store) k)
+  effect-kept s x e (alt-read {a} {n} {i} {v} g c m h q o) k = place-kept (i .channel .number) (suc n) _ (cell-kept a v (s .store) k)
   effect-kept s x e (alt-communication {a} {m} g c d o h q w y) k = cell-kept a m (s .store) k
   effect-kept s x e (stopping g h) k = k
 
@@ -69,16 +70,16 @@ module _ (rows : List ℤ) (sheet : Sheet) where
 
   order-kept : {s t : State} {l : List Label} → Order (program rows) sheet s l t → Kept (s .store) → Kept (t .store)
   order-kept halt k = k
-  order-kept (then {s} {t} {x} h o) k = order-kept o (step-kept s x t h k)
+  order-kept (next-step {s} {t} {x} h o) k = order-kept o (step-kept s x t h k)
 
   begins-kept : (s : State) → Begins (program rows) s → Kept (s .store)
   unfolding program
   begins-kept s h =
       record {
         cells = ap length (h .unset) ∙ length-replicate (totalCells rows) none;
-        places = ap length (h .unread) ∙ length-replicate (totalPorts 1 rows) 0;
-        outputs = ap length (h .unwritten) ∙ length-replicate (totalPorts 2 rows) [];
-        numbers = λ port. subst (λ (l : List (List Message)). Each IsNumber (getD l port [])) (sym (h .unwritten)) (none-given (totalPorts 2 rows) port);
+        places = ap length (h .unread) ∙ length-replicate (hostChannels 1 rows) 0;
+        outputs = ap length (h .unwritten) ∙ length-replicate (hostChannels 2 rows) [];
+        numbers = λ port. subst (λ (l : List (List Message)). Each IsNumber (getD l port [])) (sym (h .unwritten)) (none-given (hostChannels 2 rows) port);
       }
 
 pub reached-as-declared : ReachedAsDeclared

@@ -6,11 +6,12 @@ use Prim.Native.Nat.{ℕ}
 use lib.ListN.{length, getD, set, length-set, length-map, List·getD-map}
 use lib.Seq.{getD-set-same}
 use Rattle.meaning.specs.Tree.{Process, node, stop, empty, rowOf}
-use Rattle.meaning.specs.State.{Message, Store, State, Program, whole}
+use Rattle.meaning.specs.Values.{Message}
+use Rattle.meaning.specs.State.{Store, State, stateOf, Program, whole}
 use Rattle.meaning.specs.Labels.{Label}
 use Rattle.meaning.specs.Readings.{Sheet}
 use Rattle.meaning.specs.Order.{rootStarted, Begins, Order}
-use Rattle.meaning.specs.Settle.{stateOf, settle, start}
+use Rattle.meaning.specs.Settle.{settle, start}
 use Rattle.agreement.specs.SettlingClaims.{NormalForm}
 use Rattle.agreement.proofs.Again.{sound-row, see-start, see-run}
 use Rattle.agreement.proofs.Good.{Good, idle}

@@ -6,16 +6,16 @@ use Prim.Native.Nat.{ℕ, zero, suc, _+_, _-_, _<_, _≤_}
 use native.Mathlib.Omega.{arith}
 use native.Mathlib.Decide.{decLt}
 use lib.IntN.{ℤ, pos}
-use lib.ListN.{length, getD}
-use Rattle.meaning.specs.Limits.{maxRows, maxCells, maxPorts, maxCapacity}
-use Rattle.meaning.specs.Rows.{rowCount, declarations}
-use Rattle.meaning.specs.Declarations.{Channel, sumBelow, capacityAt, totalCells, totalPorts}
-use Rattle.meaning.specs.State.{Message, State}
-use Rattle.meaning.specs.Intent.{entry}
+use lib.ListN.{length, getD, getElem?}
+use Rattle.meaning.specs.Limits.{maxRows, maxCells, maxHostChannels, maxCapacity}
+use Rattle.meaning.specs.Rows.{rowCount}
+use Rattle.meaning.specs.Declarations.{declarations, Channel, sumBelow, capacityAt, totalCells, hostChannels}
+use Rattle.meaning.specs.Values.{Message}
+use Rattle.meaning.specs.State.{State}
 use Rattle.meaning.specs.Buffers.{Buffers}
 use Rattle.meaning.specs.PrintedForms.{Each, each-none, each-more}
 use Rattle.meaning.proofs.LentLaws.{entry-at}
-use Rattle.agreement.specs.BufferClaims.{AsDeclared, HoldsAt, UntouchedPast, ToHost, outputNumber, stripBegins, listOf, BuffersHold, EncodeHolds}
+use Rattle.agreement.specs.BufferClaims.{AsDeclared, HoldsAt, UntouchedPast, ToHost, outputNumber, stripBegins, listIn, BuffersHold, EncodeHolds}
 use Rattle.agreement.proofs.AsDeclared.{reached-as-declared}
 use Rattle.agreement.proofs.HostOutputs.{sink-is, output-row, output-of}
 use Rattle.agreement.proofs.OrdersCoherent.{orders-coherent}
@@ -24,7 +24,7 @@ use Rattle.agreement.proofs.BuffersHold.{encode-holds}
 
 module _ {A : Type 0} where
   -- lists with equal entries
-  entries-equal : (l m : List A) → ((i : ℕ) → entry l i ≡ entry m i) → l ≡ m
+  entries-equal : (l m : List A) → ((i : ℕ) → getElem? l i ≡ getElem? m i) → l ≡ m
   entries-equal [] [] h = refl
   entries-equal [] (y ∷ m) h = absurd (Option·none-ne-some y (h 0))
   entries-equal (x ∷ l) [] h = absurd (Option·some-ne-none x (h 0))
@@ -38,7 +38,7 @@ module _ {A : Type 0} where
   same-buffer : (limit : ℕ) (old l m : List A) → UntouchedPast limit old l → UntouchedPast limit old m → ((i : ℕ) → i < limit → Both l m i) → l ≡ m
   same-buffer limit old l m u w h = entries-equal l m (λ i. go i (decLt i limit))
     where
-      go : (i : ℕ) → Dec (i < limit) → entry l i ≡ entry m i
+      go : (i : ℕ) → Dec (i < limit) → getElem? l i ≡ getElem? m i
       go i (yes k) = let (v, p, q) = h i k in p ∙ sym q
       go i (no k) = u .past-limit i (omega arith) ∙ sym (w .past-limit i (omega arith))
 
@@ -77,28 +77,28 @@ module _ (rows : List ℤ) (s : State) (L : Limited rows) (D : AsDeclared rows s
       go (yes l) = let n = getD (s .states) r 0 in let k = entry-at (s .states) r 0 (omega (arith, D .states)) in (n, C .row-state r n k, E .row-state r n k)
       go (no l) = (0, C .unused-state r (omega arith) h, E .unused-state r (omega arith) h)
 
-  place-both : (p : ℕ) → p < maxPorts → Both (c .places) (e .places) p
-  place-both p h = go (decLt p (totalPorts 1 rows))
+  place-both : (p : ℕ) → p < maxHostChannels → Both (c .places) (e .places) p
+  place-both p h = go (decLt p (hostChannels 1 rows))
     where
-      go : Dec (p < totalPorts 1 rows) → Both (c .places) (e .places) p
+      go : Dec (p < hostChannels 1 rows) → Both (c .places) (e .places) p
       go (yes l) = let n = getD (s .store .places) p 0 in let k = entry-at (s .store .places) p 0 (omega (arith, D .places)) in (n, C .place p n k, E .place p n k)
       go (no l) = (0, C .unused-place p (omega arith) h, E .unused-place p (omega arith) h)
 
-  count-both : (p : ℕ) → p < maxPorts → Both (c .counts) (e .counts) p
-  count-both p h = go (decLt p (totalPorts 2 rows))
+  count-both : (p : ℕ) → p < maxHostChannels → Both (c .counts) (e .counts) p
+  count-both p h = go (decLt p (hostChannels 2 rows))
     where
-      go : Dec (p < totalPorts 2 rows) → Both (c .counts) (e .counts) p
-      go (yes l) = let (r, o, q) = output-row rows p l in subst (Both (c .counts) (e .counts)) q (length (listOf rows r s), C .count r o, E .count r o)
+      go : Dec (p < hostChannels 2 rows) → Both (c .counts) (e .counts) p
+      go (yes l) = let (r, o, q) = output-row rows p l in subst (Both (c .counts) (e .counts)) q (length (listIn rows r s), C .count r o, E .count r o)
       go (no l) = (0, C .unused-count p (omega arith) h, E .unused-count p (omega arith) h)
 
   number-both : (i : ℕ) → i < maxCapacity → Both (c .numbers) (e .numbers) i
   number-both i h = go (decLt i (stripBegins rows (declarations rows)))
     where
-      of : (r j : ℕ) → j < capacityAt rows r → Dec (j < length (listOf rows r s)) → Both (c .numbers) (e .numbers) (stripBegins rows r + j)
+      of : (r j : ℕ) → j < capacityAt rows r → Dec (j < length (listIn rows r s)) → Both (c .numbers) (e .numbers) (stripBegins rows r + j)
       of r j l (yes k) =
           let o = output-of rows r (omega arith) in
-          let (m, a, (z, n)) = entry-each (listOf rows r s) j (D .numbers (outputNumber rows r)) k in
-          let a′ = subst (HoldsAt (listOf rows r s) j) n a in
+          let (m, a, (z, n)) = entry-each (listIn rows r s) j (D .numbers (outputNumber rows r)) k in
+          let a′ = subst (HoldsAt (listIn rows r s) j) n a in
           (z, C .strip r o j z a′, E .strip r o j z a′)
       of r j l (no k) = let o = output-of rows r (omega arith) in (pos 0, C .unused-in-strip r o j (omega arith) l, E .unused-in-strip r o j (omega arith) l)
 
@@ -107,7 +107,7 @@ module _ (rows : List ℤ) (s : State) (L : Limited rows) (D : AsDeclared rows s
           let (r, begins, within) = in-part (capacityAt rows) (declarations rows) i l in
           let j = i - stripBegins rows r in
           let q : stripBegins rows r + j ≡ i = omega arith in
-          subst (Both (c .numbers) (e .numbers)) q (of r j (omega arith) (decLt j (length (listOf rows r s))))
+          subst (Both (c .numbers) (e .numbers)) q (of r j (omega arith) (decLt j (length (listIn rows r s))))
       go (no l) = (pos 0, C .unused-number i (omega arith) h, E .unused-number i (omega arith) h)
 
   only-one : c ≡ e
@@ -115,9 +115,9 @@ module _ (rows : List ℤ) (s : State) (L : Limited rows) (D : AsDeclared rows s
       let cells = same-buffer maxCells (b .cells) (c .cells) (e .cells) (C .cells-past) (E .cells-past) (λ i h. cell-both i h .0) in
       let marks = same-buffer maxCells (b .marks) (c .marks) (e .marks) (C .marks-past) (E .marks-past) (λ i h. cell-both i h .1) in
       let states = same-buffer maxRows (b .states) (c .states) (e .states) (C .states-past) (E .states-past) state-both in
-      let places = same-buffer maxPorts (b .places) (c .places) (e .places) (C .places-past) (E .places-past) place-both in
+      let places = same-buffer maxHostChannels (b .places) (c .places) (e .places) (C .places-past) (E .places-past) place-both in
       let numbers = same-buffer maxCapacity (b .numbers) (c .numbers) (e .numbers) (C .numbers-past) (E .numbers-past) number-both in
-      let counts = same-buffer maxPorts (b .counts) (c .counts) (e .counts) (C .counts-past) (E .counts-past) count-both in
+      let counts = same-buffer maxHostChannels (b .counts) (c .counts) (e .counts) (C .counts-past) (E .counts-past) count-both in
       λ i. record { cells = cells i; marks = marks i; states = states i; places = places i; numbers = numbers i; counts = counts i }
 
 pub buffers-exact : EncodeHolds
@@ -127,8 +127,8 @@ buffers-exact rows sheet s ok (l, o) b long =
     let held = encode-holds rows s L D room b long in
     (held, λ c h. only-one rows s L D b c _ h held)
   where
-    room : (r : ℕ) → ToHost rows r → length (listOf rows r s) ≤ capacityAt rows r
+    room : (r : ℕ) → ToHost rows r → length (listIn rows r s) ≤ capacityAt rows r
     room r h =
         let e = sink-is rows r h in
         let k = orders-coherent rows ok sheet l s o .room-kept r (ap (λ (x : Channel). x .host) e) in
-        omega (arith, k, ap (λ (x : Channel). length (getD (s .store .outputs) (x .port) [])) e, ap (λ (x : Channel). x .capacity) e)
+        omega (arith, k, ap (λ (x : Channel). length (getD (s .store .outputs) (x .number) [])) e, ap (λ (x : Channel). x .capacity) e)

@@ -6,16 +6,16 @@ use mathlib.Core.List.{List, [], map}
 use Prim.Native.Nat.{ℕ, _+_, _-_, _<_, _≤_}
 use native.Mathlib.Omega.{arith}
 use lib.IntN.{ℤ, pos}
-use lib.ListN.{length, getD, length-map, List·getD-map, List·getD-eq-default}
+use lib.ListN.{length, getD, length-map, List·getD-map, List·getD-eq-default, getElem?}
 use lib.Dec.{ltb}
 use borrow.Author.Tests.{ltb-false, le-ltb}
-use Rattle.meaning.specs.Limits.{maxRows, maxCells, maxPorts, maxCapacity}
+use Rattle.meaning.specs.Limits.{maxRows, maxCells, maxHostChannels, maxCapacity}
 use Rattle.meaning.specs.Declarations.{capacityAt, totalCells, channels}
-use Rattle.meaning.specs.State.{Message, State}
-use Rattle.meaning.specs.Intent.{entry}
+use Rattle.meaning.specs.Values.{Message}
+use Rattle.meaning.specs.State.{State}
 use Rattle.meaning.specs.Buffers.{Buffers, tooShort, lent, mark, numberIn, capacities, strips, encode}
 use Rattle.meaning.proofs.LentLaws.{entry-is, lent-holds, lent-past, lent-length}
-use Rattle.agreement.specs.BufferClaims.{LongEnough, TooShortExactly, AsDeclared, HoldsAt, UntouchedPast, ToHost, outputNumber, stripBegins, listOf, BuffersHold}
+use Rattle.agreement.specs.BufferClaims.{LongEnough, TooShortExactly, AsDeclared, HoldsAt, UntouchedPast, ToHost, outputNumber, stripBegins, listIn, BuffersHold}
 use Rattle.agreement.proofs.HostOutputs.{output-count, capacity-total, numbered-at}
 use Rattle.agreement.proofs.GivenLists.{strip-number, strips-length}
 use Rattle.agreement.proofs.TableLimits.{Limited}
@@ -35,26 +35,26 @@ too-short-exactly b = (to, from)
   where
     to : tooShort b ≡ false → LongEnough b
     to h =
-        let n = none-holds (ltb (length (b .cells)) maxCells) (ltb (length (b .marks)) maxCells) (ltb (length (b .states)) maxRows) (ltb (length (b .places)) maxPorts) (ltb (length (b .numbers)) maxCapacity) (ltb (length (b .counts)) maxPorts) h in
+        let n = none-holds (ltb (length (b .cells)) maxCells) (ltb (length (b .marks)) maxCells) (ltb (length (b .states)) maxRows) (ltb (length (b .places)) maxHostChannels) (ltb (length (b .numbers)) maxCapacity) (ltb (length (b .counts)) maxHostChannels) h in
         record {
           cells = ltb-false (length (b .cells)) maxCells (n .0);
           marks = ltb-false (length (b .marks)) maxCells (n .1);
           states = ltb-false (length (b .states)) maxRows (n .2);
-          places = ltb-false (length (b .places)) maxPorts (n .3);
+          places = ltb-false (length (b .places)) maxHostChannels (n .3);
           numbers = ltb-false (length (b .numbers)) maxCapacity (n .4);
-          counts = ltb-false (length (b .counts)) maxPorts (n .5);
+          counts = ltb-false (length (b .counts)) maxHostChannels (n .5);
         }
 
     from : LongEnough b → tooShort b ≡ false
     from l =
-        rw (le-ltb (length (b .cells)) maxCells (l .cells), le-ltb (length (b .marks)) maxCells (l .marks), le-ltb (length (b .states)) maxRows (l .states), le-ltb (length (b .places)) maxPorts (l .places), le-ltb (length (b .numbers)) maxCapacity (l .numbers), le-ltb (length (b .counts)) maxPorts (l .counts))
+        rw (le-ltb (length (b .cells)) maxCells (l .cells), le-ltb (length (b .marks)) maxCells (l .marks), le-ltb (length (b .states)) maxRows (l .states), le-ltb (length (b .places)) maxHostChannels (l .places), le-ltb (length (b .numbers)) maxCapacity (l .numbers), le-ltb (length (b .counts)) maxHostChannels (l .counts))
 
 -- Held -----------------------------------------------------------------------------------------------------------------------------
 
 lent-untouched : {A : Type 0} (n : ℕ) (d : A) (xs old : List A) → n ≤ length old → UntouchedPast n old (lent n d xs old)
 lent-untouched n d xs old h =
     record {
-      past-limit = λ i l. let e : n + (i - n) ≡ i = omega arith in subst (λ (k : ℕ). entry (lent n d xs old) k ≡ entry old k) e (lent-past d n (i - n) xs old);
+      past-limit = λ i l. let e : n + (i - n) ≡ i = omega arith in subst (λ (k : ℕ). getElem? (lent n d xs old) k ≡ getElem? old k) e (lent-past d n (i - n) xs old);
       as-long = lent-length d n xs old h;
     }
 
@@ -65,7 +65,7 @@ lent-entry n d xs old h i v e = let (l, g) = entry-is xs i d v e in lent-holds d
 lent-unused : {A : Type 0} (n : ℕ) (d : A) (xs old : List A) (i : ℕ) → length xs ≤ i → i < n → HoldsAt (lent n d xs old) i d
 lent-unused n d xs old i h l = lent-holds d n i xs old l ∙ ap some (List·getD-eq-default xs d h)
 
-module _ (rows : List ℤ) (s : State) (L : Limited rows) (D : AsDeclared rows s) (room : (r : ℕ) → ToHost rows r → length (listOf rows r s) ≤ capacityAt rows r) (b : Buffers) where
+module _ (rows : List ℤ) (s : State) (L : Limited rows) (D : AsDeclared rows s) (room : (r : ℕ) → ToHost rows r → length (listIn rows r s) ≤ capacityAt rows r) (b : Buffers) where
   abbrev CellIs : ℕ → Message → Type 0
   CellIs i m = HoldsAt (encode rows s b .cells) i (numberIn m) × HoldsAt (encode rows s b .marks) i (mark m)
 
@@ -83,7 +83,7 @@ module _ (rows : List ℤ) (s : State) (L : Limited rows) (D : AsDeclared rows s
   cell-unused i h l = subst (CellIs i) (List·getD-eq-default (s .store .cells) none (omega (arith, D .cells))) (cell-at i l)
 
   -- a number of the strip of row r
-  number-at : (r : ℕ) → ToHost rows r → (i : ℕ) → i < capacityAt rows r → HoldsAt (encode rows s b .numbers) (stripBegins rows r + i) (numberIn (getD (listOf rows r s) i none))
+  number-at : (r : ℕ) → ToHost rows r → (i : ℕ) → i < capacityAt rows r → HoldsAt (encode rows s b .numbers) (stripBegins rows r + i) (numberIn (getD (listIn rows r s) i none))
   unfolding encode
   number-at r o i h =
       let a = numbered-at rows r o in
@@ -93,7 +93,7 @@ module _ (rows : List ℤ) (s : State) (L : Limited rows) (D : AsDeclared rows s
       ∙ ap some
       (ap (λ (k : ℕ). getD (strips (capacities rows) (s .store .outputs)) (k + i) (pos 0)) (sym (a .begins))
       ∙ strip-number port i (capacities rows) (s .store .outputs) few (omega (arith, few, output-count rows, D .outputs)) (omega (arith, a .capacity, h))
-      ∙ List·getD-map numberIn (listOf rows r s) i none)
+      ∙ List·getD-map numberIn (listIn rows r s) i none)
 
   pub encode-holds : LongEnough b → BuffersHold rows s b (encode rows s b)
   unfolding encode
@@ -104,24 +104,24 @@ module _ (rows : List ℤ) (s : State) (L : Limited rows) (D : AsDeclared rows s
         unused-cell = cell-unused;
         row-state = λ r n e. lent-entry maxRows 0 (s .states) (b .states) (omega (arith, D .states, L .states)) r n e;
         unused-state = λ r h l. lent-unused maxRows 0 (s .states) (b .states) r (omega (arith, D .states)) l;
-        place = λ c n e. lent-entry maxPorts 0 (s .store .places) (b .places) (omega (arith, D .places, L .places)) c n e;
-        unused-place = λ c h l. lent-unused maxPorts 0 (s .store .places) (b .places) c (omega (arith, D .places)) l;
+        place = λ c n e. lent-entry maxHostChannels 0 (s .store .places) (b .places) (omega (arith, D .places, L .places)) c n e;
+        unused-place = λ c h l. lent-unused maxHostChannels 0 (s .store .places) (b .places) c (omega (arith, D .places)) l;
         strip = λ r o i z e.
-            let (l, g) = entry-is (listOf rows r s) i none (some z) e in
+            let (l, g) = entry-is (listIn rows r s) i none (some z) e in
             subst (λ (m : Message). HoldsAt (encode rows s b .numbers) (stripBegins rows r + i) (numberIn m)) g (number-at r o i (let k = room r o in omega arith));
         unused-in-strip = λ r o i h l.
-            subst (λ (m : Message). HoldsAt (encode rows s b .numbers) (stripBegins rows r + i) (numberIn m)) (List·getD-eq-default (listOf rows r s) none h) (number-at r o i l);
+            subst (λ (m : Message). HoldsAt (encode rows s b .numbers) (stripBegins rows r + i) (numberIn m)) (List·getD-eq-default (listIn rows r s) none h) (number-at r o i l);
         unused-number = λ i h l.
             lent-unused maxCapacity (pos 0) (strips (capacities rows) (s .store .outputs)) (b .numbers) i
             (omega (arith, strips-length (capacities rows) (s .store .outputs) (output-count rows ∙ sym (D .outputs)), capacity-total rows)) l;
         count = λ r o.
-            lent-holds 0 maxPorts (outputNumber rows r) (map length (s .store .outputs)) (b .counts) (let a = numbered-at rows r o in omega (arith, a .below, length-map (channels rows 2) (capacityAt rows), output-count rows, L .outputs))
+            lent-holds 0 maxHostChannels (outputNumber rows r) (map length (s .store .outputs)) (b .counts) (let a = numbered-at rows r o in omega (arith, a .below, length-map (channels rows 2) (capacityAt rows), output-count rows, L .outputs))
             ∙ ap some (List·getD-map length (s .store .outputs) (outputNumber rows r) []);
-        unused-count = λ c h l. lent-unused maxPorts 0 (map length (s .store .outputs)) (b .counts) c (omega (arith, length-map (s .store .outputs) length, D .outputs)) l;
+        unused-count = λ c h l. lent-unused maxHostChannels 0 (map length (s .store .outputs)) (b .counts) c (omega (arith, length-map (s .store .outputs) length, D .outputs)) l;
         cells-past = lent-untouched maxCells (pos 0) (map numberIn (s .store .cells)) (b .cells) (long .cells);
         marks-past = lent-untouched maxCells 0 (map mark (s .store .cells)) (b .marks) (long .marks);
         states-past = lent-untouched maxRows 0 (s .states) (b .states) (long .states);
-        places-past = lent-untouched maxPorts 0 (s .store .places) (b .places) (long .places);
+        places-past = lent-untouched maxHostChannels 0 (s .store .places) (b .places) (long .places);
         numbers-past = lent-untouched maxCapacity (pos 0) (strips (capacities rows) (s .store .outputs)) (b .numbers) (long .numbers);
-        counts-past = lent-untouched maxPorts 0 (map length (s .store .outputs)) (b .counts) (long .counts);
+        counts-past = lent-untouched maxHostChannels 0 (map length (s .store .outputs)) (b .counts) (long .counts);
       }

@@ -12,10 +12,8 @@ use lib.Dec.{ltb}
 use borrow.Author.Tests.{ltb-false}
 use Rattle.meaning.specs.declared.Outcome.{Outcome}
 use Rattle.meaning.specs.declared.Answer.the-variants.{Refused, Ran}
-use Rattle.meaning.specs.Basics.{ifElse}
 use Rattle.meaning.specs.Limits.{maxBudget, maxCells}
-use Rattle.meaning.specs.State.{Message, State}
-use Rattle.meaning.specs.Ready.{Label}
+use Rattle.meaning.specs.State.{State}
 use Rattle.meaning.specs.Run as R
 use Rattle.meaning.specs.Run.{run}
 use Rattle.meaning.specs.Sheet.{sheetFault, readings}
@@ -25,11 +23,14 @@ use Rattle.meaning.specs.TableBytes.{rowsOf}
 use Rattle.meaning.specs.Stages.{budgetFault, bufferFault}
 use Rattle.meaning.specs.Answers.{Task, Result, refused, ran, unless, check, result, Reply, replyOf, reply}
 use Rattle.meaning.specs.declared.Outcome.the-variants.{Spent}
+use Rattle.meaning.specs.Basics.{ifElse}
+use Rattle.meaning.specs.Values.{Message}
+use Rattle.meaning.specs.Labels.{Label}
 use Rattle.meaning.specs.Order.{RestOf}
 use Rattle.meaning.proofs.AnswerLaws.{result-stages, result-of-bytes, reply-stages, reply-to-bytes}
 use Rattle.agreement.specs.Statements.{StepOf}
 use Rattle.agreement.specs.CallClaims.{RefusedUntouched, BytesAsRows, RanAs, RunAnswered, OrderAnswered, HandedTo, MissingAnswered}
-use Rattle.agreement.specs.MissingClaims.{cellOf}
+use Rattle.agreement.specs.MissingClaims.{cellAt}
 use Rattle.agreement.proofs.Answered.{replies, buffers-suffice}
 use Rattle.agreement.proofs.Demands.{run-takes-order, every-order-chosen}
 use Rattle.agreement.proofs.MissingMarks.{encoded-cells}
@@ -53,12 +54,12 @@ bytes-as-rows table sheet choices budget b =
     )
 
 -- a result that ran comes from no refusal
-ran-unrefused : (f : Option Refusal) (r : Result) (q : R.Result) → unless f r ≡ ran q → (f ≡ none) × (r ≡ ran q)
+ran-unrefused : (f : Option Refusal) (r : Result) (q : R.RunResult) → unless f r ≡ ran q → (f ≡ none) × (r ≡ ran q)
 ran-unrefused none r q e = (refl, e)
 ran-unrefused (some f) r q e = let z : _≡_ {A = ℕ} 0 1 = cc in absurd (omega arith)
 
 -- an answer of a run is that of a result that ran
-ran-answer : (rows : List ℤ) (b : Buffers) (r : Result) (o : Outcome) (n : ℕ) → replyOf rows b r .answer ≡ Ran o n → (q : R.Result) × (r ≡ ran q) × (q .outcome ≡ o) × (q .steps ≡ n)
+ran-answer : (rows : List ℤ) (b : Buffers) (r : Result) (o : Outcome) (n : ℕ) → replyOf rows b r .answer ≡ Ran o n → (q : R.RunResult) × (r ≡ ran q) × (q .outcome ≡ o) × (q .steps ≡ n)
 ran-answer rows b (refused f) o n e = let z : _≡_ {A = ℕ} 0 1 = cc in absurd (omega arith)
 ran-answer rows b (ran q) o n e = (q, refl, cc, cc)
 
@@ -153,14 +154,14 @@ missing-answered t b o n e =
         (m ≢ 0 → (m ≡ 1) × HandedTo (t .rows) (t .sheet) (a .labels) i z) × (m ≡ 0 → z ≡ pos 0)
     cell a i h =
         let (m, z) = encoded-cells (t .rows) (a .end) b i h in
-        let p : getD (reply t b .buffers .marks) i 0 ≡ mark (cellOf (a .end) i) = ap (λ (x : Buffers). getD (x .marks) i 0) (a .left) ∙ m in
-        let q : getD (reply t b .buffers .cells) i (pos 0) ≡ numberIn (cellOf (a .end) i) = ap (λ (x : Buffers). getD (x .cells) i (pos 0)) (a .left) ∙ z in
-        let (set, unset) = set-or-not (cellOf (a .end) i) in (
+        let p : getD (reply t b .buffers .marks) i 0 ≡ mark (cellAt (a .end) i) = ap (λ (x : Buffers). getD (x .marks) i 0) (a .left) ∙ m in
+        let q : getD (reply t b .buffers .cells) i (pos 0) ≡ numberIn (cellAt (a .end) i) = ap (λ (x : Buffers). getD (x .cells) i (pos 0)) (a .left) ∙ z in
+        let (set, unset) = set-or-not (cellAt (a .end) i) in (
           λ k. let (one, number) = set (λ y. k (p ∙ y)) in (p ∙ one, subst (HandedTo (t .rows) (t .sheet) (a .labels) i) (sym q) (handed a i _ number)),
           λ k. q ∙ unset (sym p ∙ k),
         )
       where
-        handed : (a : RanAs t b (reply t b) o n) (i : ℕ) (z : ℤ) → cellOf (a .end) i ≡ some z → HandedTo (t .rows) (t .sheet) (a .labels) i z
+        handed : (a : RanAs t b (reply t b) o n) (i : ℕ) (z : ℤ) → cellAt (a .end) i ≡ some z → HandedTo (t .rows) (t .sheet) (a .labels) i z
         handed a i z c =
             let (before, (x, (later, (u, (parts, order, handed))))) = set-in-order (t .rows) (readings (t .rows) (t .sheet)) (a .labels) (a .end) (a .order) i z c in
             record { before = before; label = x; later = later; at = u; parts = parts; order = order; handed = handed }

@@ -7,7 +7,8 @@ use Prim.Native.Nat.{ℕ}
 use native.Mathlib.Omega.{arith}
 use Rattle.meaning.specs.declared.Outcome.{Outcome}
 use Rattle.meaning.specs.declared.Answer.the-variants.{Refused, Ran}
-use Rattle.meaning.specs.TableBytes.{Refusal, bytesFault, rowsOf}
+use Rattle.meaning.specs.Refusals.{Refusal}
+use Rattle.meaning.specs.TableBytes.{bytesFault, rowsOf}
 use Rattle.meaning.specs.Buffers.{Buffers, tooShort}
 use Rattle.meaning.specs.Stages.{bufferFault}
 use Rattle.meaning.specs.Answers.{Reply, reply, replyToBytes}

@@ -10,7 +10,7 @@ use Rattle.meaning.specs.Labels.{Label}
 use Rattle.meaning.specs.Readings.{Sheet}
 use Rattle.meaning.specs.Ready.{ready, after}
 use Rattle.meaning.specs.Order.{chosenStep}
-use Rattle.meaning.specs.Run.{Result, goFrom, go, run}
+use Rattle.meaning.specs.Run.{RunResult, goFrom, go, run}
 use Rattle.meaning.specs.Sheet.{sheetFault, readings}
 use Rattle.meaning.specs.Stages.{bufferFault, budgetFault}
 use Rattle.meaning.specs.Answers.{Task, check, replyOf, unless, ran, result}
@@ -38,7 +38,7 @@ run-with-zeros t n =
 result-with-zeros : (t : Task) (n : ℕ) → result (withZeros n t) ≡ result t
 result-with-zeros t n =
     result-stages (withZeros n t)
-    ∙ ap (λ (r : Result). unless (check (t .rows)) (unless (sheetFault (t .rows) (t .sheet)) (unless (budgetFault maxBudget (t .budget)) (ran r)))) (run-with-zeros t n)
+    ∙ ap (λ (r : RunResult). unless (check (t .rows)) (unless (sheetFault (t .rows) (t .sheet)) (unless (budgetFault maxBudget (t .budget)) (ran r)))) (run-with-zeros t n)
     ∙ sym (result-stages t)
 
 pub zero-is-meant : ZeroIsMeant

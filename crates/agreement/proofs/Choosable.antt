@@ -8,12 +8,13 @@ use lib.IntN.{ℤ}
 use lib.ListN.{length, getD, drop}
 use Rattle.meaning.specs.Rows.{rowCount}
 use Rattle.meaning.specs.State.{State, program}
-use Rattle.meaning.specs.Intent.{Sheet}
-use Rattle.meaning.specs.Ready.{Label, ready, after}
-use Rattle.meaning.specs.Run.{chosenStep, goFrom, go, run}
+use Rattle.meaning.specs.Labels.{Label}
+use Rattle.meaning.specs.Readings.{Sheet}
+use Rattle.meaning.specs.Ready.{ready, after}
+use Rattle.meaning.specs.Run.{goFrom, go, run}
 use Rattle.meaning.specs.Settle.{start}
 use Rattle.meaning.specs.Step.{Step}
-use Rattle.meaning.specs.Order.{Order, halt, then, ReadyList, Chosen, none-left, chosen}
+use Rattle.meaning.specs.Order.{chosenStep, Order, halt, next-step, ReadyList, Chosen, none-left, chosen}
 use Rattle.agreement.proofs.Claims.{Choosable}
 use Rattle.agreement.proofs.Steps.{distinct-options, allowed-ready, offers-rise}
 use Rattle.agreement.proofs.Fit.{Fit}
@@ -80,7 +81,7 @@ module _ (rows : List ℤ) (sheet : Sheet) (F : Fit (program rows) (rowCount row
 
   pub follows : {s t : State} {l : List Label} → I s → Order (program rows) sheet s l t → (choices : List ℕ) × Follows s l t choices
   follows {s} i halt = ([], (λ c m. absurd (List·Memᴰ·not-nil m), none-left, λ n. stops s n [] (ready (program rows) sheet s)))
-  follows i (then {s} {t} {u} {x} {l} h o) =
+  follows i (next-step {s} {t} {u} {x} {l} h o) =
       let (a, z) = allowed-ready rows sheet F s i x t h in
       let j = step-inv (program rows) (rowCount rows) F sheet (distinct-options rows sheet) s x t i h in
       let few : length (ready (program rows) sheet s) ≤ rowCount rows = few-ready (program rows) (rowCount rows) F sheet s i O (offers-rise rows sheet s) in

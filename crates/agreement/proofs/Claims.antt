@@ -8,10 +8,11 @@ use lib.ListN.{length}
 use Rattle.meaning.specs.declared.Outcome.the-variants.{Spent}
 use Rattle.meaning.specs.Rows.{rowCount, kindAt}
 use Rattle.meaning.specs.State.{State, program}
-use Rattle.meaning.specs.Intent.{Sheet}
-use Rattle.meaning.specs.Ready.{Label, orderRow, ready, after}
+use Rattle.meaning.specs.Labels.{Label, orderRow}
+use Rattle.meaning.specs.Readings.{Sheet}
+use Rattle.meaning.specs.Ready.{ready, after}
 use Rattle.meaning.specs.Step.{Step}
-use Rattle.meaning.specs.Run.{Result, run}
+use Rattle.meaning.specs.Run.{RunResult, run}
 use Rattle.meaning.specs.Order.{OrderOf, ChosenOf, RestOf, outcomeOf}
 
 module _ (Accepted : List ℤ → Sheet → Type 0) where
@@ -27,7 +28,7 @@ module _ (Accepted : List ℤ → Sheet → Type 0) where
       → (x y : Label) → List·Memᴰ x (ready (program rows) sheet s) → List·Memᴰ y (ready (program rows) sheet s) → orderRow x ≡ orderRow y → x ≡ y
 
   -- how a run ends: at rest, with the outcome of rest; or spent, with the budget used and a step left
-  abbrev pub Finish : List ℤ → Sheet → ℕ → Result → Type 0
+  abbrev pub Finish : List ℤ → Sheet → ℕ → RunResult → Type 0
   Finish rows sheet budget r =
       (RestOf rows sheet (r .state) × (r .outcome ≡ outcomeOf rows (r .state)))
       ⊎ ((r .steps ≡ budget) × (r .outcome ≡ Spent) × ((x : Label) × ((t : State) × Step (program rows) sheet (r .state) x t)))

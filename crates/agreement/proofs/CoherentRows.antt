@@ -6,7 +6,7 @@ use mathlib.Core.List.{List, List·Memᴰ, List·Memᴰ·head, List·Memᴰ·tai
 use Prim.Native.Nat.{ℕ, zero, suc, _+_}
 use native.Mathlib.Omega.{arith}
 use lib.ListN.{getD}
-use Rattle.meaning.specs.Tree.{Expr, Action, sequence, parallel, loop, Process, node, Members, empty, also, rowOf, rowsIn, rowsBeneath}
+use Rattle.meaning.specs.Tree.{Expr, Action, sequence, parallel, loop, Process, node, Processes, empty, also, rowOf, rowsIn, rowsBeneath}
 use Rattle.meaning.specs.Settle.{Mode, inTurn, together, byStep, mode, isIdleOrEnded}
 use Rattle.meaning.specs.SettlingRules.{Among, All}
 use Rattle.agreement.specs.Coherence.{RowState, Before, AllIdle, NoneAtWork, OneByOne, AtMostOne, CoherentRows}
@@ -18,7 +18,7 @@ use Rattle.agreement.proofs.Inside.{within-of, among-row, sub-rows}
 
 -- ---- what stands in a good process is good
 
-module _ {s : List ℕ} {k : Action} {r : ℕ} {ms : Members} where
+module _ {s : List ℕ} {k : Action} {r : ℕ} {ms : Processes} where
   mutual
     good-inside : (p : Process) → Sub k r ms p → Good s p → Good s (node k r ms)
     good-inside (node k′ r′ ps) self g = g
@@ -26,36 +26,36 @@ module _ {s : List ℕ} {k : Action} {r : ℕ} {ms : Members} where
     good-inside (node k′ r′ ps) (inside u) (over i e q h o) = goodM-inside ps u (mode k′) h
     good-inside (node k′ r′ ps) (inside u) (run e h) = goodM-inside ps u (mode k′) h
 
-    goodM-inside : (ps : Members) → SubM k r ms ps → (m : Mode) → GoodM s m ps → Good s (node k r ms)
+    goodM-inside : (ps : Processes) → SubM k r ms ps → (m : Mode) → GoodM s m ps → Good s (node k r ms)
     goodM-inside (also p ps) (front u) m h = good-inside p u (goodM-head h)
     goodM-inside (also p ps) (back u) m h = goodM-inside ps u m (goodM-tail h)
 
 -- ---- what a good process has among its members
 
-members-good : {s : List ℕ} {k : Action} {r : ℕ} {ms : Members} → Good s (node k r ms) → GoodM s (mode k) ms
+members-good : {s : List ℕ} {k : Action} {r : ℕ} {ms : Processes} → Good s (node k r ms) → GoodM s (mode k) ms
 members-good {s} {k} {r} {ms} (idle i) = goodM-idle ms (mode k) s (λ x m. i x (List·Memᴰ·tail m))
 members-good (over i e q h o) = h
 members-good (run e h) = h
 
-before-in : {p q : Process} {ms : Members} → Before p q ms → Among q ms
-before-in (Before.first a) = Among.later a
-before-in (Before.later b) = Among.later (before-in b)
+before-in : {p q : Process} {ms : Processes} → Before p q ms → Among q ms
+before-in (Before.before-first a) = Among.among-later a
+before-in (Before.before-later b) = Among.among-later (before-in b)
 
-one-by-one : {s : List ℕ} (ms : Members) → GoodM s inTurn ms → OneByOne s ms
+one-by-one : {s : List ℕ} (ms : Processes) → GoodM s inTurn ms → OneByOne s ms
 one-by-one empty h p q b ne = elim b [ ]
-one-by-one (also o ms) (past e g h) p q (Before.first a) ne = e
-one-by-one (also o ms) (past e g h) p q (Before.later b) ne = one-by-one ms h p q b ne
-one-by-one (also o ms) (now g i) p q (Before.first a) ne = absurd (ne (i (rowOf q) (among-row a)))
-one-by-one (also o ms) (now g i) p q (Before.later b) ne = absurd (ne (i (rowOf q) (among-row (before-in b))))
+one-by-one (also o ms) (past e g h) p q (Before.before-first a) ne = e
+one-by-one (also o ms) (past e g h) p q (Before.before-later b) ne = one-by-one ms h p q b ne
+one-by-one (also o ms) (now g i) p q (Before.before-first a) ne = absurd (ne (i (rowOf q) (among-row a)))
+one-by-one (also o ms) (now g i) p q (Before.before-later b) ne = absurd (ne (i (rowOf q) (among-row (before-in b))))
 
-at-most-one : {s : List ℕ} (ms : Members) → GoodM s byStep ms → AtMostOne s ms
+at-most-one : {s : List ℕ} (ms : Processes) → GoodM s byStep ms → AtMostOne s ms
 at-most-one empty h p q a b f g = elim a [ ]
-at-most-one (also o ms) (pass i h) p q Among.first b f g = absurd (f (i (rowOf o) (row-in o)))
-at-most-one (also o ms) (pass i h) p q (Among.later a) Among.first f g = absurd (g (i (rowOf o) (row-in o)))
-at-most-one (also o ms) (pass i h) p q (Among.later a) (Among.later b) f g = at-most-one ms h p q a b f g
-at-most-one (also o ms) (pick e i) p q Among.first Among.first f g = refl
-at-most-one (also o ms) (pick e i) p q Among.first (Among.later b) f g = absurd (g (i (rowOf q) (among-row b)))
-at-most-one (also o ms) (pick e i) p q (Among.later a) b f g = absurd (f (i (rowOf p) (among-row a)))
+at-most-one (also o ms) (pass i h) p q Among.among-first b f g = absurd (f (i (rowOf o) (row-in o)))
+at-most-one (also o ms) (pass i h) p q (Among.among-later a) Among.among-first f g = absurd (g (i (rowOf o) (row-in o)))
+at-most-one (also o ms) (pass i h) p q (Among.among-later a) (Among.among-later b) f g = at-most-one ms h p q a b f g
+at-most-one (also o ms) (pick e i) p q Among.among-first Among.among-first f g = refl
+at-most-one (also o ms) (pick e i) p q Among.among-first (Among.among-later b) f g = absurd (g (i (rowOf q) (among-row b)))
+at-most-one (also o ms) (pick e i) p q (Among.among-later a) b f g = absurd (f (i (rowOf p) (among-row a)))
 
 -- ---- what a good process has beneath it
 
@@ -73,7 +73,7 @@ isByStep byStep = true
 not-by-step : (m : Mode) → isByStep m ≡ false → m ≡ byStep → ⊥
 not-by-step m f e = true≢false (sym (ap isByStep e) ∙ f)
 
-module _ {s : List ℕ} {k : Action} {r : ℕ} {ms : Members} where
+module _ {s : List ℕ} {k : Action} {r : ℕ} {ms : Processes} where
   idle-beneath : Good s (node k r ms) → getD s r 0 ≡ 0 → AllIdle s (rowsBeneath ms)
   idle-beneath (idle i) e = λ x m. i x (List·Memᴰ·tail m)
   idle-beneath (over i z q h o) e = absurd (omega arith)
@@ -90,7 +90,7 @@ module _ {s : List ℕ} {k : Action} {r : ℕ} {ms : Members} where
   stopped-beneath (over i z q h (inr (m, j))) n e = j
   stopped-beneath (run z h) n e = absurd (omega arith)
 
-module _ {s : List ℕ} {r : ℕ} {ms : Members} where
+module _ {s : List ℕ} {r : ℕ} {ms : Processes} where
   sequence-ended : Good s (node sequence r ms) → getD s r 0 ≡ 2 → All 2 s ms
   sequence-ended (idle i) e = absurd (omega (arith, i r (List·Memᴰ·head refl)))
   sequence-ended (over i z q h (inl (a, c, x))) e = all-ended ms s c

@@ -7,37 +7,38 @@ use Prim.Native.Nat.{ℕ, suc}
 use native.Mathlib.Omega.{arith}
 use lib.ListN.{length, getD, set, length-set}
 use lib.Seq.{set-comm, getD-set-other}
-use Rattle.meaning.specs.Tree.{Action, Process, node, Members, also, rowOf, rowsIn, rowsBeneath}
-use Rattle.meaning.specs.Settle.{stateOf, statesOf, Mode, inTurn, together, byStep, mode, starts, nextMode, complete, settleRunning, settleMembers, settle, allOf, isIdleOrEnded, isEnded}
+use Rattle.meaning.specs.Tree.{Action, Process, node, Processes, also, rowOf, rowsIn, rowsBeneath}
+use Rattle.meaning.specs.State.{stateOf}
+use Rattle.meaning.specs.Settle.{statesOf, Mode, inTurn, together, byStep, mode, starts, nextMode, complete, settleRunning, settleEach, settle, allOf, isIdleOrEnded, isEnded}
 use Rattle.agreement.proofs.Frame.{body-node, row-in, walk-local, see-local, Off, length-local, off-look, off-put, swap}
 use Rattle.agreement.proofs.Again.{Out, Sound, SoundM, sound-row, Idle, see-run, idle-body, Under, low, same, sameB, see-again, after, walk-after, after-eq, again, againM}
 
 -- a step at row r stores, there, ended or stopped; or at the row of a member's process, running
-pub data Child (x : ℕ) : Members → Type 0 where
-  eldest : {p : Process} {ms : Members} → x ≡ rowOf p → Child x (also p ms)
-  younger : {p : Process} {ms : Members} → Child x ms → Child x (also p ms)
+pub data Child (x : ℕ) : Processes → Type 0 where
+  eldest : {p : Process} {ms : Processes} → x ≡ rowOf p → Child x (also p ms)
+  younger : {p : Process} {ms : Processes} → Child x ms → Child x (also p ms)
 
-pub data Legal (x v r : ℕ) (ms : Members) : Type 0 where
+pub data Legal (x v r : ℕ) (ms : Processes) : Type 0 where
   own : (i : ℕ) → x ≡ r → v ≡ suc (suc i) → Legal x v r ms
   child : Child x ms → v ≡ 1 → Legal x v r ms
 
-pub child-in : {x : ℕ} {ms : Members} → Child x ms → List·Memᴰ x (rowsBeneath ms)
+pub child-in : {x : ℕ} {ms : Processes} → Child x ms → List·Memᴰ x (rowsBeneath ms)
 child-in (eldest {p} {ms} e) = Memᴰ·append-left (rowsBeneath ms) (Memᴰ·cast e (row-in p))
 child-in (younger {p} h) = Memᴰ·append-right (rowsIn p) (child-in h)
 
-legal-in : {x v r : ℕ} {ms : Members} → Legal x v r ms → List·Memᴰ x (r ∷ rowsBeneath ms)
+legal-in : {x v r : ℕ} {ms : Processes} → Legal x v r ms → List·Memᴰ x (r ∷ rowsBeneath ms)
 legal-in (own i e ev) = List·Memᴰ·head e
 legal-in (child h e) = List·Memᴰ·tail (child-in h)
 
 -- row b of a process is at its frontier in s: running, as all above it, and all beneath it idle; v may be stored at x
 mutual
   pub data At (b x v : ℕ) (s : List ℕ) : Process → Type 0 where
-    here : {k : Action} {r : ℕ} {ms : Members} → r ≡ b → getD s r 0 ≡ 1 → mode k ≡ byStep → Idle (rowsBeneath ms) s → Legal x v r ms → At b x v s (node k r ms)
-    under : {k : Action} {r : ℕ} {ms : Members} → getD s r 0 ≡ 1 → AtM b x v s ms → At b x v s (node k r ms)
+    here : {k : Action} {r : ℕ} {ms : Processes} → r ≡ b → getD s r 0 ≡ 1 → mode k ≡ byStep → Idle (rowsBeneath ms) s → Legal x v r ms → At b x v s (node k r ms)
+    under : {k : Action} {r : ℕ} {ms : Processes} → getD s r 0 ≡ 1 → AtM b x v s ms → At b x v s (node k r ms)
 
-  pub data AtM (b x v : ℕ) (s : List ℕ) : Members → Type 0 where
-    first : {p : Process} {ms : Members} → At b x v s p → AtM b x v s (also p ms)
-    later : {p : Process} {ms : Members} → AtM b x v s ms → AtM b x v s (also p ms)
+  pub data AtM (b x v : ℕ) (s : List ℕ) : Processes → Type 0 where
+    first : {p : Process} {ms : Processes} → At b x v s p → AtM b x v s (also p ms)
+    later : {p : Process} {ms : Processes} → AtM b x v s ms → AtM b x v s (also p ms)
 
 module _ {b x v : ℕ} {s : List ℕ} where
   pub at-run : {p : Process} → At b x v s p → stateOf s p ≡ 1
@@ -49,20 +50,20 @@ module _ {b x v : ℕ} {s : List ℕ} where
     at-in (here eb e m i h) = legal-in h
     at-in (under e h) = List·Memᴰ·tail (atM-in h)
 
-    pub atM-in : {ms : Members} → AtM b x v s ms → List·Memᴰ x (rowsBeneath ms)
+    pub atM-in : {ms : Processes} → AtM b x v s ms → List·Memᴰ x (rowsBeneath ms)
     atM-in (first {ms} h) = Memᴰ·append-left (rowsBeneath ms) (at-in h)
     atM-in (later {p} h) = Memᴰ·append-right (rowsIn p) (atM-in h)
 
-  pub busy : {ms : Members} → AtM b x v s ms → Idle (rowsBeneath ms) s → ⊥
+  pub busy : {ms : Processes} → AtM b x v s ms → Idle (rowsBeneath ms) s → ⊥
   busy (first {p} {ms} h) i = omega (arith, at-run h, i (rowOf p) (Memᴰ·append-left (rowsBeneath ms) (row-in p)))
   busy (later {p} h) i = busy h (λ y q. i y (Memᴰ·append-right (rowsIn p) q))
 
   -- a member that is at work keeps its process from closing
-  all-busy : (f : ℕ → Bool) → f 1 ≡ false → {ms : Members} → AtM b x v s ms → allOf f (statesOf ms s) ≡ false
+  all-busy : (f : ℕ → Bool) → f 1 ≡ false → {ms : Processes} → AtM b x v s ms → allOf f (statesOf ms s) ≡ false
   all-busy f e (first h) = rw (at-run h, e)
   all-busy f e (later {p} h) = rw (all-busy f e h) (and-false (f (stateOf s p)))
 
-  alive : {ms : Members} → AtM b x v s ms → (m : Mode) → complete m (statesOf ms s) ≡ false
+  alive : {ms : Processes} → AtM b x v s ms → (m : Mode) → complete m (statesOf ms s) ≡ false
   alive h inTurn = all-busy isEnded refl h
   alive h together = all-busy isEnded refl h
   alive h byStep = rw (all-busy isIdleOrEnded refl h)
@@ -73,13 +74,13 @@ module _ {b x v : ℕ} {s : List ℕ} where
       agree (here {k} {r} {ms} eb e m i h) g = here eb (g r (List·Memᴰ·head refl) ∙ e) m (λ y q. g y (List·Memᴰ·tail q) ∙ i y q) h
       agree (under {r} e h) g = under (g r (List·Memᴰ·head refl) ∙ e) (agreeM h (λ y q. g y (List·Memᴰ·tail q)))
 
-      pub agreeM : {ms : Members} → AtM b x v s ms → ((y : ℕ) → List·Memᴰ y (rowsBeneath ms) → getD t y 0 ≡ getD s y 0) → AtM b x v t ms
+      pub agreeM : {ms : Processes} → AtM b x v s ms → ((y : ℕ) → List·Memᴰ y (rowsBeneath ms) → getD t y 0 ≡ getD s y 0) → AtM b x v t ms
       agreeM (first {ms} h) g = first (agree h (λ y q. g y (Memᴰ·append-left (rowsBeneath ms) q)))
       agreeM (later {p} h) g = later (agreeM h (λ y q. g y (Memᴰ·append-right (rowsIn p) q)))
 
 -- ---- a frontier row stays one while its process settles
 
-under-body : {b x v : ℕ} (k : Action) (r : ℕ) (ms : Members) (s : List ℕ) → AtM b x v (settleMembers ms (mode k) s) ms → settleRunning (node k r ms) s ≡ settleMembers ms (mode k) s
+under-body : {b x v : ℕ} (k : Action) (r : ℕ) (ms : Processes) (s : List ℕ) → AtM b x v (settleEach ms (mode k) s) ms → settleRunning (node k r ms) s ≡ settleEach ms (mode k) s
 under-body k r ms s h = rw (body-node k r ms s, alive h (mode k))
 
 module _ (b x v n : ℕ) where
@@ -90,7 +91,7 @@ module _ (b x v n : ℕ) where
         let q = persistM ms (d .2) (mode k) s h in
         rw (under-body k r ms s q) (under (off-look (walk-local ms (mode k)) s r (d .1) ∙ e) q)
 
-    pub persistM : (ms : Members) → SoundM ms n → (m : Mode) (s : List ℕ) → AtM b x v s ms → AtM b x v (settleMembers ms m s) ms
+    pub persistM : (ms : Processes) → SoundM ms n → (m : Mode) (s : List ℕ) → AtM b x v s ms → AtM b x v (settleEach ms m s) ms
     persistM (also p ms) d m s (first h) =
         rw (walk-after p ms m s, see-run p (starts m) s (at-run h))
         (first (agree (persist p (d .0) s h) (λ y q. off-look (walk-local ms (after p m s)) (settleRunning p s) y (d .2 y q))))
@@ -118,7 +119,7 @@ module _ (b x v n : ℕ) where
     absorb (node k r ms) d s l (here eb e m i h) c = rw (see-run (node k r ms) c s e, idle-body k r ms s m i)
     absorb (node k r ms) d s l (under e h) c =
         let p = node k r ms in
-        let w = settleMembers ms (mode k) s in
+        let w = settleEach ms (mode k) s in
         let ne : (r ≡ x → ⊥) = λ q. d .1 (Memᴰ·cast q (atM-in h)) in
         let ew : getD w r 0 ≡ 1 = off-look (walk-local ms (mode k)) s r (d .1) ∙ e in
         rw (
@@ -131,13 +132,13 @@ module _ (b x v n : ℕ) where
           ← body-node k r ms (set s x v),
         )
 
-    pub absorbM : (ms : Members) → SoundM ms n → (s : List ℕ) → length s ≡ n → AtM b x v s ms → (m : Mode) → settleMembers ms m (set (settleMembers ms m s) x v) ≡ settleMembers ms m (set s x v)
+    pub absorbM : (ms : Processes) → SoundM ms n → (s : List ℕ) → length s ≡ n → AtM b x v s ms → (m : Mode) → settleEach ms m (set (settleEach ms m s) x v) ≡ settleEach ms m (set s x v)
     absorbM (also p ms) d s l (first h) m =
         let m1 = after p m s in
         let s1 = settle p (starts m) s in
         let t1 = settle p (starts m) (set s x v) in
-        let s2 = settleMembers (also p ms) m s in
-        let key : settle p (starts m) (set s2 x v) ≡ settleMembers ms m1 t1
+        let s2 = settleEach (also p ms) m s in
+        let key : settle p (starts m) (set s2 x v) ≡ settleEach ms m1 t1
         = rw (
           walk-after p ms m s,
           ← off-put (walk-local ms m1) s1 x v (d .2 x (at-in h)),
@@ -152,11 +153,11 @@ module _ (b x v n : ℕ) where
     absorbM (also p ms) d s l (later h) m =
         let m1 = after p m s in
         let s1 = settle p (starts m) s in
-        let s2 = settleMembers (also p ms) m s in
+        let s2 = settleEach (also p ms) m s in
         let o : Out x (rowsIn p) = λ q. d .2 x q (atM-in h) in
         let l1 : length s1 ≡ n = length-local (see-local p (starts m)) s ∙ l in
         let key1 : settle p (starts m) (set s x v) ≡ set s1 x v = off-put (see-local p (starts m)) s x v o in
-        let key2 : settle p (starts m) (set s2 x v) ≡ set (settleMembers ms m1 s1) x v
+        let key2 : settle p (starts m) (set s2 x v) ≡ set (settleEach ms m1 s1) x v
         = rw (
           off-put (see-local p (starts m)) s2 x v o,
           walk-after p ms m s,
@@ -166,7 +167,7 @@ module _ (b x v n : ℕ) where
         let ne : (rowOf p ≡ x → ⊥) = λ q. o (Memᴰ·cast (sym q) (row-in p)) in
         let mid1 : after p m (set s x v) ≡ m1 = after-eq p m (set s x v) s (rw key1 (getD-set-other s1 x (rowOf p) v 0 ne)) in
         let mid2 : after p m (set s2 x v) ≡ m1
-        = after-eq p m (set s2 x v) s (rw key2 (getD-set-other (settleMembers ms m1 s1) x (rowOf p) v 0 ne ∙ off-look (walk-local ms m1) s1 (rowOf p) (d .2 (rowOf p) (row-in p)))) in
+        = after-eq p m (set s2 x v) s (rw key2 (getD-set-other (settleEach ms m1 s1) x (rowOf p) v 0 ne ∙ off-look (walk-local ms m1) s1 (rowOf p) (d .2 (rowOf p) (row-in p)))) in
         rw (walk-after p ms m (set s2 x v), mid2, key2, walk-after p ms m (set s x v), mid1, key1)
         (absorbM ms (d .1) s1 l1 (agreeM h (λ y q. off-look (see-local p (starts m)) s y (λ z. d .2 y z q))) m1)
 
@@ -183,7 +184,7 @@ module _ (a x v b y w n : ℕ) (s : List ℕ) (ne : a ≢ b) where
         let (q, z) = otherM ms (d .2) h h′ in
         (under (getD-set-other s x r v 0 (λ q. d .1 (Memᴰ·cast q (atM-in h))) ∙ e) q, z)
 
-    pub otherM : (ms : Members) → SoundM ms n → AtM a x v s ms → AtM b y w s ms → AtM b y w (set s x v) ms × (x ≢ y)
+    pub otherM : (ms : Processes) → SoundM ms n → AtM a x v s ms → AtM b y w s ms → AtM b y w (set s x v) ms × (x ≢ y)
     otherM (also p ms) d (first h) (first h′) = let (q, z) = other p (d .0) h h′ in (first q, z)
     otherM (also p ms) d (first h) (later h′) =
         (later (agreeM h′ (λ z q. getD-set-other s x z v 0 (λ e. d .2 z (Memᴰ·cast e (at-in h)) q))), λ e. d .2 y (Memᴰ·cast (sym e) (at-in h)) (atM-in h′))

@@ -9,11 +9,11 @@ use native.Mathlib.Decide.{decLt}
 use lib.IntN.{pos}
 use lib.ListN.{length, getD, length-append, length-map, List·getD-append}
 use lib.Seq.{ext-getD, getD-at}
-use Rattle.meaning.specs.Limits.{maxRows, maxCells, maxPorts}
+use Rattle.meaning.specs.Limits.{maxRows, maxCells, maxHostChannels}
 use Rattle.meaning.specs.Basics.{allBelow}
 use Rattle.meaning.specs.Rows.{rowCount}
-use Rattle.meaning.specs.Declarations.{totalCells, totalPorts, capacityAt, channels}
-use Rattle.meaning.specs.State.{Message}
+use Rattle.meaning.specs.Declarations.{totalCells, hostChannels, capacityAt, channels}
+use Rattle.meaning.specs.Values.{Message}
 use Rattle.meaning.specs.Buffers.{mark, numberIn, decoded, encode}
 use Rattle.meaning.specs.Decode.{givenIn, decode}
 use Rattle.meaning.specs.PrintedForms.{Each, each-none, each-more}
@@ -62,18 +62,18 @@ decoded-state rows sheet s ok (l, o) b =
     ap₂ decoded (lent-whole (pos 0) maxCells (totalCells rows) (map numberIn (s .store .cells)) (b .cells) (length-map (s .store .cells) numberIn ∙ D .cells) (L .cells))
     (lent-whole 0 maxCells (totalCells rows) (map mark (s .store .cells)) (b .marks) (length-map (s .store .cells) mark ∙ D .cells) (L .cells))
     ∙ decoded-cells (s .store .cells) in
-    let places = lent-whole 0 maxPorts (totalPorts 1 rows) (s .store .places) (b .places) (D .places) (L .places) in
-    let outputs = ext-getD [] (map list all) (s .store .outputs) (length-map all list ∙ below-length (totalPorts 2 rows) ∙ sym (D .outputs))
-    (λ i h. let k : i < totalPorts 2 rows = omega (arith, length-map all list, below-length (totalPorts 2 rows), h) in made-at list [] (totalPorts 2 rows) i k ∙ given i k) in
+    let places = lent-whole 0 maxHostChannels (hostChannels 1 rows) (s .store .places) (b .places) (D .places) (L .places) in
+    let outputs = ext-getD [] (map list all) (s .store .outputs) (length-map all list ∙ below-length (hostChannels 2 rows) ∙ sym (D .outputs))
+    (λ i h. let k : i < hostChannels 2 rows = omega (arith, length-map all list, below-length (hostChannels 2 rows), h) in made-at list [] (hostChannels 2 rows) i k ∙ given i k) in
     λ i. record { states = states i; store = record { cells = cells i; places = places i; outputs = outputs i } }
   where
     all : List ℕ
-    all = allBelow (λ port. true) (totalPorts 2 rows)
+    all = allBelow (λ port. true) (hostChannels 2 rows)
 
     list : ℕ → List Message
     list port = map some (givenIn rows port (encode rows s b))
 
-    given : (port : ℕ) → port < totalPorts 2 rows → list port ≡ getD (s .store .outputs) port []
+    given : (port : ℕ) → port < hostChannels 2 rows → list port ≡ getD (s .store .outputs) port []
     given port h =
         ap (map some) (left-given rows ok sheet l s o b port (omega (arith, output-count rows, length-map (channels rows 2) (capacityAt rows), h)) .0)
         ∙ numbers-back (getD (s .store .outputs) port []) (reached-as-declared rows sheet s ok (l, o) .numbers port)

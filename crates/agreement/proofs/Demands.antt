@@ -2,7 +2,7 @@
 use mathlib.Core.Path.{_≡_, sym, _∙_}
 use mathlib.Core.Option.{none}
 use native.Mathlib.Omega.{arith}
-use Rattle.meaning.specs.Accepted.{Accepted}
+use Rattle.meaning.specs.Accepted.{BothAccepted}
 use Rattle.meaning.specs.Answers.{check}
 use Rattle.agreement.specs.Statements.{AllowedExactly, ReadyExactly, AfterIsStep, EveryOrderChosen, OneStepDiamond, ListsGrow}
 use Rattle.agreement.proofs.Reached.{ready-steps}
@@ -44,7 +44,7 @@ after-is-step rows ok sheet s (l, o) x m =
 
 pub every-order-chosen : EveryOrderChosen
 every-order-chosen rows sheet a l s o =
-    choosable Accepted (λ rows sheet a. (fit rows (a .0), option-rows rows (a .0), (let h = rows-limit rows (a .0) in omega arith))) rows sheet l s a o
+    choosable BothAccepted (λ rows sheet a. (fit rows (a .0), option-rows rows (a .0), (let h = rows-limit rows (a .0) in omega arith))) rows sheet l s a o
 
 pub one-step-diamond : OneStepDiamond
 one-step-diamond rows sheet a w s (l, o) = WithoutAlt.one-step-diamond rows sheet (fit rows (a .0)) w l s o

@@ -5,10 +5,10 @@ use mathlib.Core.List.{List, _∷_, List·Memᴰ, List·Memᴰ·head, List·Mem�
 use Prim.Native.Nat.{ℕ}
 use lib.IntN.{ℤ}
 use Rattle.meaning.specs.Rows.{rowCount}
-use Rattle.meaning.specs.Tree.{Receive, AltOption, Action, receive, send, alternation}
-use Rattle.meaning.specs.Usage.{inputs, outputs, inputsBy, ofGuard, ofGuards}
+use Rattle.meaning.specs.Tree.{ChannelInput, AltOption, Action, input, output, alternation}
+use Rattle.meaning.specs.Usage.{inputElements, outputElements, inputsBy, ofGuard, ofGuards}
 use Rattle.meaning.specs.State.{State, program}
-use Rattle.meaning.specs.Intent.{Sheet}
+use Rattle.meaning.specs.Readings.{Sheet}
 use Rattle.agreement.specs.Statements.{InputsAt, by-input, by-guard, OutputsAt, by-output, OnePerElement}
 use Rattle.agreement.proofs.Fit.{Fit}
 use Rattle.agreement.proofs.Footprint.{index-counts}
@@ -17,7 +17,7 @@ use Rattle.agreement.proofs.Separate.{one-input-row, one-output-row, ta
 use Rattle.agreement.proofs.TableFit.{fit}
 
 -- what the input of an option counts for, its ALT counts for
-guard-counts : (f : Receive → List ℕ) (e : ℕ) (i : Receive) (b : AltOption) → b .guard .input ≡ some i → List·Memᴰ e (f i) → (bs : List AltOption) → List·Memᴰ b bs → List·Memᴰ e (ofGuards f bs)
+guard-counts : (f : ChannelInput → List ℕ) (e : ℕ) (i : ChannelInput) (b : AltOption) → b .guard .input ≡ some i → List·Memᴰ e (f i) → (bs : List AltOption) → List·Memᴰ b bs → List·Memᴰ e (ofGuards f bs)
 guard-counts f e i b q m (c ∷ l) (List·Memᴰ·head z) = Memᴰ·append-left {s = ofGuard f (c .guard .input)} (ofGuards f l) (rw (← z, q) m)
 guard-counts f e i b q m (c ∷ l) (List·Memᴰ·tail n) = Memᴰ·append-right (ofGuard f (c .guard .input)) (guard-counts f e i b q m l n)
 
@@ -29,16 +29,16 @@ module _ (rows : List ℤ) (sheet : Sheet) (F : Fit (program rows) (rowCount row
   counted : (f : Action → List ℕ) (e r : ℕ) (a : Action) → (W : Works (program rows) (rowCount rows) F sheet s r) × (W .action ≡ a) → List·Memᴰ e (f a) → Counted f e r
   counted f e r a (W, q) m = (W, subst (λ (k : Action). List·Memᴰ e (f k)) (sym q) m)
 
-  input-counted : (e r : ℕ) → InputsAt (program rows) s e r → Counted inputs e r
+  input-counted : (e r : ℕ) → InputsAt (program rows) s e r → Counted inputElements e r
   input-counted e r (by-input {i} l q) =
-      counted inputs e r (receive i) (live-works (program rows) (rowCount rows) F sheet s r (receive i) inv l refl) (index-counts (s .store .cells) (i .channel .first) (i .channel .size) (i .subscript) e q)
+      counted inputElements e r (input i) (live-works (program rows) (rowCount rows) F sheet s r (input i) inv l refl) (index-counts (s .store .cells) (i .channel .first) (i .channel .size) (i .subscript) e q)
   input-counted e r (by-guard {bs} {b} {i} l m g q) =
-      counted inputs e r (alternation bs) (live-works (program rows) (rowCount rows) F sheet s r (alternation bs) inv l refl)
+      counted inputElements e r (alternation bs) (live-works (program rows) (rowCount rows) F sheet s r (alternation bs) inv l refl)
       (guard-counts inputsBy e i b g (index-counts (s .store .cells) (i .channel .first) (i .channel .size) (i .subscript) e q) bs m)
 
-  output-counted : (e r : ℕ) → OutputsAt (program rows) s e r → Counted outputs e r
+  output-counted : (e r : ℕ) → OutputsAt (program rows) s e r → Counted outputElements e r
   output-counted e r (by-output {c} {f} {g} l q) =
-      counted outputs e r (send c f g) (live-works (program rows) (rowCount rows) F sheet s r (send c f g) inv l refl) (index-counts (s .store .cells) (c .first) (c .size) f e q)
+      counted outputElements e r (output c f g) (live-works (program rows) (rowCount rows) F sheet s r (output c f g) inv l refl) (index-counts (s .store .cells) (c .first) (c .size) f e q)
 
   one-of-each : (e r q : ℕ) → (InputsAt (program rows) s e r → InputsAt (program rows) s e q → r ≡ q) × (OutputsAt (program rows) s e r → OutputsAt (program rows) s e q → r ≡ q)
   one-of-each e r q = (

@@ -7,11 +7,14 @@ use Prim.Native.Nat.{ℕ, zero, suc, _≤_}
 use native.Mathlib.Omega.{arith}
 use lib.ListN.{length, length-append}
 use lib.Dec.{eqb, T, eqb→eq}
-use Rattle.meaning.specs.Rows.{ifElse}
+use Rattle.meaning.specs.Basics.{ifElse}
 use Rattle.meaning.specs.Tree.{rowsIn}
-use Rattle.meaning.specs.State.{Message, State, Program, whole}
-use Rattle.meaning.specs.Intent.{Sheet, Offer, openOffer, inputOffer, Intent, waits, moves, inputsFrom, outputsTo, selects}
-use Rattle.meaning.specs.Ready.{Label, own, pass, takeFrom, orderRow, running, RunningRow, outputAt, outputsAt, offered, stepsOf, stepsAll, stepsAt, byRow, intentAt, runningRows, ready}
+use Rattle.meaning.specs.Values.{Message}
+use Rattle.meaning.specs.State.{State, Program, whole}
+use Rattle.meaning.specs.Labels.{Label, own, pass, takeWithOutput, orderRow}
+use Rattle.meaning.specs.Readings.{Sheet}
+use Rattle.meaning.specs.Intent.{Offer, openOffer, inputOffer, Intent, waits, moves, inputsFrom, outputsTo, selects}
+use Rattle.meaning.specs.Ready.{runningFrom, RunningRow, outputAt, outputsAt, offered, stepsOf, stepsAll, stepsAt, byRow, intentAt, runningRows, ready}
 use Rattle.agreement.proofs.Commute.{Legal, at-in}
 use Rattle.agreement.proofs.Options.{RisingO}
 use Rattle.agreement.proofs.Fit.{Fit}
@@ -93,13 +96,13 @@ lower : (lo hi : ℕ) (l : List ℕ) → lo ≤ hi → Increasing hi l → Incre
 lower lo hi [] h g = tt
 lower lo hi (r ∷ l) h g = (omega (arith, g .0), g .1)
 
-running-increases : (j : ℕ) (s : List ℕ) → Increasing j (running j s)
+running-increases : (j : ℕ) (s : List ℕ) → Increasing j (runningFrom j s)
 running-increases j [] = tt
 running-increases j (x ∷ s) = go (eqb x 1) (running-increases (suc j) s)
   where
-    go : (t : Bool) → Increasing (suc j) (running (suc j) s) → Increasing j (ifElse t (j ∷ running (suc j) s) (running (suc j) s))
+    go : (t : Bool) → Increasing (suc j) (runningFrom (suc j) s) → Increasing j (ifElse t (j ∷ runningFrom (suc j) s) (runningFrom (suc j) s))
     go true h = (omega arith, h)
-    go false h = lower j (suc j) (running (suc j) s) (omega arith) h
+    go false h = lower j (suc j) (runningFrom (suc j) s) (omega arith) h
 
 output-cases : (e r : ℕ) (w : Intent) → (outputAt e r w ≡ []) ⊎ ((v : Message) × (w ≡ outputsTo e v) × (outputAt e r w ≡ r ∷ []))
 output-cases e r waits = inl refl
@@ -149,13 +152,13 @@ module _ (P : Program) (n : ℕ) (F : Fit P n) (sheet : Sheet) (s : State) (i : 
 
     keys-differ : (r q : ℕ) (x y : Label) → r ≢ q → Keyed r x → Keyed q y → orderRow x ≢ orderRow y
     keys-differ r q x y ne (inl (a, e)) (inl (b, f)) z = ne (sym e ∙ z ∙ f)
-    keys-differ r q x y ne (inl (a, e)) (inr (B, m)) z = O .no-process (B .action) q (B .members) (B .sub) (orderRow y) m (Memᴰ·cast (sym z ∙ e) (inside r a))
-    keys-differ r q x y ne (inr (A, m)) (inl (b, f)) z = O .no-process (A .action) r (A .members) (A .sub) (orderRow x) m (Memᴰ·cast (z ∙ f) (inside q b))
-    keys-differ r q x y ne (inr (A, m)) (inr (B, l)) z = ne (O .one-alt (A .action) r (A .members) (B .action) q (B .members) (A .sub) (B .sub) (orderRow x) m (Memᴰ·cast z l))
+    keys-differ r q x y ne (inl (a, e)) (inr (B, m)) z = O .no-process (B .action) q (B .listed) (B .sub) (orderRow y) m (Memᴰ·cast (sym z ∙ e) (inside r a))
+    keys-differ r q x y ne (inr (A, m)) (inl (b, f)) z = O .no-process (A .action) r (A .listed) (A .sub) (orderRow x) m (Memᴰ·cast (z ∙ f) (inside q b))
+    keys-differ r q x y ne (inr (A, m)) (inr (B, l)) z = ne (O .one-alt (A .action) r (A .listed) (B .action) q (B .listed) (A .sub) (B .sub) (orderRow x) m (Memᴰ·cast z l))
 
     module _ (rise : (r : ℕ) (os : List Offer) → W r ≡ selects os → RisingO n 0 os) where
       abbrev R : List ℕ
-      R = running 0 (s .states)
+      R = runningFrom 0 (s .states)
 
       abbrev B : List RunningRow
       B = map bid R
@@ -174,16 +177,16 @@ module _ (P : Program) (n : ℕ) (F : Fit P n) (sheet : Sheet) (s : State) (i : 
       once-offered r lo (inputOffer j q e a ∷ os) h =
           let (c, b) = once-offered r (suc j) os (h .2) in
           let l = offered r B os in
-          let m = map (takeFrom r j) (outputsAt e B) in (
-            once-append (λ x. orderRow x ≡ j) (λ y. suc j ≤ orderRow y) (λ x y f g z. omega arith) m l (all-map (λ x. orderRow x ≡ j) (takeFrom r j) (λ o. refl) (outputsAt e B)) b (once-map (takeFrom r j) (outputsAt e B) (few e)) c,
-            all-append (λ y. lo ≤ orderRow y) m l (all-map (λ x. lo ≤ orderRow x) (takeFrom r j) (λ o. h .0) (outputsAt e B)) (all-weaken (λ y. suc j ≤ orderRow y) (λ y. lo ≤ orderRow y) (λ y g. omega (arith, h .0)) l b),
+          let m = map (takeWithOutput r j) (outputsAt e B) in (
+            once-append (λ x. orderRow x ≡ j) (λ y. suc j ≤ orderRow y) (λ x y f g z. omega arith) m l (all-map (λ x. orderRow x ≡ j) (takeWithOutput r j) (λ o. refl) (outputsAt e B)) b (once-map (takeWithOutput r j) (outputsAt e B) (few e)) c,
+            all-append (λ y. lo ≤ orderRow y) m l (all-map (λ x. lo ≤ orderRow x) (takeWithOutput r j) (λ o. h .0) (outputsAt e B)) (all-weaken (λ y. suc j ≤ orderRow y) (λ y. lo ≤ orderRow y) (λ y g. omega (arith, h .0)) l b),
           )
 
-      keyed-offered : (r : ℕ) (A : Works P n F sheet s r) (os : List Offer) → ProperOffers (F .source) (F .sink) (A .action) (A .members) os → All (Keyed r) (offered r B os)
+      keyed-offered : (r : ℕ) (A : Works P n F sheet s r) (os : List Offer) → ProperOffers (F .source) (F .sink) (A .action) (A .listed) os → All (Keyed r) (offered r B os)
       keyed-offered r A [] h = tt
       keyed-offered r A (openOffer j q ws ∷ os) h = (inr (A, h .0 .0), keyed-offered r A os (h .1))
       keyed-offered r A (inputOffer j q e a ∷ os) h =
-          all-append (Keyed r) (map (takeFrom r j) (outputsAt e B)) (offered r B os) (all-map (Keyed r) (takeFrom r j) (λ o. inr (A, h .0 .0)) (outputsAt e B)) (keyed-offered r A os (h .1))
+          all-append (Keyed r) (map (takeWithOutput r j) (outputsAt e B)) (offered r B os) (all-map (Keyed r) (takeWithOutput r j) (λ o. inr (A, h .0 .0)) (outputsAt e B)) (keyed-offered r A os (h .1))
 
       of-row : (r : ℕ) (w : Intent) → W r ≡ w → RowsOnce (stepsOf B r w) × All (Keyed r) (stepsOf B r w)
       of-row r waits h = (tt, tt)

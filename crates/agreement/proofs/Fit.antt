@@ -6,8 +6,8 @@ use mathlib.Core.List.{List, [], _∷_}
 use Prim.Native.Nat.{ℕ}
 use lib.ListN.{length}
 use Rattle.meaning.specs.Declarations.{Channel}
-use Rattle.meaning.specs.Tree.{IfChoice, AltOption, Receive, Action, stop, skip, sequence, parallel, assign, receive, send, conditional, loop, alternation, node, Members, actionOf, rowOf}
-use Rattle.meaning.specs.Usage.{changes, uses, inputs, outputs}
+use Rattle.meaning.specs.Tree.{IfChoice, AltOption, ChannelInput, Action, stop, skip, sequence, parallel, assign, input, output, conditional, loop, alternation, node, Processes, actionOf, rowOf}
+use Rattle.meaning.specs.Usage.{changes, uses, inputElements, outputElements}
 use Rattle.meaning.specs.State.{Program, processAt, whole}
 use Rattle.agreement.proofs.Frame.{Off}
 use Rattle.agreement.proofs.Again.{Sound}
@@ -16,32 +16,32 @@ use Rattle.agreement.proofs.Reach.{Sub, Apart}
 use Rattle.agreement.proofs.Settled.{Plain}
 
 -- each choice's process, each option's process is one of the members
-abbrev pub ChoicesIn : List IfChoice → Members → Type 0
+abbrev pub ChoicesIn : List IfChoice → Processes → Type 0
 ChoicesIn [] ms = Unit {0}
 ChoicesIn (t ∷ l) ms = Child (t .process) ms × ChoicesIn l ms
 
-abbrev pub OptionsIn : List AltOption → Members → Type 0
+abbrev pub OptionsIn : List AltOption → Processes → Type 0
 OptionsIn [] ms = Unit {0}
 OptionsIn (b ∷ l) ms = Child (b .process) ms × OptionsIn l ms
 
 -- what a step of a process may start is one of its members
-abbrev pub Starts : Action → Members → Type 0
+abbrev pub Starts : Action → Processes → Type 0
 Starts stop ms = Unit {0}
 Starts skip ms = Unit {0}
 Starts sequence ms = Unit {0}
 Starts parallel ms = Unit {0}
 Starts (assign v e f) ms = Unit {0}
-Starts (receive i) ms = Unit {0}
-Starts (send c e f) ms = Unit {0}
+Starts (input i) ms = Unit {0}
+Starts (output c e f) ms = Unit {0}
 Starts (conditional ts) ms = ChoicesIn ts ms
 Starts (loop e b) ms = Child b ms
 Starts (alternation bs) ms = OptionsIn bs ms
 
 -- a host channel has one element, which its number among the channels of its role tells
 abbrev pub HostAt : (ℕ → ℕ) → Channel → Type 0
-HostAt element c = c .host ≡ true → (c .first ≡ element (c .port)) × (c .size ≡ 1)
+HostAt element c = c .host ≡ true → (c .first ≡ element (c .number)) × (c .size ≡ 1)
 
-abbrev pub GuardAt : (ℕ → ℕ) → Option Receive → Type 0
+abbrev pub GuardAt : (ℕ → ℕ) → Option ChannelInput → Type 0
 GuardAt element none = Unit {0}
 GuardAt element (some i) = HostAt element (i .channel)
 
@@ -56,8 +56,8 @@ HostsAt source sink skip = Unit {0}
 HostsAt source sink sequence = Unit {0}
 HostsAt source sink parallel = Unit {0}
 HostsAt source sink (assign v e f) = Unit {0}
-HostsAt source sink (receive i) = HostAt source (i .channel)
-HostsAt source sink (send c e f) = HostAt sink c
+HostsAt source sink (input i) = HostAt source (i .channel)
+HostsAt source sink (output c e f) = HostAt sink c
 HostsAt source sink (conditional ts) = Unit {0}
 HostsAt source sink (loop e b) = Unit {0}
 HostsAt source sink (alternation bs) = GuardsAt source bs
@@ -66,8 +66,8 @@ HostsAt source sink (alternation bs) = GuardsAt source bs
 pub record Apt (k j : Action) : Type 0 where
   pub there : Off (changes k) (uses j)
   pub back : Off (changes j) (uses k)
-  pub in-in : Off (inputs k) (inputs j)
-  pub out-out : Off (outputs k) (outputs j)
+  pub in-in : Off (inputElements k) (inputElements j)
+  pub out-out : Off (outputElements k) (outputElements j)
 
 pub record Fit (P : Program) (n : ℕ) : Type 0 where
   -- there is a process for each row, and the whole process stands at the root
@@ -78,12 +78,12 @@ pub record Fit (P : Program) (n : ℕ) : Type 0 where
   -- STOP, SKIP and actions have no members
   pub plain : Plain (whole P)
   -- what stands at a row of the whole process is the process that the table has there
-  pub placed : (k : Action) (r : ℕ) (ms : Members) → Sub k r ms (whole P) → processAt P r ≡ node k r ms
+  pub placed : (k : Action) (r : ℕ) (ms : Processes) → Sub k r ms (whole P) → processAt P r ≡ node k r ms
   -- what it may start is one of its members
-  pub starts : (k : Action) (r : ℕ) (ms : Members) → Sub k r ms (whole P) → Starts k ms
+  pub starts : (k : Action) (r : ℕ) (ms : Processes) → Sub k r ms (whole P) → Starts k ms
   -- the usage rules: rows of two members of a PAR touch nothing in common
   pub apart : (a b : ℕ) → Apart a b (whole P) → Apt (actionOf (processAt P a)) (actionOf (processAt P b))
   -- the elements of host channels
   pub source : ℕ → ℕ
   pub sink : ℕ → ℕ
-  pub hosts : (k : Action) (r : ℕ) (ms : Members) → Sub k r ms (whole P) → HostsAt source sink k
+  pub hosts : (k : Action) (r : ℕ) (ms : Processes) → Sub k r ms (whole P) → HostsAt source sink k

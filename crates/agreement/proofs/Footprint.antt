@@ -13,10 +13,10 @@ use Rattle.meaning.specs.declared.Value.{Value}
 use Rattle.meaning.specs.declared.Value.the-variants.{Number, Missing}
 use Rattle.meaning.specs.declared.Index.{Index}
 use Rattle.meaning.specs.declared.Index.the-variants.{At, Fails}
-use Rattle.meaning.specs.Rows.{ifElse}
+use Rattle.meaning.specs.Basics.{ifElse}
 use Rattle.meaning.specs.Tree.{Expr, literal, element, monadic, dyadic, noExpr}
 use Rattle.meaning.specs.Values.{value, index, inArray, readCell, cellValue}
-use Rattle.meaning.specs.Usage.{range, when, countsFor, standsIn}
+use Rattle.meaning.specs.Usage.{numbersFrom, onlyIf, countsFor, standsIn}
 
 -- two lists of cells are alike at some numbers
 abbrev pub Agree : List ℕ → List (Option ℤ) → List (Option ℤ) → Type 0
@@ -36,8 +36,8 @@ never e = let z : _≡_ {A = ℕ} 0 1 = cc in absurd (omega arith)
 at-same : {a b : ℕ} → At a ≡ At b → a ≡ b
 at-same e = cc
 
-range-mem : (first n k : ℕ) → k < n → List·Memᴰ (first + k) (range first n)
-unfolding range
+range-mem : (first n k : ℕ) → k < n → List·Memᴰ (first + k) (numbersFrom first n)
+unfolding numbersFrom
 range-mem first zero k h = absurd (omega arith)
 range-mem first (suc n) zero h = List·Memᴰ·head {x = first} (omega arith)
 range-mem first (suc n) (suc k) h = List·Memᴰ·tail (Memᴰ·cast {b = suc first + k} (omega arith) (range-mem (suc first) n k (omega arith)))
@@ -53,10 +53,10 @@ within-array first n (Number (pos k)) a e = go (ltb k n) refl e
 within-array first n (Number (negsuc k)) a e = never e
 within-array first n (Missing k) a e = never e
 
-array-mem : (first n : ℕ) (v : Value) (a : ℕ) → inArray first n v ≡ At a → List·Memᴰ a (range first n)
+array-mem : (first n : ℕ) (v : Value) (a : ℕ) → inArray first n v ≡ At a → List·Memᴰ a (numbersFrom first n)
 array-mem first n v a e = let (k, h, q) = within-array first n v a e in Memᴰ·cast q (range-mem first n k h)
 
-when-mem : (t : Bool) (z a : ℕ) → ifElse t (At z) (Fails 2) ≡ At a → List·Memᴰ a (when t z)
+when-mem : (t : Bool) (z a : ℕ) → ifElse t (At z) (Fails 2) ≡ At a → List·Memᴰ a (onlyIf t z)
 when-mem true z a e = List·Memᴰ·head (sym (at-same e))
 when-mem false z a e = never e
 

@@ -5,24 +5,25 @@ use mathlib.Core.List.{List, [], _∷_, _++_, List·Memᴰ, List·Memᴰ·head, 
 use Prim.Native.Nat.{ℕ, zero, suc}
 use lib.ListN.{length, getD, set, length-set}
 use lib.Seq.{set-comm, getD-set-other}
-use Rattle.meaning.specs.Tree.{Action, Process, node, Members, empty, also, rowOf, rowsIn, rowsBeneath}
-use Rattle.meaning.specs.Settle.{stateOf, statesOf, Mode, mode, starts, nextMode, complete, makeIdle, endsWhenClosed, closing, visit, settleRunning, settleMembers, settle}
+use Rattle.meaning.specs.Tree.{Action, Process, node, Processes, empty, also, rowOf, rowsIn, rowsBeneath}
+use Rattle.meaning.specs.State.{stateOf, makeIdle}
+use Rattle.meaning.specs.Settle.{statesOf, Mode, mode, starts, nextMode, complete, endsWhenClosed, closing, visit, settleRunning, settleEach, settle}
 
-pub body-node : (k : Action) (r : ℕ) (ms : Members) (s : List ℕ)
-    → settleRunning (node k r ms) s ≡ closing (complete (mode k) (statesOf ms (settleMembers ms (mode k) s))) (endsWhenClosed k) r (rowsBeneath ms) (settleMembers ms (mode k) s)
+pub body-node : (k : Action) (r : ℕ) (ms : Processes) (s : List ℕ)
+    → settleRunning (node k r ms) s ≡ closing (complete (mode k) (statesOf ms (settleEach ms (mode k) s))) (endsWhenClosed k) r (rowsBeneath ms) (settleEach ms (mode k) s)
 unfolding settleRunning
 body-node k r ms s = refl
 
-pub body-shape : (k : Action) (r : ℕ) (ms : Members) (s : List ℕ) (c x : Bool) → complete (mode k) (statesOf ms (settleMembers ms (mode k) s)) ≡ c → endsWhenClosed k ≡ x
-    → settleRunning (node k r ms) s ≡ closing c x r (rowsBeneath ms) (settleMembers ms (mode k) s)
+pub body-shape : (k : Action) (r : ℕ) (ms : Processes) (s : List ℕ) (c x : Bool) → complete (mode k) (statesOf ms (settleEach ms (mode k) s)) ≡ c → endsWhenClosed k ≡ x
+    → settleRunning (node k r ms) s ≡ closing c x r (rowsBeneath ms) (settleEach ms (mode k) s)
 body-shape k r ms s c x ec ex = rw (body-node k r ms s, ec, ex)
 
-pub walk-none : (m : Mode) (s : List ℕ) → settleMembers empty m s ≡ s
+pub walk-none : (m : Mode) (s : List ℕ) → settleEach empty m s ≡ s
 unfolding settleRunning
 walk-none m s = refl
 
-pub walk-also : (p : Process) (ms : Members) (m : Mode) (s : List ℕ)
-    → settleMembers (also p ms) m s ≡ settleMembers ms (nextMode m (stateOf (settle p (starts m) s) p)) (settle p (starts m) s)
+pub walk-also : (p : Process) (ms : Processes) (m : Mode) (s : List ℕ)
+    → settleEach (also p ms) m s ≡ settleEach ms (nextMode m (stateOf (settle p (starts m) s) p)) (settle p (starts m) s)
 unfolding settleRunning settle
 walk-also p ms m s = refl
 
@@ -44,7 +45,7 @@ sub-tail : {rel : List ℕ → List ℕ → Type 0} (r : ℕ) (R : List ℕ) →
 sub-tail r R S = record { look = λ x h. S .look x (List·Memᴰ·tail h); put = λ x v h. S .put x v (List·Memᴰ·tail h) }
 
 module _ {rel : List ℕ → List ℕ → Type 0} where
-  sts-sim : (ms : Members) → Sim (rowsBeneath ms) rel → {s t : List ℕ} → rel s t → statesOf ms s ≡ statesOf ms t
+  sts-sim : (ms : Processes) → Sim (rowsBeneath ms) rel → {s t : List ℕ} → rel s t → statesOf ms s ≡ statesOf ms t
   sts-sim empty S h = refl
   sts-sim (also p ms) S h = ap₂ (λ (n : ℕ) (l : List ℕ). n ∷ l) (S .look (rowOf p) (Memᴰ·append-left (rowsBeneath ms) (row-in p)) h) (sts-sim ms (sub-right (rowsIn p) (rowsBeneath ms) S) h)
 
@@ -73,9 +74,9 @@ module _ {rel : List ℕ → List ℕ → Type 0} where
     pub sim : (p : Process) → Sim (rowsIn p) rel → (s t : List ℕ) → rel s t → rel (settleRunning p s) (settleRunning p t)
     sim (node k r ms) S s t h =
         let q = simM ms (sub-tail r (rowsBeneath ms) S) (mode k) s t h in
-        rw (body-node k r ms s, body-node k r ms t, sts-sim ms (sub-tail r (rowsBeneath ms) S) q) (close-sim (complete (mode k) (statesOf ms (settleMembers ms (mode k) t))) (endsWhenClosed k) r (rowsBeneath ms) S q)
+        rw (body-node k r ms s, body-node k r ms t, sts-sim ms (sub-tail r (rowsBeneath ms) S) q) (close-sim (complete (mode k) (statesOf ms (settleEach ms (mode k) t))) (endsWhenClosed k) r (rowsBeneath ms) S q)
 
-    pub simM : (ms : Members) → Sim (rowsBeneath ms) rel → (m : Mode) (s t : List ℕ) → rel s t → rel (settleMembers ms m s) (settleMembers ms m t)
+    pub simM : (ms : Processes) → Sim (rowsBeneath ms) rel → (m : Mode) (s t : List ℕ) → rel s t → rel (settleEach ms m s) (settleEach ms m t)
     simM empty S m s t h = simp walk-none h
     simM (also p ms) S m s t h =
         let P = sub-left (rowsIn p) (rowsBeneath ms) S in
@@ -90,7 +91,7 @@ pub record Local (R : List ℕ) (f : List ℕ → List ℕ) : Type 1 where
 pub body-local : (p : Process) → Local (rowsIn p) (settleRunning p)
 body-local p = record { keeps = λ rel S. sim p S }
 
-pub walk-local : (ms : Members) (m : Mode) → Local (rowsBeneath ms) (settleMembers ms m)
+pub walk-local : (ms : Processes) (m : Mode) → Local (rowsBeneath ms) (settleEach ms m)
 walk-local ms m = record { keeps = λ rel S. simM ms S m }
 
 pub see-local : (p : Process) (b : Bool) → Local (rowsIn p) (settle p b)

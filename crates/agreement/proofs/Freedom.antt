@@ -6,9 +6,11 @@ use mathlib.Core.List.{List, [], _∷_}
 use Prim.Native.Nat.{ℕ}
 use Rattle.meaning.specs.Tree.{Action, Process, node, actionOf}
 use Rattle.meaning.specs.State.{State, Program, processAt, whole, Write, writeCell, writeAll, StateChange, Effect}
+use Rattle.meaning.specs.Labels.{Label}
+use Rattle.meaning.specs.Readings.{Sheet}
 use Rattle.meaning.specs.Settle.{settled}
-use Rattle.meaning.specs.Intent.{Sheet, openOffer, inputOffer, Intent, intent}
-use Rattle.meaning.specs.Ready.{Label, effectOf, intentAt}
+use Rattle.meaning.specs.Intent.{openOffer, inputOffer, Intent, intent}
+use Rattle.meaning.specs.Ready.{effectOf, intentAt}
 use Rattle.meaning.specs.Step.{Step}
 pub use Rattle.agreement.specs.RowsOfSteps.{NoneOf}
 use Rattle.agreement.proofs.Commute.{own, At}
@@ -17,7 +19,7 @@ use Rattle.agreement.proofs.Takeable.{DistinctOptions}
 use Rattle.agreement.proofs.Fit.{Apt, Fit}
 use Rattle.agreement.proofs.Near.{near}
 use Rattle.agreement.proofs.Proper.{AllOwned, offer-proper}
-use Rattle.agreement.proofs.Active.{RowOf, its, receiver, sender, chooser, selector, giver, offerAt-is, Active, acts-alone, passes-on, takes-open, takes-input, active, effect-same}
+use Rattle.agreement.proofs.Active.{RowOf, of-own, of-input, of-output, of-alt, of-alt-input, of-alt-output, offerAt-is, Active, acts-alone, passes-on, takes-open, takes-input, active, effect-same}
 use Rattle.agreement.proofs.Working.{acts, Inv, Works, works, works-at, works-proper, works-apart, frontier-does}
 use Rattle.agreement.proofs.Invariant.{same-state, partsOf, step-parts, settled-leaps, keeps-inv, effect-step, step-effect}
 use Rattle.agreement.proofs.Writes.{AllBy, near-writes, writes-comm}
@@ -33,10 +35,10 @@ MadeBy x [] = Unit {0}
 MadeBy x (m ∷ l) = RowOf x (m .by) × MadeBy x l
 
 made-by : {w : ℕ → Intent} {x : Label} {e : Effect} → Active w x e → MadeBy x (e .changes)
-made-by (acts-alone h) = (its, tt)
-made-by (passes-on h g) = (receiver, (sender, tt))
-made-by (takes-open h g) = (chooser, tt)
-made-by (takes-input h g f) = (selector, (giver, tt))
+made-by (acts-alone h) = (of-own, tt)
+made-by (passes-on h g) = (of-input, (of-output, tt))
+made-by (takes-open h g) = (of-alt, tt)
+made-by (takes-input h g f) = (of-alt-input, (of-alt-output, tt))
 
 differ-of : (x y : Label) → RowsApart x y → (r : ℕ) → RowOf x r → (q : Part) → q .b ≡ r → (m : List StateChange) → MadeBy y m → Differ q (partsOf m)
 differ-of x y d r h q e [] g = tt
@@ -57,12 +59,12 @@ module _ (P : Program) (n : ℕ) (F : Fit P n) (sheet : Sheet) where
   Of s x k = (r : ℕ) × RowOf x r × ((A : Works P n F sheet s r) × (A .action ≡ k))
 
   row-works : (s : State) {x : Label} {e : Effect} → Inv P n F sheet s → Active (intentAt P sheet s) x e → (r : ℕ) → RowOf x r → Works P n F sheet s r
-  row-works s i (acts-alone h) r its = works P n F sheet s r i (ap acts h)
-  row-works s i (passes-on h g) r receiver = works P n F sheet s r i (ap acts h)
-  row-works s i (passes-on h g) r sender = works P n F sheet s r i (ap acts g)
-  row-works s i (takes-open h g) r chooser = works P n F sheet s r i (ap acts h)
-  row-works s i (takes-input h g f) r selector = works P n F sheet s r i (ap acts h)
-  row-works s i (takes-input h g f) r giver = works P n F sheet s r i (ap acts f)
+  row-works s i (acts-alone h) r of-own = works P n F sheet s r i (ap acts h)
+  row-works s i (passes-on h g) r of-input = works P n F sheet s r i (ap acts h)
+  row-works s i (passes-on h g) r of-output = works P n F sheet s r i (ap acts g)
+  row-works s i (takes-open h g) r of-alt = works P n F sheet s r i (ap acts h)
+  row-works s i (takes-input h g f) r of-alt-input = works P n F sheet s r i (ap acts h)
+  row-works s i (takes-input h g f) r of-alt-output = works P n F sheet s r i (ap acts f)
 
   owned-by : (s : State) (x : Label) (r : ℕ) → RowOf x r → (A : Works P n F sheet s r) (ws : List Write) → AllOwned (F .source) (F .sink) (A .action) ws → AllBy (F .source) (F .sink) (Of s x) ws
   owned-by s x r m A [] h = tt
@@ -72,16 +74,16 @@ module _ (P : Program) (n : ℕ) (F : Fit P n) (sheet : Sheet) where
   writes-by : (s : State) {x : Label} {e : Effect} → Inv P n F sheet s → Active (intentAt P sheet s) x e → AllBy (F .source) (F .sink) (Of s x) (e .writes)
   writes-by s i (acts-alone {r} {ws} h) =
       let A = works P n F sheet s r i (ap acts h) in
-      owned-by s _ r its A ws (works-proper P n F sheet s r A h .1)
+      owned-by s _ r of-own A ws (works-proper P n F sheet s r A h .1)
   writes-by s i (passes-on {i = r} {a} {z} h g) =
       let A = works P n F sheet s r i (ap acts h) in
-      owned-by s _ r receiver A (writeCell a z ∷ []) (works-proper P n F sheet s r A h .1, tt)
+      owned-by s _ r of-input A (writeCell a z ∷ []) (works-proper P n F sheet s r A h .1, tt)
   writes-by s i (takes-open {r} {j} {q} {i = k} {ws} {os} h g) =
       let A = works P n F sheet s r i (ap acts h) in
-      owned-by s _ r chooser A ws (offer-proper (F .source) (F .sink) (A .action) (A .members) (openOffer k q ws) os (works-proper P n F sheet s r A h) (offerAt-is j (openOffer k q ws) os g .0) .2)
+      owned-by s _ r of-alt A ws (offer-proper (F .source) (F .sink) (A .action) (A .listed) (openOffer k q ws) os (works-proper P n F sheet s r A h) (offerAt-is j (openOffer k q ws) os g .0) .2)
   writes-by s i (takes-input {r} {j} {q} {i = k} {e = d} {a} {z} {os} h g f) =
       let A = works P n F sheet s r i (ap acts h) in
-      owned-by s _ r selector A (writeCell a z ∷ []) (offer-proper (F .source) (F .sink) (A .action) (A .members) (inputOffer k q d a) os (works-proper P n F sheet s r A h) (offerAt-is j (inputOffer k q d a) os g .0) .3, tt)
+      owned-by s _ r of-alt-input A (writeCell a z ∷ []) (offer-proper (F .source) (F .sink) (A .action) (A .listed) (inputOffer k q d a) os (works-proper P n F sheet s r A h) (offerAt-is j (inputOffer k q d a) os g .0) .3, tt)
 
   store-of : (e : Effect) (s : State) → settled P e s .store ≡ writeAll (e .writes) (s .store)
   unfolding settled
@@ -104,8 +106,8 @@ module _ (P : Program) (n : ℕ) (F : Fit P n) (sheet : Sheet) where
     works-same {x} {e} A r d C =
         let k = C .action in
         let t = settled P e s in
-        let z : processAt P r ≡ node k r (C .members) = F .placed k r (C .members) (C .sub) in
-        let g = near (F .source) (F .sink) sheet (s .store) (writeAll (e .writes) (s .store)) k r (F .hosts k r (C .members) (C .sub))
+        let z : processAt P r ≡ node k r (C .listed) = F .placed k r (C .listed) (C .sub) in
+        let g = near (F .source) (F .sink) sheet (s .store) (writeAll (e .writes) (s .store)) k r (F .hosts k r (C .listed) (C .sub))
         (near-writes (F .source) (F .sink) (Of s x) k (λ j (q, h, (B, f)). rw (← f) (works-apart P n F sheet s q r i B C (d q h))) (e .writes) (s .store) (writes-by s i A)) in
         frontier-does P n F sheet t r r 2 (works-stays A r d C) ∙ ap (λ (p : Process). intent sheet (actionOf p) r (t .store)) z ∙ ap (intent sheet k r) (store-of e s) ∙ sym g ∙ sym (C .does)
 

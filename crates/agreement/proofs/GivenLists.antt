@@ -8,16 +8,17 @@ use native.Mathlib.Decide.{decLt}
 use lib.IntN.{ℤ, pos}
 use lib.ListN.{length, getD, take, drop, replicate, length-append, length-map, List·getD-append, List·getD-map, List·getD-eq-default}
 use lib.Seq.{drop-append-add, getD-append-add, take-at}
-use Rattle.meaning.specs.Limits.{maxPorts, maxCapacity}
-use Rattle.meaning.specs.State.{Message, State}
+use Rattle.meaning.specs.Limits.{maxHostChannels, maxCapacity}
+use Rattle.meaning.specs.State.{State}
 use Rattle.meaning.specs.Buffers.{Buffers, sized, numberIn, capacities, strips, encode}
 use Rattle.meaning.specs.Decode.{sumTo, countIn, stripIn, givenIn}
 use Rattle.meaning.proofs.LentLaws.{sized-length, sized-front, sized-at, lent-at, lent-part}
 use Rattle.meaning.specs.Answers.{check}
 use Rattle.meaning.specs.Order.{OrderOf}
-use Rattle.meaning.specs.Intent.{Sheet}
-use Rattle.meaning.specs.Ready.{Label}
 use Rattle.meaning.specs.Declarations.{capacityAt, channels}
+use Rattle.meaning.specs.Values.{Message}
+use Rattle.meaning.specs.Labels.{Label}
+use Rattle.meaning.specs.Readings.{Sheet}
 use Rattle.agreement.proofs.HostOutputs.{HostOut, host-out}
 use Rattle.agreement.proofs.OrdersCoherent.{orders-coherent}
 
@@ -68,9 +69,9 @@ module _ (rows : List ℤ) (s : State) (b : Buffers) (port : ℕ) where
   abbrev given : List Message
   given = getD (s .store .outputs) port []
 
-  pub counted : port < maxPorts → countIn port (encode rows s b) ≡ length given
+  pub counted : port < maxHostChannels → countIn port (encode rows s b) ≡ length given
   unfolding encode
-  counted h = lent-at 0 maxPorts port (map length (s .store .outputs)) (b .counts) h ∙ List·getD-map length (s .store .outputs) port []
+  counted h = lent-at 0 maxHostChannels port (map length (s .store .outputs)) (b .counts) h ∙ List·getD-map length (s .store .outputs) port []
 
   pub numbers-given : HostOut rows port → port < length (capacities rows) → length given ≤ getD (capacities rows) port 0 → givenIn rows port (encode rows s b) ≡ map numberIn given
   unfolding encode

@@ -2,7 +2,7 @@
 use mathlib.Core.Path.{_≡_, refl, sym, _∙_}
 use mathlib.Core.List.{List, _∷_, List·Memᴰ, List·Memᴰ·tail, Memᴰ·append-left, Memᴰ·append-right}
 use Prim.Native.Nat.{ℕ}
-use Rattle.meaning.specs.Tree.{Action, Process, node, Members, also, rowOf, rowsIn, rowsBeneath}
+use Rattle.meaning.specs.Tree.{Action, Process, node, Processes, also, rowOf, rowsIn, rowsBeneath}
 use Rattle.meaning.specs.SettlingRules.{Among, Next, Inside}
 use Rattle.agreement.proofs.Frame.{row-in}
 use Rattle.agreement.proofs.Reach.{Agree, Sub, SubM, self, inside, front, back}
@@ -14,22 +14,22 @@ Within (node k r ms) p = Sub k r ms p
 within-itself : (p : Process) → Within p p
 within-itself (node k r ms) = self
 
-member-within : (q : Process) (ms : Members) → Among q ms → (k : Action) (r : ℕ) (ps : Members) → q ≡ node k r ps → SubM k r ps ms
-member-within q (also p ms) Among.first k r ps e = front {p = q} (rw e self)
-member-within q (also p ms) (Among.later a) k r ps e = back (member-within q ms a k r ps e)
+member-within : (q : Process) (ms : Processes) → Among q ms → (k : Action) (r : ℕ) (ps : Processes) → q ≡ node k r ps → SubM k r ps ms
+member-within q (also p ms) Among.among-first k r ps e = front {p = q} (rw e self)
+member-within q (also p ms) (Among.among-later a) k r ps e = back (member-within q ms a k r ps e)
 
 -- what stands in a process that stands in another stands in that one
-module _ {a : Action} {r : ℕ} {ms : Members} {k : Action} {i : ℕ} {ps : Members} (m : SubM k i ps ms) where
+module _ {a : Action} {r : ℕ} {ms : Processes} {k : Action} {i : ℕ} {ps : Processes} (m : SubM k i ps ms) where
   mutual
     sub-under : (p : Process) → Sub a r ms p → Sub k i ps p
     sub-under (node k′ r′ qs) self = inside m
     sub-under (node k′ r′ qs) (inside h) = inside (subM-under qs h)
 
-    subM-under : (qs : Members) → SubM a r ms qs → SubM k i ps qs
+    subM-under : (qs : Processes) → SubM a r ms qs → SubM k i ps qs
     subM-under (also p qs) (front h) = front (sub-under p h)
     subM-under (also p qs) (back h) = back (subM-under qs h)
 
-within-member : (p q : Process) (a : Action) (r : ℕ) (ms : Members) → Sub a r ms p → Among q ms → Within q p
+within-member : (p q : Process) (a : Action) (r : ℕ) (ms : Processes) → Sub a r ms p → Among q ms → Within q p
 within-member p (node k i ps) a r ms h m = sub-under (member-within (node k i ps) ms m k i ps refl) p h
 
 pub within-of : {whole q : Process} → Inside whole q → Within q whole
@@ -37,26 +37,26 @@ within-of {whole} Inside.itself = within-itself whole
 within-of {whole} (Inside.beneath {a} {r} {ms} {q} i m) = within-member whole q a r ms (within-of i) m
 
 -- the rows beneath a process are rows of each process that it stands in
-module _ {k : Action} {r : ℕ} {ms : Members} {x : ℕ} (m : List·Memᴰ x (r ∷ rowsBeneath ms)) where
+module _ {k : Action} {r : ℕ} {ms : Processes} {x : ℕ} (m : List·Memᴰ x (r ∷ rowsBeneath ms)) where
   mutual
     pub sub-rows : (p : Process) → Sub k r ms p → List·Memᴰ x (rowsIn p)
     sub-rows (node k′ r′ ps) self = m
     sub-rows (node k′ r′ ps) (inside h) = List·Memᴰ·tail (subM-rows ps h)
 
-    pub subM-rows : (ps : Members) → SubM k r ms ps → List·Memᴰ x (rowsBeneath ps)
+    pub subM-rows : (ps : Processes) → SubM k r ms ps → List·Memᴰ x (rowsBeneath ps)
     subM-rows (also p ps) (front h) = Memᴰ·append-left (rowsBeneath ps) (sub-rows p h)
     subM-rows (also p ps) (back h) = Memᴰ·append-right (rowsIn p) (subM-rows ps h)
 
-pub among-row : {q : Process} {ms : Members} → Among q ms → List·Memᴰ (rowOf q) (rowsBeneath ms)
-among-row {q} (Among.first {ms}) = Memᴰ·append-left (rowsBeneath ms) (row-in q)
-among-row (Among.later {p} a) = Memᴰ·append-right (rowsIn p) (among-row a)
+pub among-row : {q : Process} {ms : Processes} → Among q ms → List·Memᴰ (rowOf q) (rowsBeneath ms)
+among-row {q} (Among.among-first {ms}) = Memᴰ·append-left (rowsBeneath ms) (row-in q)
+among-row (Among.among-later {p} a) = Memᴰ·append-right (rowsIn p) (among-row a)
 
-pub next-among : {s : List ℕ} {q : Process} {ms : Members} → Next s q ms → Among q ms
-next-among Next.here = Among.first
-next-among (Next.after e x) = Among.later (next-among x)
+pub next-among : {s : List ℕ} {q : Process} {ms : Processes} → Next s q ms → Among q ms
+next-among Next.next-here = Among.among-first
+next-among (Next.next-after e x) = Among.among-later (next-among x)
 
 module _ (s t : List ℕ) where
-  pub next-agree : {q : Process} (ms : Members) → Agree (rowsBeneath ms) s t → Next t q ms → Next s q ms
-  next-agree (also p ms) g Next.here = Next.here
-  next-agree (also p ms) g (Next.after e x) =
-      Next.after (sym (g (rowOf p) (Memᴰ·append-left (rowsBeneath ms) (row-in p))) ∙ e) (next-agree ms (λ y q. g y (Memᴰ·append-right (rowsIn p) q)) x)
+  pub next-agree : {q : Process} (ms : Processes) → Agree (rowsBeneath ms) s t → Next t q ms → Next s q ms
+  next-agree (also p ms) g Next.next-here = Next.next-here
+  next-agree (also p ms) g (Next.next-after e x) =
+      Next.next-after (sym (g (rowOf p) (Memᴰ·append-left (rowsBeneath ms) (row-in p))) ∙ e) (next-agree ms (λ y q. g y (Memᴰ·append-right (rowsIn p) q)) x)

@@ -10,10 +10,12 @@ use lib.Seq.{getD-set-other}
 use Rattle.meaning.specs.Tree.{Process, rowsIn}
 use Rattle.meaning.specs.Settle.{settle, start, settled}
 use Rattle.meaning.specs.State.{Store, State, Program, whole, StateChange, changeState, changeStates, Effect}
-use Rattle.meaning.specs.Intent.{Sheet, openOffer, inputOffer}
-use Rattle.meaning.specs.Ready.{Label, intentAt, effectOf}
+use Rattle.meaning.specs.Labels.{Label}
+use Rattle.meaning.specs.Readings.{Sheet}
+use Rattle.meaning.specs.Intent.{openOffer, inputOffer}
+use Rattle.meaning.specs.Ready.{intentAt, effectOf}
 use Rattle.meaning.specs.Step.{Leaves, Step}
-use Rattle.meaning.specs.Order.{Order, halt, then}
+use Rattle.meaning.specs.Order.{Order, halt, next-step}
 use Rattle.agreement.proofs.Frame.{see-local, length-local, off-look}
 use Rattle.agreement.proofs.Again.{Out}
 use Rattle.agreement.proofs.Commute.{own, child, at-in}
@@ -57,11 +59,11 @@ module _ (P : Program) (n : ℕ) (F : Fit P n) (sheet : Sheet) where
   )
   step-parts s i (takes-open {r} {j} {q} {i = k} {ws} {os} h g) =
       let W = works P n F sheet s r i (ap acts h) in
-      let p = offer-proper (F .source) (F .sink) (W .action) (W .members) (openOffer k q ws) os (works-proper P n F sheet s r W h) (offerAt-is j (openOffer k q ws) os g .0) in
+      let p = offer-proper (F .source) (F .sink) (W .action) (W .listed) (openOffer k q ws) os (works-proper P n F sheet s r W h) (offerAt-is j (openOffer k q ws) os g .0) in
       ((works-at P n F sheet s r q 1 i W (child (p .1) refl), tt), (tt, tt))
   step-parts s i (takes-input {r} {j} {o} {q} {i = k} {e = d} {a} {os} h g f) =
       let W = works P n F sheet s r i (ap acts h) in
-      let p = offer-proper (F .source) (F .sink) (W .action) (W .members) (inputOffer k q d a) os (works-proper P n F sheet s r W h) (offerAt-is j (inputOffer k q d a) os g .0) in (
+      let p = offer-proper (F .source) (F .sink) (W .action) (W .listed) (inputOffer k q d a) os (works-proper P n F sheet s r W h) (offerAt-is j (inputOffer k q d a) os g .0) in (
         (works-at P n F sheet s r q 1 i W (child (p .1) refl), (works-at P n F sheet s o o 2 i (works P n F sheet s o i (ap acts f)) (own 0 refl refl), tt)),
         ((λ e. output-selects (ap (intentAt P sheet s) e ∙ f) h, tt), (tt, tt)),
       )
@@ -145,4 +147,4 @@ module _ (P : Program) (n : ℕ) (F : Fit P n) (sheet : Sheet) where
 
     pub order-inv : {s t : State} {l : List Label} → Inv P n F sheet s → Order P sheet s l t → Inv P n F sheet t
     order-inv i halt = i
-    order-inv i (then {s} {t} {x} h o) = order-inv (step-inv s x t i h) o
+    order-inv i (next-step {s} {t} {x} h o) = order-inv (step-inv s x t i h) o

@@ -5,9 +5,9 @@ use mathlib.Core.List.{List, [], _∷_}
 use Prim.Native.Nat.{ℕ, zero, suc}
 use lib.ListN.{length, getD, set}
 use Rattle.meaning.specs.Tree.{Process, rowOf, rowsBeneath}
-use Rattle.meaning.specs.Settle.{makeIdle, settle}
-use Rattle.meaning.specs.SettlingRules.{Settles, skip-ends, seq-starts, par-starts, seq-ends, par-ends, if-ends, alt-ends, while-again, Settling, rest, then}
-use Rattle.meaning.specs.State.{StateChange, changeState, changeStates}
+use Rattle.meaning.specs.Settle.{settle}
+use Rattle.meaning.specs.SettlingRules.{Settles, skip-ends, seq-starts, par-starts, seq-ends, par-ends, if-ends, alt-ends, while-again, Settling, no-change, next-change}
+use Rattle.meaning.specs.State.{makeIdle, StateChange, changeState, changeStates}
 use Rattle.agreement.specs.Coherence.{RowState}
 use Rattle.agreement.proofs.Again.{Sound}
 use Rattle.agreement.proofs.Settled.{Plain, settles}
@@ -51,8 +51,8 @@ module _ (whole : Process) where
   rule-known s t (while-again {ms} x y z) = idle-known (rowsBeneath ms) s
 
   settling-known : (s t : List ℕ) → Settling whole s t → Known s → Known t
-  settling-known s t rest h = h
-  settling-known s t (then {t = m} k j) h = settling-known m t j (rule-known s m k h)
+  settling-known s t no-change h = h
+  settling-known s t (next-change {t = m} k j) h = settling-known m t j (rule-known s m k h)
 
   pub settle-known : (n : ℕ) → Sound whole n → Plain whole → (s : List ℕ) → length s ≡ n → Known s → Known (settle whole false s)
   settle-known n d p s l h = settling-known s (settle whole false s) (settles whole n d p s l) h

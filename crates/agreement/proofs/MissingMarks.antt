@@ -10,11 +10,11 @@ use lib.IntN.{ℤ}
 use lib.ListN.{length, getD, take, drop, replicate, List·getD-map, length-map}
 use lib.Dec.{eqb}
 use lib.Seq.{take-at}
-use borrow.Author.Tests.{eqb-false}
 use Rattle.meaning.specs.Basics.{ifElse}
+use borrow.Author.Tests.{eqb-false}
 use Rattle.meaning.specs.Limits.{maxCells}
-use Rattle.meaning.specs.Values.{value}
-use Rattle.meaning.specs.State.{Message, State}
+use Rattle.meaning.specs.Values.{Message, value}
+use Rattle.meaning.specs.State.{State}
 use Rattle.meaning.specs.Intent.{intent}
 use Rattle.meaning.specs.Ready.{ready, after}
 use Rattle.meaning.specs.Run.{go}

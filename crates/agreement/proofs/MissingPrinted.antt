@@ -3,7 +3,7 @@ use mathlib.Core.Path.{_≡_, refl, sym, ap, subst, _∙_}
 use mathlib.Core.Logic.{_⊎_, inl, inr, _↔_}
 use mathlib.Core.Bool.{Bool, true, false}
 use mathlib.Core.Option.{none, some, Option·none-ne-some}
-use mathlib.Core.List.{List, [], _∷_, _++_, map, List·Memᴰ, List·Memᴰ·head, List·Memᴰ·tail, Memᴰ·append-left, Memᴰ·append-right, List·Memᴰ·append-cases, Memᴰ·cast}
+use mathlib.Core.List.{List, [], _∷_, _++_, map, List·Memᴰ, List·Memᴰ·head, List·Memᴰ·tail, Memᴰ·append-left, Memᴰ·append-right, List·Memᴰ·append-cases, Memᴰ·cast, flatten}
 use Prim.Native.Nat.{ℕ, zero, suc, _+_, _-_, _<_}
 use native.Mathlib.Nat.{zero-add, add-zero}
 use native.Mathlib.Omega.{arith}
@@ -12,17 +12,17 @@ use lib.ListN.{length, getD, drop, length-take, length-drop}
 use lib.Seq.{getD-take, getD-drop}
 use lib.Dec.{leb}
 use Rattle.meaning.specs.declared.Answer.the-variants.{Ran}
-use Rattle.meaning.specs.Rows.{ifElse}
-use Rattle.meaning.specs.Basics.{concat}
+use Rattle.meaning.specs.Basics.{ifElse}
 use Rattle.meaning.specs.Limits.{maxCells}
 use Rattle.meaning.specs.Numerals.{natural, decimal, printed}
 use Rattle.meaning.specs.Declarations.{sumBelow, cellsAt, variables, channels}
-use Rattle.meaning.specs.State.{Message, State}
-use Rattle.meaning.specs.Run.{Result}
+use Rattle.meaning.specs.Values.{Message}
+use Rattle.meaning.specs.State.{State}
+use Rattle.meaning.specs.Run.{RunResult}
 use Rattle.meaning.specs.Buffers.{Buffers, mark, encode}
-use Rattle.meaning.specs.Printing.{Word, outcome, var, out, stop, refusal, Line, line, numbered, cellsOf, cellLines, outLines, stopLines, answerLine, runLines, valueBytes}
+use Rattle.meaning.specs.Printing.{Word, outcomeWord, varWord, outWord, stopWord, refusedWord, Line, line, numbered, cellsOf, cellLines, outLines, stopLines, answerLine, runLines, valueBytes}
 use Rattle.meaning.proofs.NumeralLaws.{natural-decimal}
-use Rattle.agreement.specs.MissingClaims.{cellOf, cellNumber, PrintedEmpty, VariableLines, CellsPrinted}
+use Rattle.agreement.specs.MissingClaims.{cellAt, cellNumber, PrintedEmpty, VariableLines, CellsPrinted}
 use Rattle.agreement.proofs.MissingMarks.{encoded-cells}
 
 -- a list with an element is not empty
@@ -48,11 +48,11 @@ printed-empty (some z) = (λ e. absurd (printed-filled z e), λ e. absurd (omega
 
 -- words told apart by a number
 wordNumber : Word → ℕ
-wordNumber (outcome o) = 0
-wordNumber var = 1
-wordNumber out = 2
-wordNumber stop = 3
-wordNumber refusal = 4
+wordNumber (outcomeWord o) = 0
+wordNumber varWord = 1
+wordNumber outWord = 2
+wordNumber stopWord = 3
+wordNumber refusedWord = 4
 
 -- a line of a numbered list: its place, and the element there
 numbered-line : (w : Word) (r i : ℕ) (vs : List Message) (l : Line) → List·Memᴰ l (numbered w r i vs) → (j : ℕ) × (j < length vs) × (l ≡ line w r (i + j) (getD vs j none))
@@ -73,18 +73,18 @@ line-numbered w r i (v ∷ vs) (suc j) h =
     List·Memᴰ·tail (Memᴰ·cast (ap (λ (k : ℕ). line w r k (getD vs j none)) next) (line-numbered w r (suc i) vs j (omega arith)))
 
 module _ (f : ℕ → List Line) where
-  in-some : (vs : List ℕ) (l : Line) → List·Memᴰ l (concat (map f vs)) → (v : ℕ) × List·Memᴰ v vs × List·Memᴰ l (f v)
-  unfolding concat
+  in-some : (vs : List ℕ) (l : Line) → List·Memᴰ l (flatten (map f vs)) → (v : ℕ) × List·Memᴰ v vs × List·Memᴰ l (f v)
+  unfolding flatten
   in-some [] l m = absurd (elim m [ ])
   in-some (v ∷ vs) l m = go (List·Memᴰ·append-cases (f v) m) (λ k. in-some vs l k)
     where
-      go : List·Memᴰ l (f v) ⊎ List·Memᴰ l (concat (map f vs)) → (List·Memᴰ l (concat (map f vs)) → (u : ℕ) × List·Memᴰ u vs × List·Memᴰ l (f u)) → (u : ℕ) × List·Memᴰ u (v ∷ vs) × List·Memᴰ l (f u)
+      go : List·Memᴰ l (f v) ⊎ List·Memᴰ l (flatten (map f vs)) → (List·Memᴰ l (flatten (map f vs)) → (u : ℕ) × List·Memᴰ u vs × List·Memᴰ l (f u)) → (u : ℕ) × List·Memᴰ u (v ∷ vs) × List·Memᴰ l (f u)
       go (inl h) ih = (v, List·Memᴰ·head refl, h)
       go (inr h) ih = let (u, k, g) = ih h in (u, List·Memᴰ·tail k, g)
 
-  some-in : (vs : List ℕ) (v : ℕ) (l : Line) → List·Memᴰ v vs → List·Memᴰ l (f v) → List·Memᴰ l (concat (map f vs))
-  unfolding concat
-  some-in (u ∷ vs) v l (List·Memᴰ·head e) h = Memᴰ·append-left (concat (map f vs)) (subst (λ (x : ℕ). List·Memᴰ l (f x)) e h)
+  some-in : (vs : List ℕ) (v : ℕ) (l : Line) → List·Memᴰ v vs → List·Memᴰ l (f v) → List·Memᴰ l (flatten (map f vs))
+  unfolding flatten
+  some-in (u ∷ vs) v l (List·Memᴰ·head e) h = Memᴰ·append-left (flatten (map f vs)) (subst (λ (x : ℕ). List·Memᴰ l (f x)) e h)
   some-in (u ∷ vs) v l (List·Memᴰ·tail m) h = Memᴰ·append-right (f u) (some-in vs v l m h)
 
 -- ---- the lines of a run
@@ -102,30 +102,30 @@ module _ (rows : List ℤ) (cells : List Message) where
   cell-line : (l : Line) → List·Memᴰ l (cellLines rows cells) → (l .at < cellsAt rows (l .name)) × (l .value ≡ getD cells (cellNumber rows (l .name) (l .at)) none)
   unfolding cellLines
   cell-line l m =
-      let (r, k, h) = in-some (λ r. numbered var r 0 (cellsOf rows cells r)) (variables rows) l m in
-      let (j, g, e) = numbered-line var r 0 (cellsOf rows cells r) l h in
+      let (r, k, h) = in-some (λ r. numbered varWord r 0 (cellsOf rows cells r)) (variables rows) l m in
+      let (j, g, e) = numbered-line varWord r 0 (cellsOf rows cells r) l h in
       let (b, q) = cell-at r j g in
       rw (e, zero-add j) (b, q)
 
   cell-printed : (v i : ℕ) → List·Memᴰ v (variables rows) → i < cellsAt rows v → cellNumber rows v i < length cells
-      → List·Memᴰ (line var v i (getD cells (cellNumber rows v i) none)) (cellLines rows cells)
+      → List·Memᴰ (line varWord v i (getD cells (cellNumber rows v i) none)) (cellLines rows cells)
   unfolding cellLines
   cell-printed v i m h g =
       let n = cellsAt rows v in
       let k = sumBelow (cellsAt rows) v in
       let b : i < length (cellsOf rows cells v) = omega (arith, length-take n (drop k cells), length-drop k cells) in
-      some-in (λ r. numbered var r 0 (cellsOf rows cells r)) (variables rows) v _ m
-      (rw (zero-add i, cell-at v i b .1) at (line-numbered var v 0 (cellsOf rows cells v) i b))
+      some-in (λ r. numbered varWord r 0 (cellsOf rows cells r)) (variables rows) v _ m
+      (rw (zero-add i, cell-at v i b .1) at (line-numbered varWord v 0 (cellsOf rows cells v) i b))
 
 -- no line of an output or a stop is a variable's
 out-word : (cs : List ℕ) (xss : List (List Message)) (l : Line) → List·Memᴰ l (outLines cs xss) → wordNumber (l .what) ≡ 2
 unfolding outLines wordNumber
 out-word [] xss l m = absurd (elim m [ ])
 out-word (c ∷ cs) [] l m = absurd (elim m [ ])
-out-word (c ∷ cs) (xs ∷ xss) l m = go (List·Memᴰ·append-cases (numbered out c 0 xs) m) (λ k. out-word cs xss l k)
+out-word (c ∷ cs) (xs ∷ xss) l m = go (List·Memᴰ·append-cases (numbered outWord c 0 xs) m) (λ k. out-word cs xss l k)
   where
-    go : List·Memᴰ l (numbered out c 0 xs) ⊎ List·Memᴰ l (outLines cs xss) → (List·Memᴰ l (outLines cs xss) → wordNumber (l .what) ≡ 2) → wordNumber (l .what) ≡ 2
-    go (inl h) ih = let (j, g, e) = numbered-line out c 0 xs l h in ap (λ (k : Line). wordNumber (k .what)) e
+    go : List·Memᴰ l (numbered outWord c 0 xs) ⊎ List·Memᴰ l (outLines cs xss) → (List·Memᴰ l (outLines cs xss) → wordNumber (l .what) ≡ 2) → wordNumber (l .what) ≡ 2
+    go (inl h) ih = let (j, g, e) = numbered-line outWord c 0 xs l h in ap (λ (k : Line). wordNumber (k .what)) e
     go (inr h) ih = ih h
 
 stop-word : (r : ℕ) (qs : List ℕ) (l : Line) → List·Memᴰ l (stopLines r qs) → wordNumber (l .what) ≡ 3
@@ -133,12 +133,12 @@ unfolding stopLines wordNumber
 stop-word r [] l m = absurd (elim m [ ])
 stop-word r (q ∷ qs) l m = go (leb 10 q) m (λ k. stop-word (suc r) qs l k)
   where
-    go : (t : Bool) → List·Memᴰ l (ifElse t (line stop r 0 (some (pos (q - 10))) ∷ []) [] ++ stopLines (suc r) qs) → (List·Memᴰ l (stopLines (suc r) qs) → wordNumber (l .what) ≡ 3) → wordNumber (l .what) ≡ 3
+    go : (t : Bool) → List·Memᴰ l (ifElse t (line stopWord r 0 (some (pos (q - 10))) ∷ []) [] ++ stopLines (suc r) qs) → (List·Memᴰ l (stopLines (suc r) qs) → wordNumber (l .what) ≡ 3) → wordNumber (l .what) ≡ 3
     go true (List·Memᴰ·head e) ih = ap (λ (k : Line). wordNumber (k .what)) e
     go true (List·Memᴰ·tail k) ih = ih k
     go false k ih = ih k
 
-module _ (rows : List ℤ) (r : Result) where
+module _ (rows : List ℤ) (r : RunResult) where
   -- a variable's line is a line of the cells
   among-cells : (l : Line) → List·Memᴰ l (runLines rows r) → wordNumber (l .what) ≡ 1 → List·Memᴰ l (cellLines rows (r .state .store .cells))
   unfolding runLines answerLine wordNumber
@@ -159,7 +159,7 @@ module _ (rows : List ℤ) (r : Result) where
       go (inr k) = absurd (omega (arith, stop-word 0 (r .state .states) l k))
 
 -- the mark of a cell in the lent buffers, and its printed field
-empty-field : (rows : List ℤ) (s : State) (b : Buffers) (a : ℕ) → a < maxCells → (m : Message) → m ≡ cellOf s a → (valueBytes m ≡ []) ↔ (getD (encode rows s b .marks) a 0 ≡ 0)
+empty-field : (rows : List ℤ) (s : State) (b : Buffers) (a : ℕ) → a < maxCells → (m : Message) → m ≡ cellAt s a → (valueBytes m ≡ []) ↔ (getD (encode rows s b .marks) a 0 ≡ 0)
 empty-field rows s b a h m e =
     let q : getD (encode rows s b .marks) a 0 ≡ mark m = encoded-cells rows s b a h .0 ∙ ap mark (sym e) in
     (λ k. q ∙ printed-empty m .0 k, λ k. printed-empty m .1 (sym q ∙ k))

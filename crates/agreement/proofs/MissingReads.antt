@@ -1,57 +1,57 @@
 -- Reading an unset cell where a value is needed makes the step a stop with reason 1, and nothing else does. It holds of every table.
 use mathlib.Core.List.{List}
-use Rattle.meaning.specs.Tree.{Receive, IfChoice, AltOption, Action}
-use Rattle.meaning.specs.State.{Message}
+use Rattle.meaning.specs.Tree.{ChannelInput, IfChoice, AltOption, Action}
+use Rattle.meaning.specs.Values.{Message}
 use Rattle.meaning.specs.Step.{LacksIn, channel-lacks, target-lacks, LacksTest, boolean-lacks, input-lacks, LacksOption, Lacks, assign-subscript, assign-value, input-subscript, output-subscript, output-value, while-test, if-test, alt-guard}
-use Rattle.agreement.specs.MissingClaims.{InputNeedsUnset, in-channel, in-target, TestNeedsUnset, in-test, in-later-test, OptionNeedsUnset, in-boolean, in-input, in-later-option, ActionNeedsUnset, assign-to, assign-from, in-receive, send-to, send-from, in-while, in-if, in-alt, UnsetLacks, UnsetStops}
+use Rattle.agreement.specs.MissingClaims.{InputNeedsUnset, in-channel, in-target, TestNeedsUnset, in-test, in-later-test, OptionNeedsUnset, in-boolean, in-guard-input, in-later-option, ActionNeedsUnset, assign-to, assign-from, in-input, output-to, output-from, in-while, in-if, in-alt, UnsetLacks, UnsetStops}
 use Rattle.agreement.proofs.MissingValues.{unset-read, unset-subscript}
 use Rattle.agreement.proofs.MissingStops.{lacking-only-stops}
 
 module _ (cells : List Message) where
   -- what needs an unset cell lacks a value for reason 1
-  input-lacks-it : (i : Receive) → InputNeedsUnset cells i → LacksIn cells i 1
+  input-lacks-it : (i : ChannelInput) → InputNeedsUnset cells i → LacksIn cells i 1
   input-lacks-it i (in-channel h) = channel-lacks (unset-subscript cells _ _ _ .1 h)
   input-lacks-it i (in-target e h) = target-lacks e (unset-subscript cells _ _ _ .1 h)
 
   test-lacks-it : (l : List IfChoice) → TestNeedsUnset cells l → LacksTest cells l 1
-  test-lacks-it l (in-test {t} h) = LacksTest.this (unset-read cells (t .boolean) .1 h)
-  test-lacks-it l (in-later-test {l = m} e h) = LacksTest.skip-false e (test-lacks-it m h)
+  test-lacks-it l (in-test {t} h) = LacksTest.test-lacks (unset-read cells (t .boolean) .1 h)
+  test-lacks-it l (in-later-test {l = m} e h) = LacksTest.false-before-lack e (test-lacks-it m h)
 
   option-lacks-it : (l : List AltOption) → OptionNeedsUnset cells l → LacksOption cells l 1
-  option-lacks-it l (in-boolean {b} h) = LacksOption.this (boolean-lacks (unset-read cells (b .guard .boolean) .1 h))
-  option-lacks-it l (in-input {i} t e h) = LacksOption.this (input-lacks t e (input-lacks-it i h))
+  option-lacks-it l (in-boolean {b} h) = LacksOption.option-lacks (boolean-lacks (unset-read cells (b .guard .boolean) .1 h))
+  option-lacks-it l (in-guard-input {i} t e h) = LacksOption.option-lacks (input-lacks t e (input-lacks-it i h))
   option-lacks-it l (in-later-option {l = m} e h) = LacksOption.pass-over e (option-lacks-it m h)
 
   lacks-it : (a : Action) → ActionNeedsUnset cells a → Lacks cells a 1
   lacks-it a (assign-to h) = assign-subscript (unset-subscript cells _ _ _ .1 h)
   lacks-it a (assign-from {f} e h) = assign-value e (unset-read cells f .1 h)
-  lacks-it a (in-receive {i} h) = input-subscript (input-lacks-it i h)
-  lacks-it a (send-to h) = output-subscript (unset-subscript cells _ _ _ .1 h)
-  lacks-it a (send-from {f} e h) = output-value e (unset-read cells f .1 h)
+  lacks-it a (in-input {i} h) = input-subscript (input-lacks-it i h)
+  lacks-it a (output-to h) = output-subscript (unset-subscript cells _ _ _ .1 h)
+  lacks-it a (output-from {f} e h) = output-value e (unset-read cells f .1 h)
   lacks-it a (in-while {e} h) = while-test (unset-read cells e .1 h)
   lacks-it a (in-if {ts} h) = if-test (test-lacks-it ts h)
   lacks-it a (in-alt {bs} h) = alt-guard (option-lacks-it bs h)
 
   -- and what lacks a value for reason 1 needs an unset cell
-  input-needs : (i : Receive) → LacksIn cells i 1 → InputNeedsUnset cells i
+  input-needs : (i : ChannelInput) → LacksIn cells i 1 → InputNeedsUnset cells i
   input-needs i (channel-lacks h) = in-channel (unset-subscript cells _ _ _ .0 h)
   input-needs i (target-lacks e h) = in-target e (unset-subscript cells _ _ _ .0 h)
 
   test-needs : (l : List IfChoice) → LacksTest cells l 1 → TestNeedsUnset cells l
-  test-needs l (LacksTest.this {t} h) = in-test (unset-read cells (t .boolean) .0 h)
-  test-needs l (LacksTest.skip-false {l = m} e h) = in-later-test e (test-needs m h)
+  test-needs l (LacksTest.test-lacks {t} h) = in-test (unset-read cells (t .boolean) .0 h)
+  test-needs l (LacksTest.false-before-lack {l = m} e h) = in-later-test e (test-needs m h)
 
   option-needs : (l : List AltOption) → LacksOption cells l 1 → OptionNeedsUnset cells l
-  option-needs l (LacksOption.this {b} (boolean-lacks h)) = in-boolean (unset-read cells (b .guard .boolean) .0 h)
-  option-needs l (LacksOption.this (input-lacks {i} t e h)) = in-input t e (input-needs i h)
+  option-needs l (LacksOption.option-lacks {b} (boolean-lacks h)) = in-boolean (unset-read cells (b .guard .boolean) .0 h)
+  option-needs l (LacksOption.option-lacks (input-lacks {i} t e h)) = in-guard-input t e (input-needs i h)
   option-needs l (LacksOption.pass-over {l = m} e h) = in-later-option e (option-needs m h)
 
   needs : (a : Action) → Lacks cells a 1 → ActionNeedsUnset cells a
   needs a (assign-subscript h) = assign-to (unset-subscript cells _ _ _ .0 h)
   needs a (assign-value {f} e h) = assign-from e (unset-read cells f .0 h)
-  needs a (input-subscript {i} h) = in-receive (input-needs i h)
-  needs a (output-subscript h) = send-to (unset-subscript cells _ _ _ .0 h)
-  needs a (output-value {f} e h) = send-from e (unset-read cells f .0 h)
+  needs a (input-subscript {i} h) = in-input (input-needs i h)
+  needs a (output-subscript h) = output-to (unset-subscript cells _ _ _ .0 h)
+  needs a (output-value {f} e h) = output-from e (unset-read cells f .0 h)
   needs a (while-test {e} h) = in-while (unset-read cells e .0 h)
   needs a (if-test {ts} h) = in-if (test-needs ts h)
   needs a (alt-guard {bs} h) = in-alt (option-needs bs h)

@@ -7,13 +7,14 @@ use Prim.Native.Nat.{ℕ, zero, suc}
 use lib.IntN.{ℤ}
 use lib.ListN.{getD, set, replicate}
 use lib.Seq.{getD-set-same}
-use Rattle.meaning.specs.State.{Message, Store, State, Program, program, writeAll, Effect}
+use Rattle.meaning.specs.Values.{Message}
+use Rattle.meaning.specs.State.{Store, State, Program, program, writeAll, Effect}
+use Rattle.meaning.specs.Labels.{Label}
+use Rattle.meaning.specs.Readings.{Sheet}
 use Rattle.meaning.specs.Settle.{settled}
-use Rattle.meaning.specs.Intent.{Sheet}
-use Rattle.meaning.specs.Ready.{Label}
-use Rattle.meaning.specs.Step.{sends, Host, Allows, Step, assignment, while-false, while-true, if-true, communication, host-read, host-write, alt-skip, alt-read, alt-communication, stopping}
-use Rattle.meaning.specs.Order.{Begins, Order, halt, then, OrderOf}
-use Rattle.agreement.specs.MissingClaims.{cellOf, Delivers, by-assignment, by-communication, by-reading, by-option-reading, by-option-communication, ReadsAbsent, input-absent, option-absent, SetOnly, SetByNumber, OnlyAbsentUnsets, DeliveredHolds, AbsentUnsets, SetInOrder}
+use Rattle.meaning.specs.Step.{inner-output, HostInput, Allows, Step, assignment, while-false, while-true, if-true, communication, host-read, host-write, alt-skip, alt-read, alt-communication, stopping}
+use Rattle.meaning.specs.Order.{Begins, Order, halt, next-step, OrderOf}
+use Rattle.agreement.specs.MissingClaims.{cellAt, Delivers, by-assignment, by-communication, by-reading, by-option-reading, by-option-communication, ReadsAbsent, input-absent, option-absent, SetOnly, SetByNumber, OnlyAbsentUnsets, DeliveredHolds, AbsentUnsets, SetInOrder}
 use Rattle.agreement.proofs.Takeable.{takeable}
 use Rattle.agreement.proofs.Steps.{distinct-options, allowed-step}
 use Rattle.agreement.proofs.Separate.{table-inv}
@@ -41,17 +42,17 @@ none-stored (x ∷ l) (suc a) = none-stored l a
 module _ (P : Program) (sheet : Sheet) (s : State) (x : Label) where
   -- the message m handed to cell b, seen at cell a
   handed : (b a : ℕ) (m : Message) → Delivers P sheet s x b m
-      → (getD (set (s .store .cells) b m) a none ≡ cellOf s a) ⊎ ((n : Message) × Delivers P sheet s x a n × (getD (set (s .store .cells) b m) a none ≡ n))
+      → (getD (set (s .store .cells) b m) a none ≡ cellAt s a) ⊎ ((n : Message) × Delivers P sheet s x a n × (getD (set (s .store .cells) b m) a none ≡ n))
   handed b a m d = go (stored-or-same (s .store .cells) b a m)
     where
-      go : (getD (set (s .store .cells) b m) a none ≡ cellOf s a) ⊎ ((b ≡ a) × (getD (set (s .store .cells) b m) a none ≡ m))
-          → (getD (set (s .store .cells) b m) a none ≡ cellOf s a) ⊎ ((n : Message) × Delivers P sheet s x a n × (getD (set (s .store .cells) b m) a none ≡ n))
+      go : (getD (set (s .store .cells) b m) a none ≡ cellAt s a) ⊎ ((b ≡ a) × (getD (set (s .store .cells) b m) a none ≡ m))
+          → (getD (set (s .store .cells) b m) a none ≡ cellAt s a) ⊎ ((n : Message) × Delivers P sheet s x a n × (getD (set (s .store .cells) b m) a none ≡ n))
       go (inl e) = inl e
       go (inr (e, h)) = inr (m, subst (λ (c : ℕ). Delivers P sheet s x c m) e d, h)
 
 -- the writes of a step leave every cell as it was, but for one to which it hands a message
 writes-only : (P : Program) (sheet : Sheet) (s : State) (x : Label) (e : Effect) → Allows P sheet s x e → (a : ℕ)
-    → let c = getD (writeAll (e .writes) (s .store) .cells) a none in (c ≡ cellOf s a) ⊎ ((m : Message) × Delivers P sheet s x a m × (c ≡ m))
+    → let c = getD (writeAll (e .writes) (s .store) .cells) a none in (c ≡ cellAt s a) ⊎ ((m : Message) × Delivers P sheet s x a m × (c ≡ m))
 writes-only P sheet s x e (assignment {r} {a = b} {z} g p q) a = handed P sheet s x b a (some z) (by-assignment g p q)
 writes-only P sheet s x e (while-false g h) a = inl refl
 writes-only P sheet s x e (while-true g h) a = inl refl
@@ -67,30 +68,30 @@ writes-only P sheet s x e (stopping g h) a = inl refl
 -- so does the step
 pub set-only : SetOnly
 set-only P sheet s x t h a =
-    subst (λ (y : Store). (getD (y .cells) a none ≡ cellOf s a) ⊎ ((m : Message) × Delivers P sheet s x a m × (getD (y .cells) a none ≡ m))) (sym (h .leaves .stores))
+    subst (λ (y : Store). (getD (y .cells) a none ≡ cellAt s a) ⊎ ((m : Message) × Delivers P sheet s x a m × (getD (y .cells) a none ≡ m))) (sym (h .leaves .stores))
     (writes-only P sheet s x (h .does) (h .allowed) a)
 
 -- a cell that holds a number after a step held it before, or was handed it
 pub set-by-number : SetByNumber
 set-by-number P sheet s x t h a z e = go (set-only P sheet s x t h a)
   where
-    go : (cellOf t a ≡ cellOf s a) ⊎ ((m : Message) × Delivers P sheet s x a m × (cellOf t a ≡ m)) → (cellOf s a ≡ some z) ⊎ Delivers P sheet s x a (some z)
+    go : (cellAt t a ≡ cellAt s a) ⊎ ((m : Message) × Delivers P sheet s x a m × (cellAt t a ≡ m)) → (cellAt s a ≡ some z) ⊎ Delivers P sheet s x a (some z)
     go (inl q) = inl (sym q ∙ e)
     go (inr (m, d, q)) = inr (subst (λ (n : Message). Delivers P sheet s x a n) (sym q ∙ e) d)
 
 -- only a host read hands over no number: an assignment and an output have one
 absent-delivery : (P : Program) (sheet : Sheet) (s : State) (x : Label) (a : ℕ) (m : Message) → Delivers P sheet s x a m → m ≡ none → ReadsAbsent P sheet s x a
 absent-delivery P sheet s x a m (by-assignment {z} g p q) e = absurd (Option·none-ne-some z (sym e))
-absent-delivery P sheet s x a m (by-communication g k h (sends {v} u p q)) e = absurd (Option·none-ne-some v (sym e))
-absent-delivery P sheet s x a m (by-reading {n} {i} g h) e = input-absent g (subst (λ (v : Message). Host sheet (s .store) i a v n) e h)
-absent-delivery P sheet s x a m (by-option-reading {n} {i} g c b h q k) e = option-absent g c b h q (subst (λ (v : Message). Host sheet (s .store) i a v n) e k)
-absent-delivery P sheet s x a m (by-option-communication g c b k h q w (sends {v} u p y)) e = absurd (Option·none-ne-some v (sym e))
+absent-delivery P sheet s x a m (by-communication g k h (inner-output {v} u p q)) e = absurd (Option·none-ne-some v (sym e))
+absent-delivery P sheet s x a m (by-reading {n} {i} g h) e = input-absent g (subst (λ (v : Message). HostInput sheet (s .store) i a v n) e h)
+absent-delivery P sheet s x a m (by-option-reading {n} {i} g c b h q k) e = option-absent g c b h q (subst (λ (v : Message). HostInput sheet (s .store) i a v n) e k)
+absent-delivery P sheet s x a m (by-option-communication g c b k h q w (inner-output {v} u p y)) e = absurd (Option·none-ne-some v (sym e))
 
 -- a cell that is unset after a step was unset before, or the step took an absent reading for it
 pub only-absent-unsets : OnlyAbsentUnsets
 only-absent-unsets P sheet s x t h a e = go (set-only P sheet s x t h a)
   where
-    go : (cellOf t a ≡ cellOf s a) ⊎ ((m : Message) × Delivers P sheet s x a m × (cellOf t a ≡ m)) → (cellOf s a ≡ none) ⊎ ReadsAbsent P sheet s x a
+    go : (cellAt t a ≡ cellAt s a) ⊎ ((m : Message) × Delivers P sheet s x a m × (cellAt t a ≡ m)) → (cellAt s a ≡ none) ⊎ ReadsAbsent P sheet s x a
     go (inl q) = inl (sym q ∙ e)
     go (inr (m, d, q)) = inr (absent-delivery P sheet s x a m d (sym q ∙ e))
 
@@ -134,7 +135,7 @@ absent-unsets rows sheet s x a r =
     )
 
 -- in the beginning every cell is unset
-begins-unset : (P : Program) (s : State) → Begins P s → (a : ℕ) → cellOf s a ≡ none
+begins-unset : (P : Program) (s : State) → Begins P s → (a : ℕ) → cellAt s a ≡ none
 begins-unset P s b a = ap (λ (c : List Message). getD c a none) (b .unset) ∙ go (P .cells) a
   where
     go : (n a : ℕ) → _≡_ {A = Message} (getD (replicate n none) a none) none
@@ -148,23 +149,23 @@ module _ (rows : List ℤ) (sheet : Sheet) (a : ℕ) (z : ℤ) where
   HandedIn s l = (before : List Label) × ((x : Label) × ((later : List Label) × ((u : State)
       × ((l ≡ before ++ (x ∷ later)) × Order (program rows) sheet s before u × Delivers (program rows) sheet u x a (some z)))))
 
-  handed-in : {s t : State} {l : List Label} → Order (program rows) sheet s l t → cellOf t a ≡ some z → (cellOf s a ≡ some z) ⊎ HandedIn s l
+  handed-in : {s t : State} {l : List Label} → Order (program rows) sheet s l t → cellAt t a ≡ some z → (cellAt s a ≡ some z) ⊎ HandedIn s l
   handed-in halt e = inl e
-  handed-in {s} (then {t} {x} {l} h o) e = go (handed-in o e)
+  handed-in {s} (next-step {t} {x} {l} h o) e = go (handed-in o e)
     where
-      first : (cellOf s a ≡ some z) ⊎ Delivers (program rows) sheet s x a (some z) → (cellOf s a ≡ some z) ⊎ HandedIn s (x ∷ l)
+      first : (cellAt s a ≡ some z) ⊎ Delivers (program rows) sheet s x a (some z) → (cellAt s a ≡ some z) ⊎ HandedIn s (x ∷ l)
       first (inl q) = inl q
       first (inr d) = inr ([], (x, (l, (s, (refl, halt, d)))))
 
-      go : (cellOf t a ≡ some z) ⊎ HandedIn t l → (cellOf s a ≡ some z) ⊎ HandedIn s (x ∷ l)
+      go : (cellAt t a ≡ some z) ⊎ HandedIn t l → (cellAt s a ≡ some z) ⊎ HandedIn s (x ∷ l)
       go (inl q) = first (set-by-number (program rows) sheet s x t h a z q)
-      go (inr (before, (y, (later, (u, (q, k, d)))))) = inr (x ∷ before, (y, (later, (u, (ap (λ (m : List Label). x ∷ m) q, then h k, d)))))
+      go (inr (before, (y, (later, (u, (q, k, d)))))) = inr (x ∷ before, (y, (later, (u, (ap (λ (m : List Label). x ∷ m) q, next-step h k, d)))))
 
 -- a number that a cell holds after an order was handed to it by one of its steps
 pub set-in-order : SetInOrder
 set-in-order rows sheet l s o a z e = go (handed-in rows sheet a z (o .order) e)
   where
-    go : (cellOf (o .beginning) a ≡ some z) ⊎ HandedIn rows sheet a z (o .beginning) l
+    go : (cellAt (o .beginning) a ≡ some z) ⊎ HandedIn rows sheet a z (o .beginning) l
         → (before : List Label) × ((x : Label) × ((later : List Label) × ((u : State)
         × ((l ≡ before ++ (x ∷ later)) × OrderOf rows sheet before u × Delivers (program rows) sheet u x a (some z)))))
     go (inl q) = absurd (Option·none-ne-some z (sym (begins-unset (program rows) (o .beginning) (o .begins) a) ∙ q))

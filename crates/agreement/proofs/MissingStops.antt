@@ -8,12 +8,14 @@ use Prim.Native.Nat.{ℕ, _+_}
 use native.Mathlib.Omega.{arith}
 use lib.IntN.{ℤ}
 use lib.Dec.{eqb}
-use Rattle.meaning.specs.Rows.{ifElse}
+use Rattle.meaning.specs.Basics.{ifElse}
 use Rattle.meaning.specs.Tree.{Action}
 use Rattle.meaning.specs.State.{State, Program, program, Effect}
+use Rattle.meaning.specs.Labels.{Label, own, pass, takeOption, takeWithOutput}
+use Rattle.meaning.specs.Readings.{Sheet}
 use Rattle.meaning.specs.Settle.{settled}
-use Rattle.meaning.specs.Intent.{Sheet, Offer, openOffer, inputOffer, Intent, waits, moves, inputsFrom, outputsTo, selects}
-use Rattle.meaning.specs.Ready.{Label, own, pass, take, takeFrom, intentAt, takeFromEffect, optionRow, offerEffectAt, offerEffect, passEffect, effectOf}
+use Rattle.meaning.specs.Intent.{Offer, openOffer, inputOffer, Intent, waits, moves, inputsFrom, outputsTo, selects}
+use Rattle.meaning.specs.Ready.{intentAt, takeFromEffect, optionRow, offerEffectAt, offerEffect, passEffect, effectOf}
 use Rattle.meaning.specs.Step.{Lacks, Live, Allows, Leaves, Step, stopping}
 use Rattle.agreement.specs.MissingClaims.{OfRow, OneReason, stopEffect, LackingOnlyStops}
 use Rattle.agreement.proofs.Takeable.{takeable, live-want, lacks-want}
@@ -79,9 +81,9 @@ module _ (rows : List ℤ) (sheet : Sheet) (s : State) (r reason : ℕ) (a : Act
   own-step z (own q) e p h = ap own h
   own-step z (pass i o) e p (inl h) = absurd (Option·none-ne-some e (rw (h, z) at p))
   own-step z (pass i o) e p (inr h) = absurd (nothing-sent i (intentAt P sheet s i) (intentAt P sheet s r) e z (rw h at p))
-  own-step z (take q j) e p h = absurd (Option·none-ne-some e (rw (h, z) at p))
-  own-step z (takeFrom q j o) e p (inl h) = absurd (Option·none-ne-some e (rw (h, z) at p))
-  own-step z (takeFrom q j o) e p (inr h) = absurd (nothing-taken-from q j (intentAt P sheet s q) (intentAt P sheet s r) e z (rw h at p))
+  own-step z (takeOption q j) e p h = absurd (Option·none-ne-some e (rw (h, z) at p))
+  own-step z (takeWithOutput q j o) e p (inl h) = absurd (Option·none-ne-some e (rw (h, z) at p))
+  own-step z (takeWithOutput q j o) e p (inr h) = absurd (nothing-taken-from q j (intentAt P sheet s q) (intentAt P sheet s r) e z (rw h at p))
 
   only-stops : Live P s r a → Lacks (s .store .cells) a reason → (x : Label) (t : State) → Step P sheet s x t → OfRow r x → (x ≡ own r) × Leaves P s (stopEffect r reason) t
   only-stops g h x t k o =

@@ -14,11 +14,9 @@ use Rattle.meaning.specs.declared.Value.{Value}
 use Rattle.meaning.specs.declared.Value.the-variants.{Number, Missing}
 use Rattle.meaning.specs.declared.Index.{Index}
 use Rattle.meaning.specs.declared.Index.the-variants.{At, Fails}
-use Rattle.meaning.specs.Rows.{ifElse}
-use Rattle.meaning.specs.Basics.{eqZ}
+use Rattle.meaning.specs.Basics.{ifElse, eqZ}
 use Rattle.meaning.specs.Tree.{Expr, literal, element, monadic, dyadic, noExpr}
-use Rattle.meaning.specs.Values.{fitted, wrapped, isTrue, truth, quotient, remainder, operators, operate, monadicOf, decides, whenNumber, dyadicOf, inArray, cellValue, readCell, value, index}
-use Rattle.meaning.specs.State.{Message}
+use Rattle.meaning.specs.Values.{Message, fitted, wrapped, isTrue, truth, quotient, remainder, operators, operate, monadicOf, decides, whenNumber, dyadicOf, inArray, cellValue, readCell, value, index}
 use Rattle.agreement.specs.MissingClaims.{NeedsUnset, cell-unset, in-subscript, in-operand, in-first, in-second, UnsetRead, UnsetSubscript}
 
 -- the reason in a value, 0 where there is a number

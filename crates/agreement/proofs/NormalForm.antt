@@ -6,9 +6,10 @@ use Prim.Native.Nat.{ℕ, _+_, _<_, _≤_}
 use native.Mathlib.Omega.{arith}
 use lib.ListN.{length, getD, set, length-set}
 use lib.Seq.{getD-set-other, getD-set-same}
-use Rattle.meaning.specs.Tree.{Action, skip, sequence, parallel, conditional, loop, alternation, Process, node, Members, empty, also, rowOf, rowsIn, rowsBeneath}
-use Rattle.meaning.specs.Settle.{stateOf, statesOf, Mode, inTurn, together, byStep, mode, starts, nextMode, complete, makeIdle, endsWhenClosed, settleMembers, settle}
-use Rattle.meaning.specs.SettlingRules.{Among, All, Next, Inside, Settles, skip-ends, seq-starts, par-starts, seq-ends, par-ends, if-ends, alt-ends, while-again, Settling, rest, then, Final}
+use Rattle.meaning.specs.Tree.{Action, skip, sequence, parallel, conditional, loop, alternation, Process, node, Processes, empty, also, rowOf, rowsIn, rowsBeneath}
+use Rattle.meaning.specs.State.{stateOf, makeIdle}
+use Rattle.meaning.specs.Settle.{statesOf, Mode, inTurn, together, byStep, mode, starts, nextMode, complete, endsWhenClosed, settleEach, settle}
+use Rattle.meaning.specs.SettlingRules.{Among, All, Next, Inside, Settles, skip-ends, seq-starts, par-starts, seq-ends, par-ends, if-ends, alt-ends, while-again, Settling, no-change, next-change, Final}
 use Rattle.agreement.proofs.Frame.{Local, body-node, walk-none, walk-also, row-in, see-local, zeros-local, length-local, off-look, off-put}
 use Rattle.agreement.proofs.Again.{Out, Sound, SoundM, sound-row, see-run, see-idle, see-start, see-over, idle-walk, idle-body, zeros-idle}
 use Rattle.agreement.proofs.Reach.{Good, GoodM, run, each, past, now, pass, pick, Agree, good-agree, goodM-agree, goodM-idle, goodM-head, goodM-tail, good-start, good-end, Sub}
@@ -21,65 +22,65 @@ use Rattle.agreement.proofs.RulesAbsorbed.{wider, set-local, sound-at, 
 
 -- ---- members that settling leaves alone
 
-ended-walk : {s : List ℕ} (ms : Members) (m : Mode) → All 2 s ms → settleMembers ms m s ≡ s
+ended-walk : {s : List ℕ} (ms : Processes) (m : Mode) → All 2 s ms → settleEach ms m s ≡ s
 ended-walk {s} empty m h = walk-none m s
-ended-walk {s} (also p ms) m (All.and-then e h) = rw (walk-also p ms m s, see-over p (starts m) s 0 e) (ended-walk ms (nextMode m (stateOf s p)) h)
+ended-walk {s} (also p ms) m (All.all-more e h) = rw (walk-also p ms m s, see-over p (starts m) s 0 e) (ended-walk ms (nextMode m (stateOf s p)) h)
 
-chosen-walk : {s : List ℕ} (ms : Members) → GoodM s byStep ms → {q : Process} → Among q ms → stateOf s q ≡ 2 → settleMembers ms byStep s ≡ s
+chosen-walk : {s : List ℕ} (ms : Processes) → GoodM s byStep ms → {q : Process} → Among q ms → stateOf s q ≡ 2 → settleEach ms byStep s ≡ s
 chosen-walk empty h a e = elim a [ ]
-chosen-walk (also p ms) (pass i h) Among.first e = absurd (omega (arith, i (rowOf p) (row-in p)))
-chosen-walk {s} (also p ms) (pass i h) (Among.later a) e = rw (walk-also p ms byStep s, see-idle p s (i (rowOf p) (row-in p))) (chosen-walk ms h a e)
-chosen-walk {s} (also p ms) (pick g i) Among.first e = rw (walk-also p ms byStep s, see-over p false s 0 e) (idle-walk ms s i)
-chosen-walk (also p ms) (pick g i) {q} (Among.later a) e = absurd (omega (arith, i (rowOf q) (among-row a)))
+chosen-walk (also p ms) (pass i h) Among.among-first e = absurd (omega (arith, i (rowOf p) (row-in p)))
+chosen-walk {s} (also p ms) (pass i h) (Among.among-later a) e = rw (walk-also p ms byStep s, see-idle p s (i (rowOf p) (row-in p))) (chosen-walk ms h a e)
+chosen-walk {s} (also p ms) (pick g i) Among.among-first e = rw (walk-also p ms byStep s, see-over p false s 0 e) (idle-walk ms s i)
+chosen-walk (also p ms) (pick g i) {q} (Among.among-later a) e = absurd (omega (arith, i (rowOf q) (among-row a)))
 
 -- ---- members of which one is started
 
 start-twice : (p : Process) (s : List ℕ) → rowOf p < length s → stateOf s p ≡ 0 → settle p true (set s (rowOf p) 1) ≡ settle p true s
 start-twice p s h e = see-run p true (set s (rowOf p) 1) (getD-set-same s (rowOf p) 1 0 h) ∙ sym (see-start p s e)
 
-start-here : (p : Process) (ms : Members) (m : Mode) → starts m ≡ true → (s : List ℕ) → rowOf p < length s → stateOf s p ≡ 0 → settleMembers (also p ms) m (set s (rowOf p) 1) ≡ settleMembers (also p ms) m s
+start-here : (p : Process) (ms : Processes) (m : Mode) → starts m ≡ true → (s : List ℕ) → rowOf p < length s → stateOf s p ≡ 0 → settleEach (also p ms) m (set s (rowOf p) 1) ≡ settleEach (also p ms) m s
 start-here p ms m b s h e = rw (walk-also p ms m (set s (rowOf p) 1), b, start-twice p s h e, walk-also p ms m s, b)
 
 module _ (n : ℕ) where
-  next-walk : {q : Process} (ms : Members) → SoundM ms n → (s : List ℕ) → length s ≡ n → Next s q ms → stateOf s q ≡ 0 → settleMembers ms inTurn (set s (rowOf q) 1) ≡ settleMembers ms inTurn s
+  next-walk : {q : Process} (ms : Processes) → SoundM ms n → (s : List ℕ) → length s ≡ n → Next s q ms → stateOf s q ≡ 0 → settleEach ms inTurn (set s (rowOf q) 1) ≡ settleEach ms inTurn s
   next-walk empty d s l x z = elim x [ ]
-  next-walk (also p ms) d s l Next.here z = start-here p ms inTurn refl s (rw l (sound-row p n (d .0))) z
-  next-walk {q} (also p ms) d s l (Next.after e x) z =
+  next-walk (also p ms) d s l Next.next-here z = start-here p ms inTurn refl s (rw l (sound-row p n (d .0))) z
+  next-walk {q} (also p ms) d s l (Next.next-after e x) z =
       let t = set s (rowOf q) 1 in
       let e′ : stateOf t p ≡ 2 = getD-set-other s (rowOf q) (rowOf p) 1 0 (λ u. d .2 (rowOf p) (row-in p) (Memᴰ·cast u (among-row (next-among x)))) ∙ e in
       rw (walk-also p ms inTurn t, see-over p true t 0 e′, e′, walk-also p ms inTurn s, see-over p true s 0 e, e) (next-walk ms (d .1) s l x z)
 
-  among-walk : {q : Process} (ms : Members) → SoundM ms n → (s : List ℕ) → length s ≡ n → Among q ms → stateOf s q ≡ 0 → settleMembers ms together (set s (rowOf q) 1) ≡ settleMembers ms together s
-  among-walk (also p ms) d s l Among.first z = start-here p ms together refl s (rw l (sound-row p n (d .0))) z
-  among-walk {q} (also p ms) d s l (Among.later a) z =
+  among-walk : {q : Process} (ms : Processes) → SoundM ms n → (s : List ℕ) → length s ≡ n → Among q ms → stateOf s q ≡ 0 → settleEach ms together (set s (rowOf q) 1) ≡ settleEach ms together s
+  among-walk (also p ms) d s l Among.among-first z = start-here p ms together refl s (rw l (sound-row p n (d .0))) z
+  among-walk {q} (also p ms) d s l (Among.among-later a) z =
       let s1 = settle p true s in
       let o : Out (rowOf q) (rowsIn p) = λ m. d .2 (rowOf q) m (among-row a) in
       rw (walk-also p ms together (set s (rowOf q) 1), off-put (see-local p true) s (rowOf q) 1 o, walk-also p ms together s)
       (among-walk ms (d .1) s1 (length-local (see-local p true) s ∙ l) a (off-look (see-local p true) s (rowOf q) o ∙ z))
 
   -- a SEQ or PAR of which a member is started is good
-  next-good : {q : Process} (ms : Members) → SoundM ms n → (s : List ℕ) → length s ≡ n → GoodM s inTurn ms → Next s q ms → stateOf s q ≡ 0 → GoodM (set s (rowOf q) 1) inTurn ms
+  next-good : {q : Process} (ms : Processes) → SoundM ms n → (s : List ℕ) → length s ≡ n → GoodM s inTurn ms → Next s q ms → stateOf s q ≡ 0 → GoodM (set s (rowOf q) 1) inTurn ms
   next-good empty d s l h x z = elim x [ ]
-  next-good (also p ms) d s l (past e g h) Next.here z = absurd (omega arith)
-  next-good (also p ms) d s l (now g i) Next.here z =
+  next-good (also p ms) d s l (past e g h) Next.next-here z = absurd (omega arith)
+  next-good (also p ms) d s l (now g i) Next.next-here z =
       now (good-start p n (d .0) s l g z) (λ y q. getD-set-other s (rowOf p) y 1 0 (λ u. d .2 y (Memᴰ·cast u (row-in p)) q) ∙ i y q)
-  next-good {q} (also p ms) d s l h (Next.after e x) z =
+  next-good {q} (also p ms) d s l h (Next.next-after e x) z =
       let a : Agree (rowsIn p) s (set s (rowOf q) 1) = λ y m. getD-set-other s (rowOf q) y 1 0 (λ u. d .2 y m (Memᴰ·cast u (among-row (next-among x)))) in
       past (a (rowOf p) (row-in p) ∙ e) (good-agree (goodM-head h) a) (next-good ms (d .1) s l (goodM-tail h) x z)
 
-  among-good : {q : Process} (ms : Members) → SoundM ms n → (s : List ℕ) → length s ≡ n → GoodM s together ms → Among q ms → stateOf s q ≡ 0 → GoodM (set s (rowOf q) 1) together ms
-  among-good (also p ms) d s l (each g h) Among.first z =
+  among-good : {q : Process} (ms : Processes) → SoundM ms n → (s : List ℕ) → length s ≡ n → GoodM s together ms → Among q ms → stateOf s q ≡ 0 → GoodM (set s (rowOf q) 1) together ms
+  among-good (also p ms) d s l (each g h) Among.among-first z =
       each (good-start p n (d .0) s l g z) (goodM-agree h (λ y q. getD-set-other s (rowOf p) y 1 0 (λ u. d .2 y (Memᴰ·cast u (row-in p)) q)))
-  among-good {q} (also p ms) d s l (each g h) (Among.later a) z =
+  among-good {q} (also p ms) d s l (each g h) (Among.among-later a) z =
       each (good-agree g (λ y m. getD-set-other s (rowOf q) y 1 0 (λ u. d .2 y m (Memᴰ·cast u (among-row a))))) (among-good ms (d .1) s l h a z)
 
 -- what is to be shown of a change, of the process that makes it and of every process around it
 abbrev Absorbed : Process → List ℕ → List ℕ → Type 0
 Absorbed p s t = ((b : Bool) → settle p b t ≡ settle p b s) × Good t p × ((b : Bool) → left p b t < left p b s)
 
-module _ (k : Action) (r : ℕ) (ms : Members) (n : ℕ) (d : Sound (node k r ms) n) (s : List ℕ) (l : length s ≡ n) (e : getD s r 0 ≡ 1) (h : GoodM s (mode k) ms) where
+module _ (k : Action) (r : ℕ) (ms : Processes) (n : ℕ) (d : Sound (node k r ms) n) (s : List ℕ) (l : length s ≡ n) (e : getD s r 0 ≡ 1) (h : GoodM s (mode k) ms) where
   -- the process ends
-  end-absorbed : settleMembers ms (mode k) s ≡ s → complete (mode k) (statesOf ms s) ≡ true → endsWhenClosed k ≡ true → Absorbed (node k r ms) s (set s r 2)
+  end-absorbed : settleEach ms (mode k) s ≡ s → complete (mode k) (statesOf ms s) ≡ true → endsWhenClosed k ≡ true → Absorbed (node k r ms) s (set s r 2)
   end-absorbed w c x =
       let two : getD (set s r 2) r 0 ≡ 2 = getD-set-same s r 2 0 (rw l (d .0)) in (
         λ b. rw (see-over (node k r ms) b (set s r 2) 0 two, see-run (node k r ms) b s e, body-node k r ms s, w, c, x),
@@ -88,7 +89,7 @@ module _ (k : Action) (r : ℕ) (ms : Members) (n : ℕ) (d : Sound (node k r ms
       )
 
   -- it sets all beneath it to idle
-  idle-absorbed : mode k ≡ byStep → {q : Process} → Among q ms → stateOf s q ≡ 2 → settleMembers ms (mode k) s ≡ s → complete (mode k) (statesOf ms s) ≡ true → endsWhenClosed k ≡ false → Absorbed (node k r ms) s (makeIdle (rowsBeneath ms) s)
+  idle-absorbed : mode k ≡ byStep → {q : Process} → Among q ms → stateOf s q ≡ 2 → settleEach ms (mode k) s ≡ s → complete (mode k) (statesOf ms s) ≡ true → endsWhenClosed k ≡ false → Absorbed (node k r ms) s (makeIdle (rowsBeneath ms) s)
   idle-absorbed m a f w c x =
       let z = makeIdle (rowsBeneath ms) s in
       let one : getD z r 0 ≡ 1 = off-look (zeros-local (rowsBeneath ms)) s r (d .1) ∙ e in (
@@ -98,7 +99,7 @@ module _ (k : Action) (r : ℕ) (ms : Members) (n : ℕ) (d : Sound (node k r ms
       )
 
   -- it starts a member
-  start-absorbed : (q : ℕ) → List·Memᴰ q (rowsBeneath ms) → settleMembers ms (mode k) (set s q 1) ≡ settleMembers ms (mode k) s → GoodM (set s q 1) (mode k) ms
+  start-absorbed : (q : ℕ) → List·Memᴰ q (rowsBeneath ms) → settleEach ms (mode k) (set s q 1) ≡ settleEach ms (mode k) s → GoodM (set s q 1) (mode k) ms
       → leftM ms (starts (mode k)) (set s q 1) < leftM ms (starts (mode k)) s → Absorbed (node k r ms) s (set s q 1)
   start-absorbed q m w g x =
       let one : getD (set s q 1) r 0 ≡ 1 = getD-set-other s q r 1 0 (λ u. d .1 (Memᴰ·cast u m)) ∙ e in (
@@ -109,12 +110,12 @@ module _ (k : Action) (r : ℕ) (ms : Members) (n : ℕ) (d : Sound (node k r ms
 
 module _ (whole : Process) (n : ℕ) (d : Sound whole n) (plain : Plain whole) where
   -- a change that its own process absorbs is absorbed by the whole process
-  around : (k : Action) (r : ℕ) (ms : Members) (f : List ℕ → List ℕ) → Local (r ∷ rowsBeneath ms) f → (s : List ℕ) → Good s whole → getD s r 0 ≡ 1 → Sub k r ms whole
+  around : (k : Action) (r : ℕ) (ms : Processes) (f : List ℕ → List ℕ) → Local (r ∷ rowsBeneath ms) f → (s : List ℕ) → Good s whole → getD s r 0 ≡ 1 → Sub k r ms whole
       → Absorbed (node k r ms) s (f s) → Absorbed whole s (f s)
   around k r ms f F s g e u (a, c, x) = (settle-around k r ms f F s e n a whole u d g, good-around k r ms f F s e n c whole u d g, less-around k r ms f F s e n x whole u d g)
 
   module _ (s : List ℕ) (l : length s ≡ n) (g : Good s whole) where
-    module _ (k : Action) (r : ℕ) (ms : Members) (i : Inside whole (node k r ms)) (e : getD s r 0 ≡ 1) where
+    module _ (k : Action) (r : ℕ) (ms : Processes) (i : Inside whole (node k r ms)) (e : getD s r 0 ≡ 1) where
       -- a running process that stands in the whole one
       sub : Sub k r ms whole
       sub = within-of i
@@ -125,22 +126,22 @@ module _ (whole : Process) (n : ℕ) (d : Sound whole n) (plain : Plain whole) w
       good : GoodM s (mode k) ms
       good = good-at s e whole sub g
 
-      ends : settleMembers ms (mode k) s ≡ s → complete (mode k) (statesOf ms s) ≡ true → endsWhenClosed k ≡ true → Absorbed whole s (set s r 2)
+      ends : settleEach ms (mode k) s ≡ s → complete (mode k) (statesOf ms s) ≡ true → endsWhenClosed k ≡ true → Absorbed whole s (set s r 2)
       ends w c x = around k r ms (λ (t : List ℕ). set t r 2) (set-local (r ∷ rowsBeneath ms) r 2 (List·Memᴰ·head refl)) s g e sub (end-absorbed k r ms n fit s l e good w c x)
 
-      begins : (q : ℕ) → List·Memᴰ q (rowsBeneath ms) → settleMembers ms (mode k) (set s q 1) ≡ settleMembers ms (mode k) s → GoodM (set s q 1) (mode k) ms
+      begins : (q : ℕ) → List·Memᴰ q (rowsBeneath ms) → settleEach ms (mode k) (set s q 1) ≡ settleEach ms (mode k) s → GoodM (set s q 1) (mode k) ms
           → leftM ms (starts (mode k)) (set s q 1) < leftM ms (starts (mode k)) s → Absorbed whole s (set s q 1)
       begins q m w h x =
           around k r ms (λ (t : List ℕ). set t q 1) (set-local (r ∷ rowsBeneath ms) q 1 (List·Memᴰ·tail m)) s g e sub (start-absorbed k r ms n fit s l e good q m w h x)
 
-      repeats : mode k ≡ byStep → {q : Process} → Among q ms → stateOf s q ≡ 2 → settleMembers ms (mode k) s ≡ s → complete (mode k) (statesOf ms s) ≡ true → endsWhenClosed k ≡ false → Absorbed whole s (makeIdle (rowsBeneath ms) s)
+      repeats : mode k ≡ byStep → {q : Process} → Among q ms → stateOf s q ≡ 2 → settleEach ms (mode k) s ≡ s → complete (mode k) (statesOf ms s) ≡ true → endsWhenClosed k ≡ false → Absorbed whole s (makeIdle (rowsBeneath ms) s)
       repeats m a f w c x =
           around k r ms (makeIdle (rowsBeneath ms)) (wider (λ y q. List·Memᴰ·tail q) (zeros-local (rowsBeneath ms))) s g e sub (idle-absorbed k r ms n fit s l e good m a f w c x)
 
     rule-absorbed : (t : List ℕ) → Settles whole s t → Absorbed whole s t
     rule-absorbed t (skip-ends {r} {ms} (i, e)) =
         let z : ms ≡ empty = skip-empty ms (plain-at whole (within-of i) plain) in
-        ends skip r ms i e (ap (λ (q : Members). settleMembers q inTurn s) z ∙ walk-none inTurn s) (ap (λ (q : Members). complete inTurn (statesOf q s)) z) refl
+        ends skip r ms i e (ap (λ (q : Processes). settleEach q inTurn s) z ∙ walk-none inTurn s) (ap (λ (q : Processes). complete inTurn (statesOf q s)) z) refl
     rule-absorbed t (seq-starts {r} {ms} {q} (i, e) x z) =
         begins sequence r ms i e (rowOf q) (among-row (next-among x)) (next-walk n ms (fit sequence r ms i e .2) s l x z) (next-good n ms (fit sequence r ms i e .2) s l (good sequence r ms i e) x z)
         (less-started n ms (fit sequence r ms i e .2) s l inTurn (good sequence r ms i e) (next-among x) z)
@@ -176,15 +177,15 @@ module _ (whole : Process) (n : ℕ) (d : Sound whole n) (plain : Plain whole) w
   -- after any number of changes: the same normal form, a good state, and less left
   pub settle-same : (s t : List ℕ) (h : Settling whole s t) → length s ≡ n → Good s whole
       → (settle whole false t ≡ settle whole false s) × Good t whole × (length t ≡ n) × (changesIn whole h + left whole false t ≤ left whole false s)
-  settle-same s t rest l g = (refl, g, l, omega arith)
-  settle-same s t (then {t = m} h k) l g =
+  settle-same s t no-change l g = (refl, g, l, omega arith)
+  settle-same s t (next-change {t = m} h k) l g =
       let (a, c, x) = rule-absorbed s l g m h in
       let (b, f, j, y) = settle-same m t k (rule-length s m h ∙ l) c in
       (b ∙ a false, f, j, omega (arith, x false))
 
   pub final-is : (t u : List ℕ) → Settling whole t u → Final whole t → t ≡ u
-  final-is t u rest f = refl
-  final-is t u (then h k) f = absurd (f _ h)
+  final-is t u no-change f = refl
+  final-is t u (next-change h k) f = absurd (f _ h)
 
   -- to settle a good state gives its one normal form
   pub normal-form : (s : List ℕ) → length s ≡ n → Good s whole → NormalForm whole s (settle whole false s)

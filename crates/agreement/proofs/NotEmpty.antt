@@ -9,13 +9,14 @@ use lib.IntN.{ℤ, pos, negsuc}
 use lib.ListN.{length}
 use Rattle.meaning.specs.Rows.{rowCount, kindAt}
 use Rattle.meaning.specs.State.{State, program}
+use Rattle.meaning.specs.Labels.{Label, own, orderRow}
+use Rattle.meaning.specs.Readings.{Sheet}
 use Rattle.meaning.specs.Settle.{start}
 use lib.Dec.{eqb}
 use borrow.Author.Tests.{eq-eqb}
-use Rattle.meaning.specs.Intent.{Sheet}
-use Rattle.meaning.specs.Ready.{Label, own, orderRow, ready, after}
+use Rattle.meaning.specs.Ready.{ready, after}
 use Rattle.meaning.specs.Step.{Step}
-use Rattle.meaning.specs.Order.{Order, halt, then, OrderOf, RestOf}
+use Rattle.meaning.specs.Order.{Order, halt, next-step, OrderOf, RestOf}
 use Rattle.meaning.specs.Sheet.{sheetFault, readings}
 use Rattle.meaning.specs.Answers.{check}
 use Rattle.meaning.proofs.ComputesAnswers.{computesAnswers}
@@ -181,7 +182,7 @@ back-at-start x t h =
 -- so every order from the start is at the start
 at-start : {s t : State} {l : List Label} → Order (program loopRows) loopSheet s l t → s ≡ loopStart → t ≡ loopStart
 at-start halt e = e
-at-start (then {t} {x} h o) e = at-start o (back-at-start x t (subst (λ (u : State). Step (program loopRows) loopSheet u x t) e h))
+at-start (next-step {t} {x} h o) e = at-start o (back-at-start x t (subst (λ (u : State). Step (program loopRows) loopSheet u x t) e h))
 
 times : ℕ → List Label
 times zero = []
@@ -195,7 +196,7 @@ times-length (suc n) = ap suc (times-length n)
 times-order : (n : ℕ) → Order (program loopRows) loopSheet loopStart (times n) loopStart
 unfolding times
 times-order zero = halt
-times-order (suc n) = then loop-step (times-order n)
+times-order (suc n) = next-step loop-step (times-order n)
 
 -- an accepted table whose orders have every length and never rest
 pub never-rests : NeverRests

@@ -11,12 +11,13 @@ use Rattle.meaning.specs.declared.Outcome.{Outcome}
 use Rattle.meaning.specs.declared.Outcome.the-variants.{Spent}
 use Rattle.meaning.specs.Rows.{rowCount, kindAt}
 use Rattle.meaning.specs.State.{State, program}
+use Rattle.meaning.specs.Labels.{Label, label-discrete}
+use Rattle.meaning.specs.Readings.{Sheet}
 use Rattle.meaning.specs.Settle.{start}
-use Rattle.meaning.specs.Intent.{Sheet}
-use Rattle.meaning.specs.Ready.{Label, label-discrete, after}
+use Rattle.meaning.specs.Ready.{after}
 use Rattle.meaning.specs.Step.{Step}
-use Rattle.meaning.specs.Run.{Result, run}
-use Rattle.meaning.specs.Order.{Order, halt, then, OrderOf, RestOf, outcomeOf}
+use Rattle.meaning.specs.Run.{RunResult, run}
+use Rattle.meaning.specs.Order.{Order, halt, next-step, OrderOf, RestOf, outcomeOf}
 use Rattle.agreement.proofs.Claims.{Finish, Agreement}
 use Rattle.agreement.proofs.Descent
 use Rattle.agreement.proofs.Descent.{Diamond, descent, runs}
@@ -29,7 +30,7 @@ use Rattle.agreement.proofs.Invariant.{step-inv, start-inv}
 use Rattle.agreement.proofs.Beginning.{begins-start}
 use Rattle.agreement.proofs.WithoutAlt.{no-options, two-steps}
 
-result-is : (r : Result) (o : Outcome) (n : ℕ) (s : State) → r .outcome ≡ o → r .steps ≡ n → r .state ≡ s → r ≡ record { outcome = o; steps = n; state = s }
+result-is : (r : RunResult) (o : Outcome) (n : ℕ) (s : State) → r .outcome ≡ o → r .steps ≡ n → r .state ≡ s → r ≡ record { outcome = o; steps = n; state = s }
 result-is r o n s a b c = rw (← a, ← b, ← c)
 
 module _ (rows : List ℤ) (sheet : Sheet) (F : Fit (program rows) (rowCount rows)) (w : (r : ℕ) → r < rowCount rows → kindAt rows r ≢ 34) where
@@ -72,7 +73,7 @@ module _ (rows : List ℤ) (sheet : Sheet) (F : Fit (program rows) (rowCount row
   -- an order of steps that rules allow is an order of steps that are taken
   taken-order : {s t : State} {l : List Label} → I s → Order (program rows) sheet s l t → Descent.Order CanStep takeStep s l t
   taken-order i halt = Descent.halt
-  taken-order i (then {s} {t} {u} {x} {l} h o) =
+  taken-order i (next-step {s} {t} {u} {x} {l} h o) =
       let e = leads s x t i h in
       Descent.then {t = u} {l = l} (t, h) (rw (← e) (taken-order (step-inv (program rows) (rowCount rows) F sheet (distinct-options rows sheet) s x t i h) o))
 
@@ -100,7 +101,7 @@ module _ (rows : List ℤ) (sheet : Sheet) (F : Fit (program rows) (rowCount row
 
     -- every run comes to that rest, or its budget is less
     module _ (Accepted : List ℤ → Sheet → Type 0) (fit : Fits Accepted) (a : Accepted rows sheet) (choices : List ℕ) (budget : ℕ) where
-      abbrev R : Result
+      abbrev R : RunResult
       R = run rows sheet choices budget
 
       abbrev Wanted : Type 0

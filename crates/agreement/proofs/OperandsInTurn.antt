@@ -9,10 +9,10 @@ use Rattle.meaning.specs.declared.Value.{Value}
 use Rattle.meaning.specs.declared.Value.the-variants.{Number, Missing}
 use Rattle.meaning.specs.Basics.{ifElse}
 use Rattle.meaning.specs.Values.{isTrue, truth, operators, operate, decides, whenNumber, dyadicOf, value}
-use Rattle.agreement.specs.ValueClaims.{Settles, OperandsInTurn}
+use Rattle.agreement.specs.ValueClaims.{FirstDecides, OperandsInTurn}
 use Rattle.agreement.proofs.Decided.{Decides, told, both-decide, either-decides, true-decides, false-decides, number-decides}
 
-settles-decides : (op : ℕ) (x : ℤ) → Decides (decides op x) (Settles op x)
+settles-decides : (op : ℕ) (x : ℤ) → Decides (decides op x) (FirstDecides op x)
 unfolding decides
 settles-decides op x =
     either-decides (eqb op 14 && not (isTrue x)) (eqb op 15 && isTrue x) _ _
@@ -28,23 +28,23 @@ is-true x n = go (isTrue x) (true-decides x)
 
 module _ (op : ℕ) (x : ℤ) where
   -- what is left is what the second operand gives, or what the first settled
-  settled : (w : Value) → Settles op x → dyadicOf op (Number x) w ≡ truth (isTrue x)
+  settled : (w : Value) → FirstDecides op x → dyadicOf op (Number x) w ≡ truth (isTrue x)
   unfolding dyadicOf
   settled w h = go (decides op x) (settles-decides op x)
     where
-      go : (t : Bool) → Decides t (Settles op x) → ifElse t (truth (isTrue x)) (whenNumber w (operate op x)) ≡ truth (isTrue x)
+      go : (t : Bool) → Decides t (FirstDecides op x) → ifElse t (truth (isTrue x)) (whenNumber w (operate op x)) ≡ truth (isTrue x)
       go true d = refl
       go false d = absurd (d .if-false refl h)
 
-  not-settled : (k : ℕ) → ¬ Settles op x → dyadicOf op (Number x) (Missing k) ≡ Missing k
+  not-settled : (k : ℕ) → ¬ FirstDecides op x → dyadicOf op (Number x) (Missing k) ≡ Missing k
   unfolding dyadicOf
   not-settled k n = go (decides op x) (settles-decides op x)
     where
-      go : (t : Bool) → Decides t (Settles op x) → ifElse t (truth (isTrue x)) (Missing k) ≡ Missing k
+      go : (t : Bool) → Decides t (FirstDecides op x) → ifElse t (truth (isTrue x)) (Missing k) ≡ Missing k
       go true d = absurd (n (d .if-true refl))
       go false d = refl
 
-  settled-alike : (y : ℤ) → Settles op x → truth (isTrue x) ≡ operate op x y
+  settled-alike : (y : ℤ) → FirstDecides op x → truth (isTrue x) ≡ operate op x y
   unfolding operate operators
   settled-alike y (inl (o, e)) = rw (o, e)
   settled-alike y (inr (o, n)) = rw (o, is-true x n)
@@ -53,7 +53,7 @@ module _ (op : ℕ) (x : ℤ) where
   unfolding dyadicOf
   both-numbers y = go (decides op x) (settles-decides op x)
     where
-      go : (t : Bool) → Decides t (Settles op x) → ifElse t (truth (isTrue x)) (operate op x y) ≡ operate op x y
+      go : (t : Bool) → Decides t (FirstDecides op x) → ifElse t (truth (isTrue x)) (operate op x y) ≡ operate op x y
       go true d = settled-alike y (d .if-true refl)
       go false d = refl
 

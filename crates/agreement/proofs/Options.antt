@@ -13,13 +13,17 @@ use borrow.Author.Tests.{ltb-true}
 use Rattle.meaning.specs.declared.Value.{Value}
 use Rattle.meaning.specs.declared.Value.the-variants.{Number, Missing}
 use Rattle.meaning.specs.declared.Node.{Node}
-use Rattle.meaning.specs.declared.Node.the-variants.{Literal, Element, Monadic, Dyadic, Stop, Skip, Assignment, Input, Output, Seq, Par, If, While, Alt, Member, Choice, Option as Alternative, Guard, Other}
-use Rattle.meaning.specs.Rows.{ifElse, rowCount, nodeAt, lastRows, atRow}
+use Rattle.meaning.specs.declared.Node.the-variants.{Literal, Element, Monadic, Dyadic, Stop, Skip, Assignment, Input, Output, Seq, Par, If, While, Alt, Member, Choice, OptionRow, Guard, Other}
+use Rattle.meaning.specs.Basics.{ifElse}
+use Rattle.meaning.specs.Rows.{rowCount}
+use Rattle.meaning.specs.Nodes.{nodeAt}
+use Rattle.meaning.specs.HigherRows.{lastRows, atRow}
 use Rattle.meaning.proofs.HigherRows.{atRow-at, atRow-past}
-use Rattle.meaning.specs.Tree.{AltOption, Action, stop, skip, sequence, parallel, assign, receive, send, conditional, loop, alternation, Process, Part, noPart, partOf, parts, orStop, actionOf}
+use Rattle.meaning.specs.Tree.{AltOption, Action, stop, skip, sequence, parallel, assign, input, output, conditional, loop, alternation, Process, Content, noContent, contentOf, contents, orStop, actionOf}
 use Rattle.meaning.specs.Values.{isTrue, value}
 use Rattle.meaning.specs.State.{Store, program, processAt}
-use Rattle.meaning.specs.Intent.{Sheet, Offer, openOffer, inputOffer, Reception, lacks, later, reads, fromElement, Looked, fails, offers, adding, admitting, opening, guarding, receptionIf, looks}
+use Rattle.meaning.specs.Readings.{Sheet}
+use Rattle.meaning.specs.Intent.{Offer, openOffer, inputOffer, InputResult, lacks, notYet, reads, fromElement, OptionsResult, fails, offers, adding, admitting, opening, guarding, inputResultIf, optionsResult}
 use Rattle.meaning.specs.Ready.{optionRow}
 use Rattle.agreement.proofs.Readiness.{Distinct}
 
@@ -49,8 +53,8 @@ ActionOk n skip = Unit {0}
 ActionOk n sequence = Unit {0}
 ActionOk n parallel = Unit {0}
 ActionOk n (assign v e f) = Unit {0}
-ActionOk n (receive i) = Unit {0}
-ActionOk n (send c e f) = Unit {0}
+ActionOk n (input i) = Unit {0}
+ActionOk n (output c e f) = Unit {0}
 ActionOk n (conditional ts) = Unit {0}
 ActionOk n (loop e b) = Unit {0}
 ActionOk n (alternation bs) = Rising n 0 bs
@@ -60,11 +64,11 @@ ProcessOk n none = Unit {0}
 ProcessOk n (some p) = ActionOk n (actionOf p)
 
 -- the options that begin at row r rise from it; those of the process at row r rise
-abbrev PartOk : ℕ → ℕ → Part → Type 0
-PartOk n r p = Rising n r (p .branches) × ProcessOk n (p .process)
+abbrev PartOk : ℕ → ℕ → Content → Type 0
+PartOk n r p = Rising n r (p .options) × ProcessOk n (p .process)
 
 module _ (rows : List ℤ) where
-  part-ok : (r : ℕ) (at : ℕ → Part) → r < rowCount rows → ((b : ℕ) → Rising (rowCount rows) (suc r) (at b .branches)) → (k : Node) → PartOk (rowCount rows) r (partOf rows r at k)
+  part-ok : (r : ℕ) (at : ℕ → Content) → r < rowCount rows → ((b : ℕ) → Rising (rowCount rows) (suc r) (at b .options)) → (k : Node) → PartOk (rowCount rows) r (contentOf rows r at k)
   part-ok r at l h (Literal x) = (tt, tt)
   part-ok r at l h (Element a b) = (tt, tt)
   part-ok r at l h (Monadic a b) = (tt, tt)
@@ -78,32 +82,32 @@ module _ (rows : List ℤ) where
   part-ok r at l h (Par a) = (tt, tt)
   part-ok r at l h (If a) = (tt, tt)
   part-ok r at l h (While a b) = (tt, tt)
-  part-ok r at l h (Alt a) = (tt, lower (rowCount rows) 0 (suc r) (at a .branches) (omega arith) (h a))
+  part-ok r at l h (Alt a) = (tt, lower (rowCount rows) 0 (suc r) (at a .options) (omega arith) (h a))
   part-ok r at l h (Member a b) = (tt, tt)
   part-ok r at l h (Choice a b c) = (tt, tt)
-  part-ok r at l h (Alternative a b c) = ((omega arith, l, h b), tt)
+  part-ok r at l h (OptionRow a b c) = ((omega arith, l, h b), tt)
   part-ok r at l h (Guard a b) = (tt, tt)
   part-ok r at l h Other = (tt, tt)
 
-  abbrev step : ℕ → (ℕ → Part) → Part
-  step r at = partOf rows r at (nodeAt rows r)
+  abbrev step : ℕ → (ℕ → Content) → Content
+  step r at = contentOf rows r at (nodeAt rows r)
 
-  above : (r : ℕ) → ((b : ℕ) → r < b → Rising (rowCount rows) b (atRow noPart step (rowCount rows) b .branches)) → (b : ℕ) (t : Bool) → ltb r b ≡ t → Rising (rowCount rows) (suc r) (ifElse t (atRow noPart step (rowCount rows) b) noPart .branches)
-  above r f b true e = lower (rowCount rows) (suc r) b (atRow noPart step (rowCount rows) b .branches) (ltb-true r b e) (f b (ltb-true r b e))
+  above : (r : ℕ) → ((b : ℕ) → r < b → Rising (rowCount rows) b (atRow noContent step (rowCount rows) b .options)) → (b : ℕ) (t : Bool) → ltb r b ≡ t → Rising (rowCount rows) (suc r) (ifElse t (atRow noContent step (rowCount rows) b) noContent .options)
+  above r f b true e = lower (rowCount rows) (suc r) b (atRow noContent step (rowCount rows) b .options) (ltb-true r b e) (f b (ltb-true r b e))
   above r f b false e = tt
 
-  here : (r : ℕ) → Dec (r < rowCount rows) → ((b : ℕ) → r < rowCount rows → r < b → Rising (rowCount rows) b (atRow noPart step (rowCount rows) b .branches)) → PartOk (rowCount rows) r (atRow noPart step (rowCount rows) r)
-  here r (yes l) f = rw (atRow-at noPart step (rowCount rows) r l) (part-ok r (λ b. ifElse (ltb r b) (atRow noPart step (rowCount rows) b) noPart) l (λ b. above r (λ c. f c l) b (ltb r b) refl) (nodeAt rows r))
-  here r (no l) f = rw (atRow-past noPart step (rowCount rows) r (omega arith)) (tt, tt)
+  here : (r : ℕ) → Dec (r < rowCount rows) → ((b : ℕ) → r < rowCount rows → r < b → Rising (rowCount rows) b (atRow noContent step (rowCount rows) b .options)) → PartOk (rowCount rows) r (atRow noContent step (rowCount rows) r)
+  here r (yes l) f = rw (atRow-at noContent step (rowCount rows) r l) (part-ok r (λ b. ifElse (ltb r b) (atRow noContent step (rowCount rows) b) noContent) l (λ b. above r (λ c. f c l) b (ltb r b) refl) (nodeAt rows r))
+  here r (no l) f = rw (atRow-past noContent step (rowCount rows) r (omega arith)) (tt, tt)
 
   -- every part, by the distance to the table's end
-  every : (k r : ℕ) → rowCount rows - r ≤ k → PartOk (rowCount rows) r (atRow noPart step (rowCount rows) r)
-  every zero r h = rw (atRow-past noPart step (rowCount rows) r (omega arith)) (tt, tt)
+  every : (k r : ℕ) → rowCount rows - r ≤ k → PartOk (rowCount rows) r (atRow noContent step (rowCount rows) r)
+  every zero r h = rw (atRow-past noContent step (rowCount rows) r (omega arith)) (tt, tt)
   every (suc k) r h = here r (decLt r (rowCount rows)) (λ b l m. every k b (omega arith) .0)
 
-  process-is : (r : ℕ) → processAt (program rows) r ≡ orStop (atRow noPart step (rowCount rows) r .process)
-  unfolding processAt program parts atRow
-  process-is r = List·getD-map (λ (p : Part). orStop (p .process)) (lastRows noPart step (rowCount rows) (rowCount rows)) r noPart
+  process-is : (r : ℕ) → processAt (program rows) r ≡ orStop (atRow noContent step (rowCount rows) r .process)
+  unfolding processAt program contents atRow
+  process-is r = List·getD-map (λ (p : Content). orStop (p .process)) (lastRows noContent step (rowCount rows) (rowCount rows)) r noContent
 
   or-stop : (n : ℕ) (o : Option Process) → ProcessOk n o → ActionOk n (actionOf (orStop o))
   or-stop n none h = tt
@@ -111,34 +115,34 @@ module _ (rows : List ℤ) where
 
   -- the options of the process at a row rise
   pub options-rise : (r : ℕ) → ActionOk (rowCount rows) (actionOf (processAt (program rows) r))
-  options-rise r = rw (process-is r) (or-stop (rowCount rows) (atRow noPart step (rowCount rows) r .process) (every (rowCount rows - r) r (omega arith) .1))
+  options-rise r = rw (process-is r) (or-stop (rowCount rows) (atRow noContent step (rowCount rows) r .process) (every (rowCount rows - r) r (omega arith) .1))
 
 -- ---- what options offer
 
 module _ (sheet : Sheet) (x : Store) (n : ℕ) where
-  abbrev pub LookedOk : ℕ → Looked → Type 0
+  abbrev pub LookedOk : ℕ → OptionsResult → Type 0
   LookedOk lo (fails k) = Unit {0}
   LookedOk lo (offers os) = RisingO n lo os
 
-  weaken : (lo hi : ℕ) (L : Looked) → lo ≤ hi → LookedOk hi L → LookedOk lo L
+  weaken : (lo hi : ℕ) (L : OptionsResult) → lo ≤ hi → LookedOk hi L → LookedOk lo L
   weaken lo hi (fails k) h r = tt
   weaken lo hi (offers os) h r = lowerO n lo hi os h r
 
-  add-ok : (lo : ℕ) (o : Offer) (L : Looked) → lo ≤ optionRow o → optionRow o < n → LookedOk (suc (optionRow o)) L → LookedOk lo (adding o L)
+  add-ok : (lo : ℕ) (o : Offer) (L : OptionsResult) → lo ≤ optionRow o → optionRow o < n → LookedOk (suc (optionRow o)) L → LookedOk lo (adding o L)
   add-ok lo o (fails k) a b h = tt
   add-ok lo o (offers os) a b h = (a, b, h)
 
-  admit-ok : (lo j q : ℕ) (R : Reception) (L : Looked) → lo ≤ j → j < n → LookedOk (suc j) L → LookedOk lo (admitting j q R L)
+  admit-ok : (lo j q : ℕ) (R : InputResult) (L : OptionsResult) → lo ≤ j → j < n → LookedOk (suc j) L → LookedOk lo (admitting j q R L)
   admit-ok lo j q (lacks k) L a b h = tt
-  admit-ok lo j q later L a b h = weaken lo (suc j) L (omega arith) h
+  admit-ok lo j q notYet L a b h = weaken lo (suc j) L (omega arith) h
   admit-ok lo j q (reads ws) L a b h = add-ok lo (openOffer j q ws) L a b h
   admit-ok lo j q (fromElement e c) L a b h = add-ok lo (inputOffer j q e c) L a b h
 
-  open-ok : (lo j q : ℕ) (i : Option Reception) (L : Looked) → lo ≤ j → j < n → LookedOk (suc j) L → LookedOk lo (opening j q i L)
+  open-ok : (lo j q : ℕ) (i : Option InputResult) (L : OptionsResult) → lo ≤ j → j < n → LookedOk (suc j) L → LookedOk lo (opening j q i L)
   open-ok lo j q none L a b h = add-ok lo (openOffer j q []) L a b h
   open-ok lo j q (some R) L a b h = admit-ok lo j q R L a b h
 
-  guard-ok : (lo j q : ℕ) (w : Value) (i : Option Reception) (L : Looked) → lo ≤ j → j < n → LookedOk (suc j) L → LookedOk lo (guarding j q w i L)
+  guard-ok : (lo j q : ℕ) (w : Value) (i : Option InputResult) (L : OptionsResult) → lo ≤ j → j < n → LookedOk (suc j) L → LookedOk lo (guarding j q w i L)
   guard-ok lo j q (Missing k) i L a b h = tt
   guard-ok lo j q (Number z) i L a b h = go (isTrue z)
     where
@@ -146,9 +150,9 @@ module _ (sheet : Sheet) (x : Store) (n : ℕ) where
       go true = open-ok lo j q i L a b h
       go false = weaken lo (suc j) L (omega arith) h
 
-  pub looks-ok : (lo : ℕ) (l : List AltOption) → Rising n lo l → LookedOk lo (looks sheet l x)
+  pub looks-ok : (lo : ℕ) (l : List AltOption) → Rising n lo l → LookedOk lo (optionsResult sheet l x)
   looks-ok lo [] r = tt
-  looks-ok lo (b ∷ l) r = guard-ok lo (b .row) (b .process) (value (x .cells) (b .guard .boolean)) (receptionIf sheet (b .guard .input) x) (looks sheet l x) (r .0) (r .1) (looks-ok (suc (b .row)) l (r .2))
+  looks-ok lo (b ∷ l) r = guard-ok lo (b .row) (b .process) (value (x .cells) (b .guard .boolean)) (inputResultIf sheet (b .guard .input) x) (optionsResult sheet l x) (r .0) (r .1) (looks-ok (suc (b .row)) l (r .2))
 
 -- rising rows are each another, and all below n
 floor : (n lo : ℕ) (l : List Offer) → RisingO n lo l → (p : Offer) → List·Memᴰ p l → (lo ≤ optionRow p) × (optionRow p < n)

@@ -10,17 +10,17 @@ use lib.IntN.{ℤ}
 use lib.ListN.{length, getD, replicate}
 use Rattle.meaning.specs.Rows.{rowCount}
 use Rattle.meaning.specs.Declarations.{sinkAt}
-use Rattle.meaning.specs.Tree.{Process, node, Members, empty, also, rowOf, rowsIn, rowsBeneath}
-use Rattle.meaning.specs.Settle.{stateOf, anyOf, start, settled}
+use Rattle.meaning.specs.Tree.{Process, node, Processes, empty, also, rowOf, rowsIn, rowsBeneath}
+use Rattle.meaning.specs.Values.{Message}
+use Rattle.meaning.specs.Settle.{start, settled}
 use Rattle.meaning.specs.SettlingRules.{Among, All, Inside}
-use Rattle.meaning.specs.State.{Message, State, Program, program, whole, changeStates}
-use Rattle.meaning.specs.Intent.{Sheet}
-use Rattle.meaning.specs.Ready.{Label}
-use Rattle.meaning.specs.Run.{isStopped}
+use Rattle.meaning.specs.State.{State, stateOf, anyOf, Program, program, whole, changeStates}
+use Rattle.meaning.specs.Labels.{Label}
+use Rattle.meaning.specs.Readings.{Sheet}
 use Rattle.meaning.specs.Step.{Step}
-use Rattle.meaning.specs.Order.{rootStarted, Order, halt, then, OrderOf}
+use Rattle.meaning.specs.Order.{isStopped, rootStarted, Order, halt, next-step, OrderOf}
 use Rattle.meaning.specs.Answers.{check}
-use Rattle.agreement.specs.Coherence.{RowState, AllIdle, CoherentRows, OrdersCoherent, EndedOrBroken, MembersTell}
+use Rattle.agreement.specs.Coherence.{RowState, AllIdle, CoherentRows, OrdersCoherent, EndedOrBroken, ProcessesTell}
 use Rattle.agreement.proofs.Allowed.{allowed}
 use Rattle.agreement.proofs.Steps.{distinct-options}
 use Rattle.agreement.proofs.Fit.{Fit}
@@ -65,7 +65,7 @@ module _ (rows : List ℤ) (ok : check rows ≡ none) (sheet : Sheet) where
   start-bounded =
       record {
         places-left = λ c. omega (arith, default-everywhere {A = ℕ} (P .inputs) 0 c);
-        room-kept = λ r h. let e = ap (λ (l : List Message). length l) (default-everywhere {A = List Message} (P .outputs) [] (sinkAt rows r .port)) in omega arith;
+        room-kept = λ r h. let e = ap (λ (l : List Message). length l) (default-everywhere {A = List Message} (P .outputs) [] (sinkAt rows r .number)) in omega arith;
       }
 
   step-kept : (s : State) (x : Label) (t : State) → Kept s → Step P sheet s x t → Kept t
@@ -82,7 +82,7 @@ module _ (rows : List ℤ) (ok : check rows ≡ none) (sheet : Sheet) where
 
   order-kept : {s t : State} {l : List Label} → Kept s → Order P sheet s l t → Kept t
   order-kept k halt = k
-  order-kept k (then {s} {t} {x} h o) = order-kept (step-kept s x t k h) o
+  order-kept k (next-step {s} {t} {x} h o) = order-kept (step-kept s x t k h) o
 
   reached-kept : {s : State} {l : List Label} → OrderOf rows sheet l s → Kept s
   reached-kept o =
@@ -127,11 +127,11 @@ idle-process : (q : Process) (s : List ℕ) (whole : Process) → CoherentRows s
 idle-process (node a r ms) s whole c i e x (List·Memᴰ·head q) = ap (λ (y : ℕ). getD s y 0) q ∙ e
 idle-process (node a r ms) s whole c i e x (List·Memᴰ·tail m) = c .beneath-idle a r ms i e x m
 
-idle-members : (s : List ℕ) (whole : Process) → CoherentRows s whole → (ms : Members) → ((q : Process) → Among q ms → Inside whole q) → All 0 s ms → AllIdle s (rowsBeneath ms)
+idle-members : (s : List ℕ) (whole : Process) → CoherentRows s whole → (ms : Processes) → ((q : Process) → Among q ms → Inside whole q) → All 0 s ms → AllIdle s (rowsBeneath ms)
 idle-members s whole c empty i h x m = absurd (List·Memᴰ·not-nil m)
-idle-members s whole c (also p ms) i (All.and-then e h) x m =
-    ⊎-elim (idle-process p s whole c (i p Among.first) e x) (idle-members s whole c ms (λ q a. i q (Among.later a)) h x) (List·Memᴰ·append-cases (rowsIn p) m)
+idle-members s whole c (also p ms) i (All.all-more e h) x m =
+    ⊎-elim (idle-process p s whole c (i p Among.among-first) e x) (idle-members s whole c ms (λ q a. i q (Among.among-later a)) h x) (List·Memᴰ·append-cases (rowsIn p) m)
 
-pub members-tell : MembersTell
+pub members-tell : ProcessesTell
 members-tell rows ok sheet l s o a r ms i h =
     idle-members (s .states) (whole (program rows)) (orders-coherent rows ok sheet l s o .rows-coherent) ms (λ q m. Inside.beneath i m) h

@@ -9,11 +9,12 @@ use Rattle.meaning.specs.Rows.{rowCount}
 use Rattle.meaning.specs.Tree.{rowOf}
 use Rattle.meaning.specs.SettlingRules.{Final}
 use Rattle.meaning.specs.State.{State, Program, program, whole, changeStates, Effect}
-use Rattle.meaning.specs.Intent.{Sheet}
-use Rattle.meaning.specs.Ready.{Label, effectOf, intentAt}
+use Rattle.meaning.specs.Labels.{Label}
+use Rattle.meaning.specs.Readings.{Sheet}
+use Rattle.meaning.specs.Ready.{effectOf, intentAt}
 use Rattle.meaning.specs.Settle.{settle, settled}
 use Rattle.meaning.specs.Step.{Leaves, Step}
-use Rattle.meaning.specs.Order.{Begins, Order, halt, then}
+use Rattle.meaning.specs.Order.{Begins, Order, halt, next-step}
 use Rattle.meaning.specs.Answers.{check}
 use Rattle.agreement.specs.SettlingClaims.{NormalForm, StartSettles, StartBegins, StepsSettle, SettledIsAfterSettling, OrdersSettled, SettledAgain, SettlingKeepsData}
 use Rattle.agreement.proofs.Takeable.{takeable}
@@ -55,7 +56,7 @@ module _ (rows : List ℤ) (ok : check rows ≡ none) where
 
     order-final : {s t : State} {l : List Label} → Final (whole P) (s .states) → Order P sheet s l t → Final (whole P) (t .states)
     order-final f halt = f
-    order-final f (then h o) = order-final (h .leaves .settles .final) o
+    order-final f (next-step h o) = order-final (h .leaves .settles .final) o
 
 pub start-settles : StartSettles
 start-settles rows ok = start-normal (program rows) (rowCount rows) (fit rows ok)

@@ -7,11 +7,12 @@ use native.Mathlib.Omega.{arith}
 use native.Mathlib.Decide.{ℕ-discrete, decLt}
 use lib.ListN.{length, getD, set}
 use lib.Seq.{set-out, getD-set-same, getD-set-other}
-use Rattle.meaning.specs.State.{Message, Store, State, Program, writeAll, Effect}
-use Rattle.meaning.specs.Intent.{Sheet}
-use Rattle.meaning.specs.Ready.{Label}
+use Rattle.meaning.specs.Values.{Message}
+use Rattle.meaning.specs.State.{Store, State, Program, writeAll, Effect}
+use Rattle.meaning.specs.Labels.{Label}
+use Rattle.meaning.specs.Readings.{Sheet}
 use Rattle.meaning.specs.Step.{Allows, Step, assignment, while-false, while-true, if-true, communication, host-read, host-write, alt-skip, alt-read, alt-communication, stopping}
-use Rattle.meaning.specs.Order.{Order, halt, then}
+use Rattle.meaning.specs.Order.{Order, halt, next-step}
 
 -- the lists of one state begin with those of another
 abbrev pub Grows : List (List Message) → List (List Message) → Type 0
@@ -37,7 +38,7 @@ module _ (P : Program) (sheet : Sheet) where
   effect-grows s x e (if-true g h) = same-lists (s .store .outputs)
   effect-grows s x e (communication g k h w) = same-lists (s .store .outputs)
   effect-grows s x e (host-read g h) = same-lists (s .store .outputs)
-  effect-grows s x e (host-write {c} {z} g h p q o m) = rw (← o) (set-grows (s .store .outputs) (c .port) (some z ∷ []))
+  effect-grows s x e (host-write {c} {z} g h p q o m) = rw (← o) (set-grows (s .store .outputs) (c .number) (some z ∷ []))
   effect-grows s x e (alt-skip g c m h q) = same-lists (s .store .outputs)
   effect-grows s x e (alt-read g c m h q k) = same-lists (s .store .outputs)
   effect-grows s x e (alt-communication g c m k h q w y) = same-lists (s .store .outputs)
@@ -51,4 +52,4 @@ module _ (P : Program) (sheet : Sheet) where
 
   pub order-grows : {s t : State} {l : List Label} → Order P sheet s l t → Grows (s .store .outputs) (t .store .outputs)
   order-grows {s} halt = same-lists (s .store .outputs)
-  order-grows (then {s} {t} {u} {x} h o) = grows-on (s .store .outputs) (t .store .outputs) (u .store .outputs) (step-grows s x t h) (order-grows o)
+  order-grows (next-step {s} {t} {u} {x} h o) = grows-on (s .store .outputs) (t .store .outputs) (u .store .outputs) (step-grows s x t h) (order-grows o)

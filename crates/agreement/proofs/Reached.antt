@@ -3,10 +3,11 @@ use mathlib.Core.List.{List, [], _∷_, _++_}
 use lib.IntN.{ℤ}
 use Rattle.meaning.specs.Rows.{rowCount}
 use Rattle.meaning.specs.State.{State, Program, program}
-use Rattle.meaning.specs.Intent.{Sheet}
-use Rattle.meaning.specs.Ready.{Label, after}
+use Rattle.meaning.specs.Labels.{Label}
+use Rattle.meaning.specs.Readings.{Sheet}
+use Rattle.meaning.specs.Ready.{after}
 use Rattle.meaning.specs.Step.{Step}
-use Rattle.meaning.specs.Order.{Order, halt, then, OrderOf}
+use Rattle.meaning.specs.Order.{Order, halt, next-step, OrderOf}
 use Rattle.agreement.proofs.Claims.{ReadySteps}
 use Rattle.agreement.proofs.Fit.{Fit}
 use Rattle.agreement.proofs.Steps.{ready-allowed, allowed-ready}
@@ -14,8 +15,8 @@ use Rattle.agreement.proofs.Separate.{table-inv}
 
 -- an order with one step more at its end
 more : (P : Program) (sheet : Sheet) {s t u : State} {l : List Label} {x : Label} → Order P sheet s l t → Step P sheet t x u → Order P sheet s (l ++ (x ∷ [])) u
-more P sheet halt h = then h halt
-more P sheet (then k o) h = then k (more P sheet o h)
+more P sheet halt h = next-step h halt
+more P sheet (next-step k o) h = next-step k (more P sheet o h)
 
 pub order-more : (rows : List ℤ) (sheet : Sheet) {t u : State} {l : List Label} {x : Label} → OrderOf rows sheet l t → Step (program rows) sheet t x u → OrderOf rows sheet (l ++ (x ∷ [])) u
 order-more rows sheet o h = record { beginning = o .beginning; begins = o .begins; order = more (program rows) sheet (o .order) h }

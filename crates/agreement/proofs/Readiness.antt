@@ -1,6 +1,6 @@
 -- The list of ready steps holds exactly the steps that the machine can take.
 use mathlib.Core.Path.{_≡_, refl, sym, ap, _∙_}
-use mathlib.Core.Logic.{_≢_, _⊎_, ⊎-elim}
+use mathlib.Core.Logic.{_≢_, ⊎-elim}
 use mathlib.Core.Bool.{Bool, true, false, _&&_, true≢false}
 use mathlib.Core.Option.{Option, some, Option·none-ne-some}
 use mathlib.Core.List.{List, [], _∷_, map, List·Memᴰ, List·Memᴰ·head, List·Memᴰ·tail, Memᴰ·append-left, Memᴰ·append-right, Memᴰ·cast, List·Memᴰ·append-cases, List·Memᴰ·not-nil}
@@ -9,11 +9,14 @@ use native.Mathlib.Nat.{eq-or-lt-of-le}
 use native.Mathlib.Omega.{arith}
 use lib.ListN.{length, getD}
 use lib.Dec.{eqb, T, eqb→eq, eqb-refl}
-use Rattle.meaning.specs.Rows.{ifElse}
-use Rattle.meaning.specs.Tree.{actionOf, membersIn, rowsBeneath}
-use Rattle.meaning.specs.State.{Message, State, Program, processAt, Write, writeCell, StateChange, Effect}
-use Rattle.meaning.specs.Intent.{Sheet, Offer, openOffer, inputOffer, Intent, waits, moves, inputsFrom, outputsTo, selects, intent}
-use Rattle.meaning.specs.Ready.{Label, own, pass, take, takeFrom, orderRow, allIdle, running, ownEffect, WaitingInput, meeting, meetEffect, passEffect, takeEffect, takeFromEffect, optionRow, offerEffectAt, offerEffect, effectOf, RunningRow, outputAt, outputsAt, offered, stepsOf, stepsAll, stepsAt, byRow, live, intentAt, runningRows, ready}
+use Rattle.meaning.specs.Basics.{ifElse}
+use Rattle.meaning.specs.Tree.{actionOf, processesIn, rowsBeneath}
+use Rattle.meaning.specs.Values.{Message}
+use Rattle.meaning.specs.State.{State, Program, processAt, Write, writeCell, StateChange, Effect}
+use Rattle.meaning.specs.Labels.{Label, own, pass, takeOption, takeWithOutput, orderRow}
+use Rattle.meaning.specs.Readings.{Sheet}
+use Rattle.meaning.specs.Intent.{Offer, openOffer, inputOffer, Intent, waits, moves, inputsFrom, outputsTo, selects, intent}
+use Rattle.meaning.specs.Ready.{allIdle, runningFrom, ownEffect, WaitingInput, communicationWhere, communicationEffect, passEffect, takeEffect, takeFromEffect, optionRow, offerEffectAt, offerEffect, effectOf, RunningRow, outputAt, outputsAt, offered, stepsOf, stepsAll, stepsAt, byRow, isLive, intentAt, runningRows, ready}
 
 true-is : (t : Bool) → T t → t ≡ true
 true-is true h = refl
@@ -101,12 +104,12 @@ givers-mem : (e : ℕ) (v : Message) (b : RunningRow) (l : List RunningRow) → 
 givers-mem e v b l (List·Memᴰ·head {x = c} {xs} q) h = Memᴰ·append-left {s = outputAt e (c .row) (c .intent)} (outputsAt e xs) (rw (← q, h, eqb-same e) (List·Memᴰ·head refl))
 givers-mem e v b l (List·Memᴰ·tail {x = c} {xs} m) h = Memᴰ·append-right (outputAt e (c .row) (c .intent)) (givers-mem e v b xs m h)
 
-running-mem : (j r : ℕ) (s : List ℕ) → getD s r 0 ≡ 1 → List·Memᴰ (j + r) (running j s)
+running-mem : (j r : ℕ) (s : List ℕ) → getD s r 0 ≡ 1 → List·Memᴰ (j + r) (runningFrom j s)
 running-mem j r [] e = absurd (omega arith)
 running-mem j zero (x ∷ s) e = rw e (List·Memᴰ·head {x = j} (omega arith))
 running-mem j (suc r) (x ∷ s) e = go (eqb x 1) (Memᴰ·cast {b = suc j + r} (omega arith) (running-mem (suc j) r s e))
   where
-    go : (t : Bool) → List·Memᴰ (j + suc r) (running (suc j) s) → List·Memᴰ (j + suc r) (ifElse t (j ∷ running (suc j) s) (running (suc j) s))
+    go : (t : Bool) → List·Memᴰ (j + suc r) (runningFrom (suc j) s) → List·Memᴰ (j + suc r) (ifElse t (j ∷ runningFrom (suc j) s) (runningFrom (suc j) s))
     go true m = List·Memᴰ·tail m
     go false m = m
 
@@ -138,8 +141,8 @@ finds j f e (o ∷ l) q = go (eqb (optionRow o) j) refl q (λ z. finds j f e l z
 
 -- the steps that an offer makes
 data Makes (r : ℕ) (bs : List RunningRow) (l : List Offer) : Label → Type 0 where
-  by-free : (j q : ℕ) (ws : List Write) → List·Memᴰ (openOffer j q ws) l → Makes r bs l (take r j)
-  by-meets : (j q e a o : ℕ) → List·Memᴰ (inputOffer j q e a) l → List·Memᴰ o (outputsAt e bs) → Makes r bs l (takeFrom r j o)
+  by-free : (j q : ℕ) (ws : List Write) → List·Memᴰ (openOffer j q ws) l → Makes r bs l (takeOption r j)
+  by-meets : (j q e a o : ℕ) → List·Memᴰ (inputOffer j q e a) l → List·Memᴰ o (outputsAt e bs) → Makes r bs l (takeWithOutput r j o)
 
 widen : {r : ℕ} {bs : List RunningRow} {l : List Offer} {x : Label} (o : Offer) → Makes r bs l x → Makes r bs (o ∷ l) x
 widen o (by-free j q ws m) = by-free j q ws (List·Memᴰ·tail m)
@@ -150,23 +153,23 @@ mem-offered r bs x [] m = absurd (List·Memᴰ·not-nil m)
 mem-offered r bs x (openOffer j q ws ∷ l) (List·Memᴰ·head e) = rw e (by-free j q ws (List·Memᴰ·head refl))
 mem-offered r bs x (openOffer j q ws ∷ l) (List·Memᴰ·tail m) = widen (openOffer j q ws) (mem-offered r bs x l m)
 mem-offered r bs x (inputOffer j q e a ∷ l) m =
-    ⊎-elim (λ (h : List·Memᴰ x (map (takeFrom r j) (outputsAt e bs))). let (o, (n, z)) = mem-map (takeFrom r j) x (outputsAt e bs) h in rw z (by-meets j q e a o (List·Memᴰ·head refl) n))
-    (λ (h : List·Memᴰ x (offered r bs l)). widen (inputOffer j q e a) (mem-offered r bs x l h)) (List·Memᴰ·append-cases (map (takeFrom r j) (outputsAt e bs)) m)
+    ⊎-elim (λ (h : List·Memᴰ x (map (takeWithOutput r j) (outputsAt e bs))). let (o, (n, z)) = mem-map (takeWithOutput r j) x (outputsAt e bs) h in rw z (by-meets j q e a o (List·Memᴰ·head refl) n))
+    (λ (h : List·Memᴰ x (offered r bs l)). widen (inputOffer j q e a) (mem-offered r bs x l h)) (List·Memᴰ·append-cases (map (takeWithOutput r j) (outputsAt e bs)) m)
 
-free-mem : (r j q : ℕ) (ws : List Write) (bs : List RunningRow) (l : List Offer) → List·Memᴰ (openOffer j q ws) l → List·Memᴰ (take r j) (offered r bs l)
-free-mem r j q ws bs (openOffer i p us ∷ l) (List·Memᴰ·head e) = List·Memᴰ·head (ap (λ (o : Offer). take r (optionRow o)) e)
+free-mem : (r j q : ℕ) (ws : List Write) (bs : List RunningRow) (l : List Offer) → List·Memᴰ (openOffer j q ws) l → List·Memᴰ (takeOption r j) (offered r bs l)
+free-mem r j q ws bs (openOffer i p us ∷ l) (List·Memᴰ·head e) = List·Memᴰ·head (ap (λ (o : Offer). takeOption r (optionRow o)) e)
 free-mem r j q ws bs (openOffer i p us ∷ l) (List·Memᴰ·tail m) = List·Memᴰ·tail (free-mem r j q ws bs l m)
 free-mem r j q ws bs (inputOffer i p e a ∷ l) (List·Memᴰ·head z) = let y : _≡_ {A = ℕ} 0 1 = cc in absurd (omega arith)
-free-mem r j q ws bs (inputOffer i p e a ∷ l) (List·Memᴰ·tail m) = Memᴰ·append-right (map (takeFrom r i) (outputsAt e bs)) (free-mem r j q ws bs l m)
+free-mem r j q ws bs (inputOffer i p e a ∷ l) (List·Memᴰ·tail m) = Memᴰ·append-right (map (takeWithOutput r i) (outputsAt e bs)) (free-mem r j q ws bs l m)
 
-meets-mem : (r j q e a o : ℕ) (bs : List RunningRow) (l : List Offer) → List·Memᴰ (inputOffer j q e a) l → List·Memᴰ o (outputsAt e bs) → List·Memᴰ (takeFrom r j o) (offered r bs l)
+meets-mem : (r j q e a o : ℕ) (bs : List RunningRow) (l : List Offer) → List·Memᴰ (inputOffer j q e a) l → List·Memᴰ o (outputsAt e bs) → List·Memᴰ (takeWithOutput r j o) (offered r bs l)
 meets-mem r j q e a o bs (openOffer i p us ∷ l) (List·Memᴰ·head z) n = let y : _≡_ {A = ℕ} 0 1 = cc in absurd (omega arith)
 meets-mem r j q e a o bs (openOffer i p us ∷ l) (List·Memᴰ·tail m) n = List·Memᴰ·tail (meets-mem r j q e a o bs l m n)
 meets-mem r j q e a o bs (inputOffer i p d c ∷ l) (List·Memᴰ·head z) n =
     let ei : j ≡ i = cc in
     let ed : e ≡ d = cc in
-    Memᴰ·append-left {s = map (takeFrom r i) (outputsAt d bs)} (offered r bs l) (rw (← ei, ← ed) (map-mem (takeFrom r j) o (outputsAt e bs) n))
-meets-mem r j q e a o bs (inputOffer i p d c ∷ l) (List·Memᴰ·tail m) n = Memᴰ·append-right (map (takeFrom r i) (outputsAt d bs)) (meets-mem r j q e a o bs l m n)
+    Memᴰ·append-left {s = map (takeWithOutput r i) (outputsAt d bs)} (offered r bs l) (rw (← ei, ← ed) (map-mem (takeWithOutput r j) o (outputsAt e bs) n))
+meets-mem r j q e a o bs (inputOffer i p d c ∷ l) (List·Memᴰ·tail m) n = Memᴰ·append-right (map (takeWithOutput r i) (outputsAt d bs)) (meets-mem r j q e a o bs l m n)
 
 abbrev mark : ℕ → ℕ → ℕ → StateChange
 mark r x v = record { by = r; at = x; become = v }
@@ -183,18 +186,18 @@ module _ (P : Program) (sheet : Sheet) (s : State) where
 
   bid-is : (b : RunningRow) → List·Memᴰ b (runningRows P sheet s) → W (b .row) ≡ b .intent
   unfolding runningRows
-  bid-is b m = let (r, (n, e)) = mem-map (λ (r : ℕ). record { row = r; intent = intentAt P sheet s r }) b (running 0 (s .states)) m in rw e
+  bid-is b m = let (r, (n, e)) = mem-map (λ (r : ℕ). record { row = r; intent = intentAt P sheet s r }) b (runningFrom 0 (s .states)) m in rw e
 
   bid-mem : (r : ℕ) → getD (s .states) r 0 ≡ 1 → List·Memᴰ (record { row = r; intent = W r }) (runningRows P sheet s)
   unfolding runningRows
   bid-mem r e =
       let n : r ≡ 0 + r = omega arith in
-      map-mem (λ (r : ℕ). record { row = r; intent = intentAt P sheet s r }) r (running 0 (s .states)) (Memᴰ·cast {b = 0 + r} n (running-mem 0 r (s .states) e))
+      map-mem (λ (r : ℕ). record { row = r; intent = intentAt P sheet s r }) r (runningFrom 0 (s .states)) (Memᴰ·cast {b = 0 + r} n (running-mem 0 r (s .states) e))
 
   -- a row that wants something is running
   busy : (r : ℕ) → W r ≢ waits → getD (s .states) r 0 ≡ 1
-  unfolding intentAt live
-  busy r h = go (eqb (getD (s .states) r 0) 1) (allIdle (rowsBeneath (membersIn (processAt P r))) (s .states)) refl h
+  unfolding intentAt isLive
+  busy r h = go (eqb (getD (s .states) r 0) 1) (allIdle (rowsBeneath (processesIn (processAt P r))) (s .states)) refl h
     where
       go : (t u : Bool) → eqb (getD (s .states) r 0) 1 ≡ t → (ifElse (t && u) (intent sheet (actionOf (processAt P r)) r (s .store)) waits ≢ waits) → getD (s .states) r 0 ≡ 1
       go true u e k = eqb-is (getD (s .states) r 0) 1 e
@@ -215,7 +218,7 @@ module _ (P : Program) (sheet : Sheet) (s : State) where
   at-work : (r : ℕ) → tag (W r) ≡ 1 → getD (s .states) r 0 ≡ 1
   at-work r e = busy r (λ z. let y : _≡_ {A = ℕ} 0 1 = ap tag (sym z) ∙ e in omega arith)
 
-  from-gives : (w : WaitingInput) (o : ℕ) (z : Message) → W o ≡ outputsTo (w .element) z → (e : Effect) × (meetEffect w o (W o) ≡ some e)
+  from-gives : (w : WaitingInput) (o : ℕ) (z : Message) → W o ≡ outputsTo (w .element) z → (e : Effect) × (communicationEffect w o (W o) ≡ some e)
   from-gives w o z h = (effect (w .change ∷ mark o o 2 ∷ []) (writeCell (w .cell) z ∷ []), rw (h, eqb-same (w .element)))
 
   giver-wants : (d o : ℕ) → List·Memᴰ o (outputsAt d B) → (z : Message) × (W o ≡ outputsTo d z)
@@ -270,14 +273,14 @@ module _ (P : Program) (sheet : Sheet) (s : State) where
       own-listed r e (selects l) h q = absurd (Option·none-ne-some e q)
 
       -- the partner of a communication outputs to its element
-      partner : (w : WaitingInput) (o : ℕ) (e : Effect) (u : Intent) → meetEffect w o u ≡ some e → (z : Message) × (u ≡ outputsTo (w .element) z)
+      partner : (w : WaitingInput) (o : ℕ) (e : Effect) (u : Intent) → communicationEffect w o u ≡ some e → (z : Message) × (u ≡ outputsTo (w .element) z)
       partner w o e waits q = absurd (Option·none-ne-some e q)
       partner w o e (moves x v ws) q = absurd (Option·none-ne-some e q)
       partner w o e (inputsFrom f c) q = absurd (Option·none-ne-some e q)
       partner w o e (selects l) q = absurd (Option·none-ne-some e q)
       partner w o e (outputsTo f z) q = go (eqb (w .element) f) refl q
         where
-          go : (t : Bool) → eqb (w .element) f ≡ t → meeting t w o z ≡ some e → (k : Message) × (outputsTo f z ≡ outputsTo (w .element) k)
+          go : (t : Bool) → eqb (w .element) f ≡ t → communicationWhere t w o z ≡ some e → (k : Message) × (outputsTo f z ≡ outputsTo (w .element) k)
           go true g q = (z, ap (λ (k : ℕ). outputsTo k z) (sym (eqb-is (w .element) f g)))
           go false g q = absurd (Option·none-ne-some e q)
 
@@ -301,11 +304,11 @@ module _ (P : Program) (sheet : Sheet) (s : State) where
           let b = L r l h o m in
           listed x r (rw h) (rw h (k l o m g t)) (omega arith)
 
-      free-listed : (r j : ℕ) (e : Effect) (l : List Offer) (o : Offer) → List·Memᴰ o l → optionRow o ≡ j → takeEffect r o ≡ some e → List·Memᴰ (take r j) (offered r B l)
+      free-listed : (r j : ℕ) (e : Effect) (l : List Offer) (o : Offer) → List·Memᴰ o l → optionRow o ≡ j → takeEffect r o ≡ some e → List·Memᴰ (takeOption r j) (offered r B l)
       free-listed r j e l (openOffer i q ws) m g t = rw (← g) (free-mem r i q ws B l m)
       free-listed r j e l (inputOffer i q d a) m g t = absurd (Option·none-ne-some e t)
 
-      meets-listed : (r j p : ℕ) (e : Effect) (l : List Offer) (o : Offer) → List·Memᴰ o l → optionRow o ≡ j → takeFromEffect r p (W p) o ≡ some e → List·Memᴰ (takeFrom r j p) (offered r B l)
+      meets-listed : (r j p : ℕ) (e : Effect) (l : List Offer) (o : Offer) → List·Memᴰ o l → optionRow o ≡ j → takeFromEffect r p (W p) o ≡ some e → List·Memᴰ (takeWithOutput r j p) (offered r B l)
       meets-listed r j p e l (openOffer i q ws) m g t = absurd (Option·none-ne-some e t)
       meets-listed r j p e l (inputOffer i q d a) m g t =
           let (z, h) = partner (record { element = d; cell = a; change = mark r q 1 }) p e (W p) t in
@@ -315,5 +318,5 @@ module _ (P : Program) (sheet : Sheet) (s : State) where
       pub can-ready : (x : Label) (e : Effect) → effectOf x W ≡ some e → List·Memᴰ x (ready P sheet s)
       can-ready (own r) e q = own-listed r e (W r) refl q
       can-ready (pass i o) e q = pass-listed i o e (W i) refl q
-      can-ready (take r j) e q = offer-listed r j (take r j) e (takeEffect r) (W r) refl (free-listed r j e) refl q
-      can-ready (takeFrom r j o) e q = offer-listed r j (takeFrom r j o) e (takeFromEffect r o (W o)) (W r) refl (meets-listed r j o e) refl q
+      can-ready (takeOption r j) e q = offer-listed r j (takeOption r j) e (takeEffect r) (W r) refl (free-listed r j e) refl q
+      can-ready (takeWithOutput r j o) e q = offer-listed r j (takeWithOutput r j o) e (takeFromEffect r o (W o)) (W r) refl (meets-listed r j o e) refl q

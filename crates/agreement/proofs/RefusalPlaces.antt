@@ -12,27 +12,28 @@ use lib.ListN.{length}
 use lib.Dec.{T, leb, ltb, eqb}
 use borrow.Author.Tests.{eqb-true, leb-false}
 use Rattle.meaning.specs.declared.Node.{Node}
-use Rattle.meaning.specs.declared.Node.the-variants.{Literal, Element, Monadic, Dyadic, Stop, Skip, Assignment, Input, Output, Seq, Par, If, While, Alt, Member, Choice, Option as Alternative, Guard, Other}
+use Rattle.meaning.specs.declared.Node.the-variants.{Literal, Element, Monadic, Dyadic, Stop, Skip, Assignment, Input, Output, Seq, Par, If, While, Alt, Member, Choice, OptionRow, Guard, Other}
 use Rattle.meaning.specs.declared.Answer.the-variants.{Refused}
 use Rattle.meaning.specs.Limits.{maxRows, maxSheet, maxBudget}
 use Rattle.meaning.specs.Basics.{ifElse, isSome, lowest, Lowest}
 use Rattle.meaning.specs.Lines.{lines}
-use Rattle.meaning.specs.Rows.{rowCount, kindAt, declarations, nodeAt}
+use Rattle.meaning.specs.Rows.{rowCount, kindAt}
 use Rattle.meaning.specs.Refusals.{Refusal, either}
 use Rattle.meaning.specs.Stages.{bufferFault, budgetFault}
 use Rattle.meaning.specs.TableBytes.{bytesFault, rowsOf, lineAt, overlong, malformed, oneTooMany, refusalAt}
-use Rattle.meaning.specs.Declarations.{channels}
-use Rattle.meaning.specs.Sheet.{valuesOf, misread, sheetFault, readings}
+use Rattle.meaning.specs.Declarations.{declarations, channels}
+use Rattle.meaning.specs.Nodes.{nodeAt}
+use Rattle.meaning.specs.Sheet.{valuesOf, sheetLineWrong, sheetFault, readings}
 use Rattle.meaning.specs.Buffers.{Buffers, tooShort}
 use Rattle.meaning.specs.Run.{run}
-use Rattle.meaning.specs.Clash.{IsMember, Clash, cell, input, output, components}
+use Rattle.meaning.specs.Clash.{IsMember, Clash, cell-clash, input-clash, output-clash, components}
 use Rattle.meaning.specs.Answers.{Task, Result, refused, ran, unless, check, result, resultOfBytes, Reply, replyOf}
 use Rattle.meaning.proofs.LowestLaws.{lowest-is}
 use Rattle.meaning.proofs.NoFault.{or-false}
 use Rattle.meaning.proofs.AnswerLaws.{check-bytes, result-stages, result-of-bytes, reply-stages, reply-to-bytes}
 use Rattle.agreement.specs.VerdictClaims as Verdict
 use Rattle.agreement.specs.VerdictClaims.{not-whole, not-formed, not-placed, over-limit, clash}
-use Rattle.agreement.specs.RefusalClaims.{TableRefusal, malformed-line, rows-not-whole, misformed-row, misplaced-row, passing-declaration, clashing-par, OneOfEleven, short-buffer, of-table, misread-line, budget-above, RowsRefused, BytesRefused, RowsCallRefused, BytesCallRefused, NumbersKnown}
+use Rattle.agreement.specs.RefusalClaims.{TableRefusal, malformed-line, rows-not-whole, wrong-form, wrong-place, passing-declaration, clashing-par, OneOfEleven, short-buffer, of-table, wrong-line, budget-above, RowsRefused, BytesRefused, RowsCallRefused, BytesCallRefused, NumbersKnown}
 use Rattle.agreement.proofs.TableStarts.{leading-le}
 use Rattle.agreement.proofs.UsageFirst.{member-par}
 use Rattle.agreement.proofs.VerdictExact.{refusal-least}
@@ -81,11 +82,11 @@ bytes-place table f e =
     go false h is = subst (λ (g : Refusal). TableRefusal (rowsOf table) (g .0) (g .1)) is (rows-not-whole (omega arith))
 
 -- a faulty line of a sheet is line 130 at most
-sheet-line : (long : Bool) (cs : List ℕ) (ls : List (List ℕ)) (L : ℕ) → lowest (misread long cs ls) (2 + length ls) ≡ some L → L ≤ 130
+sheet-line : (long : Bool) (cs : List ℕ) (ls : List (List ℕ)) (L : ℕ) → lowest (sheetLineWrong long cs ls) (2 + length ls) ≡ some L → L ≤ 130
 sheet-line long cs ls L e = go (decLt 130 L)
   where
-    found : (L < 2 + length ls) × ((j : ℕ) → j < L → misread long cs ls j ≡ false)
-    found = lowest-some (misread long cs ls) (2 + length ls) L e
+    found : (L < 2 + length ls) × ((j : ℕ) → j < L → sheetLineWrong long cs ls j ≡ false)
+    found = lowest-some (sheetLineWrong long cs ls) (2 + length ls) L e
 
     none-after : (t s : Bool) → (t && (true || s)) ≡ false → t ≡ false
     none-after true s h = h
@@ -102,8 +103,8 @@ sheet-place : (rows : List ℤ) (sheet : List ℕ) (f : Refusal) → sheetFault 
 unfolding sheetFault
 sheet-place rows sheet f e =
     let long = ltb maxSheet (length sheet) in
-    let (L, at, is) = mapped (λ i. (10, i)) (lowest (misread long (channels rows 1) (lines sheet)) (2 + length (lines sheet))) f e in
-    subst (λ (g : Refusal). OneOfEleven rows (g .0) (g .1) × (g .0 ≢ 2)) is (misread-line (sheet-line long (channels rows 1) (lines sheet) L at), λ k. omega arith)
+    let (L, at, is) = mapped (λ i. (10, i)) (lowest (sheetLineWrong long (channels rows 1) (lines sheet)) (2 + length (lines sheet))) f e in
+    subst (λ (g : Refusal). OneOfEleven rows (g .0) (g .1) × (g .0 ≢ 2)) is (wrong-line (sheet-line long (channels rows 1) (lines sheet) L at), λ k. omega arith)
 
 -- A PAR -----------------------------------------------------------------------------------------------------------------------------
 
@@ -124,7 +125,7 @@ isPar (While a b) = false
 isPar (Alt a) = false
 isPar (Member a b) = false
 isPar (Choice a b c) = false
-isPar (Alternative a b c) = false
+isPar (OptionRow a b c) = false
 isPar (Guard a b) = false
 isPar Other = false
 
@@ -179,9 +180,9 @@ clash-par rows {r} h = go h
     at i = let (a, e, l) = member-par rows i in (par-kind rows r a e, l)
 
     go : {number : ℕ} → Clash rows r number → (7 ≤ number) × (number ≤ 9) × (kindAt rows r ≡ 31) × (r < rowCount rows)
-    go (cell (components i j n e f) c d) = (omega arith, omega arith, at i .0, at i .1)
-    go (input (components i j n e f) c d) = (omega arith, omega arith, at i .0, at i .1)
-    go (output (components i j n e f) c d) = (omega arith, omega arith, at i .0, at i .1)
+    go (cell-clash (components i j n e f) c d) = (omega arith, omega arith, at i .0, at i .1)
+    go (input-clash (components i j n e f) c d) = (omega arith, omega arith, at i .0, at i .1)
+    go (output-clash (components i j n e f) c d) = (omega arith, omega arith, at i .0, at i .1)
 
 -- Refusals --------------------------------------------------------------------------------------------------------------------------
 
@@ -191,10 +192,10 @@ unfolding declarations
 few-declarations rows = let h = leading-le rows (rowCount rows) 0 in omega arith
 
 -- the verdict on rows
-table-place : (rows : List ℤ) {number place : ℕ} → Verdict.Refused rows number place → TableRefusal rows number place × (number ≢ 2)
+table-place : (rows : List ℤ) {number place : ℕ} → Verdict.RefusedWith rows number place → TableRefusal rows number place × (number ≢ 2)
 table-place rows (not-whole h) = (rows-not-whole {count = min (rowCount rows) maxRows} (omega arith), λ e. omega arith)
-table-place rows (not-formed w l) = (misformed-row (l .0, w .1), λ e. omega arith)
-table-place rows (not-placed {r} w f l) = let k = l .0 in (misplaced-row {r = r} (omega arith) (w .1), λ e. omega arith)
+table-place rows (not-formed w l) = (wrong-form (l .0, w .1), λ e. omega arith)
+table-place rows (not-placed {r} w f l) = let k = l .0 in (wrong-place {r = r} (omega arith) (w .1), λ e. omega arith)
 table-place rows (over-limit {r} w f t l) = (passing-declaration {r = r} (l .0) ((let k = l .0 in let m = few-declarations rows in omega arith), w .1), λ e. omega arith)
 table-place rows (clash w f t l c) =
     let (low, high, par, row) = clash-par rows (c .0 .1) in
@@ -279,8 +280,8 @@ bytes-call-refused table sheet choices budget b number place e =
 pub table-known : {rows : List ℤ} {number place : ℕ} → TableRefusal rows number place → (2 ≤ number) × (number ≤ 9) × (place ≤ 1026)
 table-known (malformed-line h) = (omega arith, omega arith, omega arith)
 table-known (rows-not-whole h) = (omega arith, omega arith, omega arith)
-table-known (misformed-row (h, w)) = (omega arith, omega arith, omega arith)
-table-known (misplaced-row h w) = (omega arith, omega arith, omega arith)
+table-known (wrong-form (h, w)) = (omega arith, omega arith, omega arith)
+table-known (wrong-place h w) = (omega arith, omega arith, omega arith)
 table-known (passing-declaration d (h, w)) = (omega arith, omega arith, omega arith)
 table-known (clashing-par low high par (h, w)) = (omega arith, omega arith, omega arith)
 
@@ -290,5 +291,5 @@ numbers-known rows number place h = go h
     go : {number place : ℕ} → OneOfEleven rows number place → (1 ≤ number) × (number ≤ 11) × (place ≤ 1026)
     go short-buffer = (omega arith, omega arith, omega arith)
     go (of-table t) = let (a, b, c) = table-known t in (omega arith, omega arith, c)
-    go (misread-line h) = (omega arith, omega arith, omega arith)
+    go (wrong-line h) = (omega arith, omega arith, omega arith)
     go budget-above = (omega arith, omega arith, omega arith)

@@ -8,12 +8,13 @@ use native.Mathlib.Omega.{arith}
 use lib.IntN.{ℤ}
 use lib.ListN.{length}
 use lib.Dec.{eqb, T, eqb→eq}
-use Rattle.meaning.specs.Rows.{ifElse, rowCount}
+use Rattle.meaning.specs.Basics.{ifElse}
+use Rattle.meaning.specs.Rows.{rowCount}
 use Rattle.meaning.specs.State.{State, program}
-use Rattle.meaning.specs.Labels.{Ascending}
+use Rattle.meaning.specs.Labels.{Label, orderRow, Ascending}
 use Rattle.meaning.specs.Readings.{Sheet}
 use Rattle.meaning.specs.Order.{ReadyList}
-use Rattle.meaning.specs.Ready.{Label, orderRow, stepsAt, byRow, runningRows, stepsAll, ready, after}
+use Rattle.meaning.specs.Ready.{stepsAt, byRow, runningRows, stepsAll, ready, after}
 use Rattle.agreement.specs.Statements.{RowsAscend, ReadyListed}
 use Rattle.agreement.proofs.Steps.{offers-rise, ready-allowed, allowed-ready}
 use Rattle.agreement.proofs.Fit.{Fit}

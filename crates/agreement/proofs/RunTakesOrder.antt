@@ -11,13 +11,12 @@ use lib.ListN.{getD}
 use lib.Dec.{eqb}
 use Rattle.meaning.specs.declared.Outcome.{Outcome}
 use Rattle.meaning.specs.declared.Outcome.the-variants.{Ended, Stuck, Broken, Spent}
-use Rattle.meaning.specs.Rows.{ifElse}
-use Rattle.meaning.specs.Settle.{anyOf}
-use Rattle.meaning.specs.State.{State, Program, program}
-use Rattle.meaning.specs.Intent.{Sheet}
-use Rattle.meaning.specs.Ready.{Label}
-use Rattle.meaning.specs.Run.{Result, isStopped, outcomeAtRest, run}
-use Rattle.meaning.specs.Order.{RestOf, outcomeOf}
+use Rattle.meaning.specs.Basics.{ifElse}
+use Rattle.meaning.specs.State.{State, anyOf, Program, program}
+use Rattle.meaning.specs.Labels.{Label}
+use Rattle.meaning.specs.Readings.{Sheet}
+use Rattle.meaning.specs.Run.{RunResult, run}
+use Rattle.meaning.specs.Order.{isStopped, outcomeAtRest, RestOf, outcomeOf}
 use Rattle.meaning.specs.Answers.{check}
 use Rattle.agreement.proofs.Claims.{Finish}
 use Rattle.agreement.specs.Statements.{StepOf, RunTakesOrder}
@@ -45,7 +44,7 @@ rest-not-spent P s = go (eqb (getD (s .states) (P .root) 0) 2) (anyOf isStopped 
     go false true e = let z : _≡_ {A = ℕ} 0 1 = ap tag e in omega arith
     go false false e = let z : _≡_ {A = ℕ} 0 1 = ap tag e in omega arith
 
-module _ (rows : List ℤ) (sheet : Sheet) (budget : ℕ) (r : Result) where
+module _ (rows : List ℤ) (sheet : Sheet) (budget : ℕ) (r : RunResult) where
   abbrev Left : Type 0
   Left = (x : Label) × ((t : State) × StepOf rows sheet (r .state) x t)
 

@@ -9,12 +9,13 @@ use lib.ListN.{length, getD, drop}
 use Rattle.meaning.specs.declared.Outcome.the-variants.{Spent}
 use Rattle.meaning.specs.Rows.{rowCount}
 use Rattle.meaning.specs.State.{State, Program, program}
+use Rattle.meaning.specs.Labels.{Label}
+use Rattle.meaning.specs.Readings.{Sheet}
 use Rattle.meaning.specs.Settle.{start}
-use Rattle.meaning.specs.Intent.{Sheet}
-use Rattle.meaning.specs.Ready.{Label, ready, after}
+use Rattle.meaning.specs.Ready.{ready, after}
 use Rattle.meaning.specs.Step.{Step}
-use Rattle.meaning.specs.Run.{Result, outcomeAtRest, chosenStep, goFrom, go, run}
-use Rattle.meaning.specs.Order.{Order, halt, then, ReadyList, Chosen, none-left, chosen, RestOf, outcomeOf}
+use Rattle.meaning.specs.Run.{RunResult, goFrom, go, run}
+use Rattle.meaning.specs.Order.{outcomeAtRest, chosenStep, Order, halt, next-step, ReadyList, Chosen, none-left, chosen, RestOf, outcomeOf}
 use Rattle.agreement.proofs.Claims.{Finish, Runs}
 use Rattle.agreement.proofs.Fit.{Fit}
 use Rattle.agreement.proofs.OptionRows.{OptionRows}
@@ -45,7 +46,7 @@ module _ (rows : List ℤ) (sheet : Sheet) (F : Fit (program rows) (rowCount row
   I s = Inv P (rowCount rows) F sheet s
 
   -- what holds of the rest of a run, from s with n steps taken and b left
-  abbrev Goes : ℕ → ℕ → List ℕ → State → Result → Type 0
+  abbrev Goes : ℕ → ℕ → List ℕ → State → RunResult → Type 0
   Goes b n choices s r =
       (l : List Label) × (Order P sheet s l (r .state) × Chosen P sheet s choices l (r .state) × (n + length l ≡ r .steps) × (length l ≤ b)
       × ((RestOf rows sheet (r .state) × (r .outcome ≡ outcomeOf rows (r .state)))
@@ -58,10 +59,10 @@ module _ (rows : List ℤ) (sheet : Sheet) (F : Fit (program rows) (rowCount row
   stays b n choices s k e = ([], (halt, none-left, omega arith, omega arith, inl (at-rest s k e, refl)))
 
   -- one more step in front
-  longer : (b n : ℕ) (choices : List ℕ) (s : State) (x : Label) (m : List Label) (r : Result) → I s → ready P sheet s ≡ x ∷ m → Step P sheet s (chosenStep choices x m) (after P sheet (chosenStep choices x m) s)
+  longer : (b n : ℕ) (choices : List ℕ) (s : State) (x : Label) (m : List Label) (r : RunResult) → I s → ready P sheet s ≡ x ∷ m → Step P sheet s (chosenStep choices x m) (after P sheet (chosenStep choices x m) s)
       → Goes b (suc n) (drop 1 choices) (after P sheet (chosenStep choices x m) s) r → Goes (suc b) n choices s r
   longer b n choices s x m r i e h (l, (o, c, q, k, f)) =
-      (chosenStep choices x m ∷ l, (then h o, chosen (subst (λ (j : List Label). ReadyList P sheet s j) e (ready-list rows sheet F O s i)) h c, omega arith, omega arith, ends f))
+      (chosenStep choices x m ∷ l, (next-step h o, chosen (subst (λ (j : List Label). ReadyList P sheet s j) e (ready-list rows sheet F O s i)) h c, omega arith, omega arith, ends f))
     where
       ends : (RestOf rows sheet (r .state) × (r .outcome ≡ outcomeOf rows (r .state))) ⊎ ((length l ≡ b) × (r .outcome ≡ Spent) × ((x : Label) × ((t : State) × Step P sheet (r .state) x t)))
           → (RestOf rows sheet (r .state) × (r .outcome ≡ outcomeOf rows (r .state))) ⊎ ((suc (length l) ≡ suc b) × (r .outcome ≡ Spent) × ((x : Label) × ((t : State) × Step P sheet (r .state) x t)))
@@ -86,7 +87,7 @@ module _ (rows : List ℤ) (sheet : Sheet) (F : Fit (program rows) (rowCount row
   run-goes choices budget = goes budget 0 choices (start P) (start-inv P (rowCount rows) F sheet) (ready P sheet (start P)) refl
 
 -- the end of a run, as `Order` words it
-ending : (Accepted : List ℤ → Sheet → Type 0) (rows : List ℤ) (sheet : Sheet) (b n : ℕ) (r : Result) → n ≡ r .steps
+ending : (Accepted : List ℤ → Sheet → Type 0) (rows : List ℤ) (sheet : Sheet) (b n : ℕ) (r : RunResult) → n ≡ r .steps
     → (RestOf rows sheet (r .state) × (r .outcome ≡ outcomeOf rows (r .state))) ⊎ ((n ≡ b) × (r .outcome ≡ Spent) × ((x : Label) × ((t : State) × Step (program rows) sheet (r .state) x t)))
     → Finish Accepted rows sheet b r
 ending Accepted rows sheet b n r e (inl z) = inl z

@@ -6,13 +6,18 @@ use Prim.Native.Nat.{ℕ}
 use native.Mathlib.Decide.{ℕ-discrete}
 use lib.IntN.{ℤ}
 use lib.ListN.{length, length-map}
-use Rattle.meaning.specs.Rows.{rowCount, nodeAt, lastRows}
+use Rattle.meaning.specs.Rows.{rowCount}
+use Rattle.meaning.specs.Nodes.{nodeAt}
+use Rattle.meaning.specs.HigherRows.{lastRows}
 use Rattle.meaning.proofs.HigherRows.{lastRows-length}
-use Rattle.meaning.specs.Tree.{Action, Members, Part, noPart, partOf, parts, orStop}
-use Rattle.meaning.specs.State.{Message, State, Program, program, Effect}
-use Rattle.meaning.specs.Intent.{Sheet, Offer, openOffer, inputOffer, Intent, outputsTo, selects}
-use Rattle.meaning.specs.Ready.{Label, pass, take, orderRow, optionRow, after, intentAt}
-use Rattle.meaning.specs.Usage.{inputs, outputs}
+use Rattle.meaning.specs.Tree.{Action, Processes, Content, noContent, contentOf, contents, orStop}
+use Rattle.meaning.specs.State.{State, Program, program, Effect}
+use Rattle.meaning.specs.Intent.{Offer, openOffer, inputOffer, Intent, outputsTo, selects}
+use Rattle.meaning.specs.Ready.{optionRow, after, intentAt}
+use Rattle.meaning.specs.Usage.{inputElements, outputElements}
+use Rattle.meaning.specs.Values.{Message}
+use Rattle.meaning.specs.Labels.{Label, pass, takeOption, orderRow}
+use Rattle.meaning.specs.Readings.{Sheet}
 use Rattle.meaning.specs.Order.{OrderOf}
 use Rattle.agreement.proofs.Claims.{RowsDiffer}
 use Rattle.agreement.proofs.Commute.{own, at-in}
@@ -30,7 +35,7 @@ module _ (P : Program) (n : ℕ) (F : Fit P n) (sheet : Sheet) (s : State) (i : 
   W = intentAt P sheet s
 
   -- at most one live row inputs from an element
-  pub one-input-row : (a b e : ℕ) (A : Works P n F sheet s a) (B : Works P n F sheet s b) → List·Memᴰ e (inputs (A .action)) → List·Memᴰ e (inputs (B .action)) → a ≡ b
+  pub one-input-row : (a b e : ℕ) (A : Works P n F sheet s a) (B : Works P n F sheet s b) → List·Memᴰ e (inputElements (A .action)) → List·Memᴰ e (inputElements (B .action)) → a ≡ b
   one-input-row a b e A B h g = go (ℕ-discrete a b)
     where
       go : Dec (a ≡ b) → a ≡ b
@@ -38,7 +43,7 @@ module _ (P : Program) (n : ℕ) (F : Fit P n) (sheet : Sheet) (s : State) (i : 
       go (no ne) = absurd (works-apart P n F sheet s a b i A B ne .in-in e h g)
 
   -- and at most one outputs to it
-  pub one-output-row : (a b e : ℕ) (A : Works P n F sheet s a) (B : Works P n F sheet s b) → List·Memᴰ e (outputs (A .action)) → List·Memᴰ e (outputs (B .action)) → a ≡ b
+  pub one-output-row : (a b e : ℕ) (A : Works P n F sheet s a) (B : Works P n F sheet s b) → List·Memᴰ e (outputElements (A .action)) → List·Memᴰ e (outputElements (B .action)) → a ≡ b
   one-output-row a b e A B h g = go (ℕ-discrete a b)
     where
       go : Dec (a ≡ b) → a ≡ b
@@ -52,7 +57,7 @@ module _ (P : Program) (n : ℕ) (F : Fit P n) (sheet : Sheet) (s : State) (i : 
       one-output-row a b d A B (works-proper P n F sheet s a A h) (Memᴰ·cast q (works-proper P n F sheet s b B g))
 
   -- the offer's row is one of the ALT's options
-  option-row : (k : Action) (ms : Members) (o : Offer) → ProperOffer (F .source) (F .sink) k ms o → List·Memᴰ (optionRow o) (optionRows k)
+  option-row : (k : Action) (ms : Processes) (o : Offer) → ProperOffer (F .source) (F .sink) k ms o → List·Memᴰ (optionRow o) (optionRows k)
   option-row k ms (openOffer j q ws) h = h .0
   option-row k ms (inputOffer j q e a) h = h .0
 
@@ -60,7 +65,7 @@ module _ (P : Program) (n : ℕ) (F : Fit P n) (sheet : Sheet) (s : State) (i : 
   alt-row r j os o h g =
       let A = works P n F sheet s r i (ap acts h) in
       let (m, q) = offerAt-is j o os g in
-      (A, Memᴰ·cast (sym q) (option-row (A .action) (A .members) o (offer-proper (F .source) (F .sink) (A .action) (A .members) o os (works-proper P n F sheet s r A h) m)))
+      (A, Memᴰ·cast (sym q) (option-row (A .action) (A .listed) o (offer-proper (F .source) (F .sink) (A .action) (A .listed) o os (works-proper P n F sheet s r A h) m)))
 
   module _ (O : OptionRows P) where
     -- a live row is no option's
@@ -68,14 +73,14 @@ module _ (P : Program) (n : ℕ) (F : Fit P n) (sheet : Sheet) (s : State) (i : 
     no-option a r j os o z h g q =
         let (B, m) = alt-row r j os o h g in
         let t = works-at P n F sheet s a a 2 i (works P n F sheet s a i z) (own 0 refl refl) in
-        absurd (O .no-process (B .action) r (B .members) (B .sub) j m (Memᴰ·cast (sym q) (at-in t)))
+        absurd (O .no-process (B .action) r (B .listed) (B .sub) j m (Memᴰ·cast (sym q) (at-in t)))
 
     -- two ALTs have no option row in common
     same-alt : (r p j k : ℕ) (os ps : List Offer) (o q : Offer) → W r ≡ selects os → offerAt j os ≡ some o → W p ≡ selects ps → offerAt k ps ≡ some q → j ≡ k → r ≡ p
     same-alt r p j k os ps o q h g h′ g′ z =
         let (A, m) = alt-row r j os o h g in
         let (B, l) = alt-row p k ps q h′ g′ in
-        O .one-alt (A .action) r (A .members) (B .action) p (B .members) (A .sub) (B .sub) j m (Memᴰ·cast z l)
+        O .one-alt (A .action) r (A .listed) (B .action) p (B .listed) (A .sub) (B .sub) j m (Memᴰ·cast z l)
 
     -- the first offer of an option that two steps of one ALT take is one
     same-offer : (r p j k : ℕ) (os ps : List Offer) (q : Offer) → W r ≡ selects os → W p ≡ selects ps → offerAt k ps ≡ some q → r ≡ p → j ≡ k → offerAt j os ≡ some q
@@ -94,7 +99,7 @@ module _ (P : Program) (n : ℕ) (F : Fit P n) (sheet : Sheet) (s : State) (i : 
     one-step (takes-open {r = p} {j} {q = z} {i = k} {ws} {os} g f) (acts-alone {r} h) q = no-option r p j os (openOffer k z ws) (ap acts h) g f (sym q)
     one-step (takes-open {r = p} {j} {q = z} {i = k} {ws} {os} g f) (passes-on {i = r} h t) q = no-option r p j os (openOffer k z ws) (ap acts h) g f (sym q)
     one-step (takes-open {r} {j} {q = z} {i = k} {ws} {os} g f) (takes-open {r = p} {j = l} {q = y} {i = c} {ws = us} {os = ps} h t) q =
-        ap₂ take (same-alt r p j l os ps (openOffer k z ws) (openOffer c y us) g f h t q) q
+        ap₂ takeOption (same-alt r p j l os ps (openOffer k z ws) (openOffer c y us) g f h t q) q
     one-step (takes-open {r} {j} {q = z} {i = k} {ws} {os} g f) (takes-input {r = p} {j = l} {q = y} {i = c} {e} {a} {os = ps} h t u) q =
         open-input f (same-offer r p j l os ps (inputOffer c y e a) g h t (same-alt r p j l os ps (openOffer k z ws) (inputOffer c y e a) g f h t q) q)
     one-step (takes-input {r = p} {j} {q = z} {i = k} {e} {a} {os} g f t) (acts-alone {r} h) q = no-option r p j os (inputOffer k z e a) (ap acts h) g f (sym q)
@@ -108,10 +113,10 @@ module _ (P : Program) (n : ℕ) (F : Fit P n) (sheet : Sheet) (s : State) (i : 
 
 -- a table has a process for each row
 pub processes-length : (rows : List ℤ) → length (program rows .processes) ≡ rowCount rows
-unfolding program parts
+unfolding program contents
 processes-length rows =
-    let ps = lastRows noPart (λ r at. partOf rows r at (nodeAt rows r)) (rowCount rows) (rowCount rows) in
-    length-map ps (λ (p : Part). orStop (p .process)) ∙ lastRows-length noPart (λ r at. partOf rows r at (nodeAt rows r)) (rowCount rows) (rowCount rows)
+    let ps = lastRows noContent (λ r at. contentOf rows r at (nodeAt rows r)) (rowCount rows) (rowCount rows) in
+    length-map ps (λ (p : Content). orStop (p .process)) ∙ lastRows-length noContent (λ r at. contentOf rows r at (nodeAt rows r)) (rowCount rows) (rowCount rows)
 
 -- the invariant, of tables that fit
 pub table-inv : (rows : List ℤ) (sheet : Sheet) (F : Fit (program rows) (rowCount rows)) (l : List Label) (s : State) → OrderOf rows sheet l s → Inv (program rows) (rowCount rows) F sheet s

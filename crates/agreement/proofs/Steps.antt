@@ -13,14 +13,17 @@ use Rattle.meaning.specs.declared.Value.{Value}
 use Rattle.meaning.specs.declared.Value.the-variants.{Number, Missing}
 use Rattle.meaning.specs.declared.Index.{Index}
 use Rattle.meaning.specs.declared.Index.the-variants.{At, Fails}
-use Rattle.meaning.specs.Rows.{ifElse, rowCount}
+use Rattle.meaning.specs.Basics.{ifElse}
+use Rattle.meaning.specs.Rows.{rowCount}
 use Rattle.meaning.specs.Declarations.{Channel}
-use Rattle.meaning.specs.Tree.{IfChoice, AltOption, Action, stop, skip, sequence, parallel, assign, receive, send, conditional, loop, alternation, actionOf}
-use Rattle.meaning.specs.Values.{isTrue, value, index}
-use Rattle.meaning.specs.State.{Message, Store, State, Program, program, processAt, Effect}
+use Rattle.meaning.specs.Tree.{IfChoice, AltOption, Action, stop, skip, sequence, parallel, assign, input, output, conditional, loop, alternation, actionOf}
+use Rattle.meaning.specs.Values.{Message, isTrue, value, index}
+use Rattle.meaning.specs.State.{Store, State, Program, program, processAt, Effect}
+use Rattle.meaning.specs.Labels.{Label}
+use Rattle.meaning.specs.Readings.{Sheet}
 use Rattle.meaning.specs.Settle.{settled}
-use Rattle.meaning.specs.Intent.{Sheet, Offer, Intent, waits, moves, inputsFrom, outputsTo, selects, assigning, testing, choosing, hosting, sending, Reception, lacks, later, reads, fromElement, inputting, Looked, fails, offers, selecting, reception, tests, looks, intent}
-use Rattle.meaning.specs.Ready.{Label, effectOf, live, intentAt, ready, after}
+use Rattle.meaning.specs.Intent.{Offer, Intent, waits, moves, inputsFrom, outputsTo, selects, assigning, testing, choosing, hostWrite, outputting, InputResult, lacks, notYet, reads, fromElement, inputting, OptionsResult, fails, offers, selecting, inputResult, tests, optionsResult, intent}
+use Rattle.meaning.specs.Ready.{effectOf, isLive, intentAt, ready, after}
 use Rattle.meaning.specs.Step.{Live, Allows, Step}
 use Rattle.agreement.proofs.Takeable.{takeable, DistinctOptions}
 use Rattle.agreement.proofs.Takeable
@@ -55,19 +58,19 @@ module _ (n : ℕ) where
   choose-ok r q (Missing k) u h = tt
   choose-ok r q (Number z) u h = pick-ok n (isTrue z) (moves q 1 []) u tt h
 
-  input-ok : (r : ℕ) (R : Reception) → WantOk n (inputting r R)
+  input-ok : (r : ℕ) (R : InputResult) → WantOk n (inputting r R)
   input-ok r (lacks k) = tt
-  input-ok r later = tt
+  input-ok r notYet = tt
   input-ok r (reads ws) = tt
   input-ok r (fromElement e a) = tt
 
-  output-ok : (r : ℕ) (c : Channel) (o : List (List Message)) (I : Index) (w : Value) → WantOk n (sending r c o I w)
+  output-ok : (r : ℕ) (c : Channel) (o : List (List Message)) (I : Index) (w : Value) → WantOk n (outputting r c o I w)
   output-ok r c o (Fails k) w = tt
   output-ok r c o (At d) (Missing k) = tt
   output-ok r c o (At d) (Number z) =
-      pick-ok n (c .host) (hosting r c (getD o (c .port) []) (some z)) (outputsTo d (some z)) (pick-ok n (ltb (length (getD o (c .port) [])) (c .capacity)) _ waits tt tt) tt
+      pick-ok n (c .host) (hostWrite r c (getD o (c .number) []) (some z)) (outputsTo d (some z)) (pick-ok n (ltb (length (getD o (c .number) [])) (c .capacity)) _ waits tt tt) tt
 
-  select-ok : (sheet : Sheet) (x : Store) (r : ℕ) (L : Looked) → LookedOk sheet x n 0 L → WantOk n (selecting r L)
+  select-ok : (sheet : Sheet) (x : Store) (r : ℕ) (L : OptionsResult) → LookedOk sheet x n 0 L → WantOk n (selecting r L)
   select-ok sheet x r (fails k) h = tt
   select-ok sheet x r (offers os) h = h
 
@@ -83,11 +86,11 @@ module _ (n : ℕ) where
     want-ok r sequence h = tt
     want-ok r parallel h = tt
     want-ok r (assign v e f) h = assign-ok r (index (x .cells) (v .first) (v .size) e) (value (x .cells) f)
-    want-ok r (receive i) h = input-ok r (reception sheet i x)
-    want-ok r (send c e f) h = output-ok r c (x .outputs) (index (x .cells) (c .first) (c .size) e) (value (x .cells) f)
+    want-ok r (input i) h = input-ok r (inputResult sheet i x)
+    want-ok r (output c e f) h = output-ok r c (x .outputs) (index (x .cells) (c .first) (c .size) e) (value (x .cells) f)
     want-ok r (conditional ts) h = tests-ok r ts
     want-ok r (loop e b) h = while-ok r b (value (x .cells) e)
-    want-ok r (alternation bs) h = select-ok sheet x r (looks sheet bs x) (looks-ok sheet x n 0 bs h)
+    want-ok r (alternation bs) h = select-ok sheet x r (optionsResult sheet bs x) (looks-ok sheet x n 0 bs h)
 
 -- rising options are each another
 apart : (P : Program) (sheet : Sheet) (s : State) (n lo : ℕ) (l : List AltOption) → Rising n lo l → Takeable.Distinct P sheet s l
@@ -107,7 +110,7 @@ module _ (rows : List ℤ) (sheet : Sheet) (s : State) where
 
   wants-ok : (r : ℕ) → WantOk (rowCount rows) (intentAt (program rows) sheet s r)
   unfolding intentAt
-  wants-ok r = pick-ok (rowCount rows) (live (program rows) sheet r s) _ waits (want-ok (rowCount rows) sheet (s .store) r (actionOf (processAt (program rows) r)) (options-rise rows r)) tt
+  wants-ok r = pick-ok (rowCount rows) (isLive (program rows) sheet r s) _ waits (want-ok (rowCount rows) sheet (s .store) r (actionOf (processAt (program rows) r)) (options-rise rows r)) tt
 
   pub distinct-options : DistinctOptions (program rows) sheet s
   distinct-options r bs (Live.live e u h) =

@@ -4,8 +4,9 @@ use mathlib.Core.Option.{Option, none, some, Option·some-injective}
 use mathlib.Core.List.{List}
 use Prim.Native.Nat.{ℕ, _≤_}
 use lib.IntN.{ℤ}
-use Rattle.meaning.specs.Rows.{rowCount, root}
-use Rattle.meaning.specs.Tree.{Action, parallel, Process, node, Members, partAt, orStop, actionOf, rowOf}
+use Rattle.meaning.specs.Rows.{rowCount}
+use Rattle.meaning.specs.Declarations.{root}
+use Rattle.meaning.specs.Tree.{Action, parallel, Process, node, Processes, contentAt, orStop, actionOf, rowOf}
 use Rattle.meaning.specs.State.{program, processAt, whole}
 use Rattle.meaning.specs.Answers.{check}
 use Rattle.meaning.proofs.AnswerLaws.{RightRows, accepted}
@@ -22,15 +23,15 @@ use Rattle.agreement.proofs.TableHosts.{sourceOf, sinkOf, hosts-at}
 
 module _ (rows : List ℤ) (A : RightRows rows) where
   -- the whole process is that of the root
-  pub whole-is : partAt rows (root rows) .process ≡ some (whole (program rows))
+  pub whole-is : contentAt rows (root rows) .process ≡ some (whole (program rows))
   unfolding whole program
   whole-is = let (k, ms, e) = root-process rows A in e ∙ ap some (sym (process-is rows (root rows) ∙ ap orStop e))
 
   -- a process inside it is what stands at its row
-  pub inside-stands : (k : Action) (r : ℕ) (ms : Members) → Sub k r ms (whole (program rows)) → partAt rows r .process ≡ some (node k r ms)
+  pub inside-stands : (k : Action) (r : ℕ) (ms : Processes) → Sub k r ms (whole (program rows)) → contentAt rows r .process ≡ some (node k r ms)
   inside-stands k r ms h = stands rows (root rows) k r ms (subst (SubO k r ms) (sym whole-is) h)
 
-  pub inside-placed : (k : Action) (r : ℕ) (ms : Members) → Sub k r ms (whole (program rows)) → processAt (program rows) r ≡ node k r ms
+  pub inside-placed : (k : Action) (r : ℕ) (ms : Processes) → Sub k r ms (whole (program rows)) → processAt (program rows) r ≡ node k r ms
   inside-placed k r ms h = process-is rows r ∙ ap orStop (inside-stands k r ms h)
 
   -- it stands at the root

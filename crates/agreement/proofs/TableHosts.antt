@@ -11,17 +11,18 @@ use lib.IntN.{ℤ, pos}
 use lib.Dec.{T, ltb, eqb}
 use borrow.Author.Tests.{ltb-true, eqb-true, eq-eqb}
 use Rattle.meaning.specs.declared.Node.{Node}
-use Rattle.meaning.specs.declared.Node.the-variants.{Literal, Element, Monadic, Dyadic, Stop, Skip, Assignment, Input, Output, Seq, Par, If, While, Alt, Member, Choice, Option as Alternative, Guard, Other}
-use Rattle.meaning.specs.Rows.{ifElse, rowCount, naturalOf, fieldAt, naturalAt, kindAt, declarations, nodeAt}
-use Rattle.meaning.specs.Basics.{lowest, Lowest}
-use Rattle.meaning.specs.Declarations.{Channel, noChannel, sumBelow, isChannel, hasRole, elementsAt, portsAt, capacityAt, channelAt, sourceAt, sinkAt}
-use Rattle.meaning.specs.Kinds.{Shape, shape, elements, capacity, range, shapeOf, shapeIn, shapes}
-use Rattle.meaning.specs.Faults.{Holds, WellFormed}
-use Rattle.meaning.specs.Tree.{Action, Process, node, Members, Part, partOf, partAt, actionOf}
+use Rattle.meaning.specs.declared.Node.the-variants.{Literal, Element, Monadic, Dyadic, Stop, Skip, Assignment, Input, Output, Seq, Par, If, While, Alt, Member, Choice, OptionRow, Guard, Other}
+use Rattle.meaning.specs.Rows.{rowCount, naturalOf, fieldAt, naturalAt, kindAt}
+use Rattle.meaning.specs.Basics.{ifElse, lowest, Lowest}
+use Rattle.meaning.specs.Declarations.{declarations, Channel, noChannel, sumBelow, isChannel, hasRole, elementsAt, hostChannelsAt, capacityAt, channelAt, sourceAt, sinkAt}
+use Rattle.meaning.specs.Kinds.{Shape, shape, elements, capacity, fromTo, shapeOf, shapeIn, shapes}
+use Rattle.meaning.specs.Nodes.{nodeAt}
+use Rattle.meaning.specs.Faults.{MayHold, WellFormed}
+use Rattle.meaning.specs.Tree.{Action, Process, node, Processes, Content, contentOf, contentAt, actionOf}
 use Rattle.meaning.proofs.AnswerLaws.{RightRows}
 use Rattle.meaning.proofs.LowestLaws.{lowest-is}
 use Rattle.agreement.proofs.Fit.{HostAt, GuardAt, GuardsAt, HostsAt}
-use Rattle.meaning.specs.PartClaims.{higherPart}
+use Rattle.meaning.specs.ContentClaims.{higherContent}
 use Rattle.agreement.proofs.TableTree.{Known, every-row}
 use Rattle.agreement.proofs.TableStarts.{root-below}
 
@@ -50,23 +51,23 @@ orZero (some i) = i
 module _ (role : ℕ) (rows : List ℤ) where
   -- row r declares the channel of this role with this number
   abbrev numbered : ℕ → ℕ → Bool
-  numbered p r = hasRole role rows r && eqb (sumBelow (portsAt role rows) r) p
+  numbered p r = hasRole role rows r && eqb (sumBelow (hostChannelsAt role rows) r) p
 
   -- the element of the channel of this role with this number
   pub elementOf : ℕ → ℕ
   elementOf p = sumBelow (elementsAt rows) (orZero (lowest (numbered p) (declarations rows)))
 
-  one-port : (r : ℕ) → hasRole role rows r ≡ true → portsAt role rows r ≡ 1
-  unfolding portsAt
+  one-port : (r : ℕ) → hasRole role rows r ≡ true → hostChannelsAt role rows r ≡ 1
+  unfolding hostChannelsAt
   one-port r h = rw h
 
   -- of two channels of a role the numbers differ
-  pub same-row : (i a : ℕ) → hasRole role rows i ≡ true → hasRole role rows a ≡ true → sumBelow (portsAt role rows) i ≡ sumBelow (portsAt role rows) a → i ≡ a
+  pub same-row : (i a : ℕ) → hasRole role rows i ≡ true → hasRole role rows a ≡ true → sumBelow (hostChannelsAt role rows) i ≡ sumBelow (hostChannelsAt role rows) a → i ≡ a
   same-row i a h k e = go (decLt i a) (decLt a i)
     where
       go : Dec (i < a) → Dec (a < i) → i ≡ a
-      go (yes l) d = absurd (omega (arith, sum-past (portsAt role rows) i a l, one-port i h))
-      go (no l) (yes m) = absurd (omega (arith, sum-past (portsAt role rows) a i m, one-port a k))
+      go (yes l) d = absurd (omega (arith, sum-past (hostChannelsAt role rows) i a l, one-port i h))
+      go (no l) (yes m) = absurd (omega (arith, sum-past (hostChannelsAt role rows) a i m, one-port a k))
       go (no l) (no m) = omega arith
 
   pub declared-at : (a : ℕ) → hasRole role rows a ≡ true → (a < declarations rows) × (kindAt rows a ≡ 2) × (naturalAt rows a 2 ≡ role)
@@ -75,26 +76,26 @@ module _ (role : ℕ) (rows : List ℤ) where
       let (d, k) = and-true (ltb a (declarations rows)) (eqb (kindAt rows a) 2) c in
       (ltb-true a (declarations rows) d, eqb-true (kindAt rows a) 2 k, eqb-true (naturalAt rows a 2) role e)
 
-  found : (a p : ℕ) → sumBelow (portsAt role rows) a ≡ p → hasRole role rows a ≡ true → orZero (lowest (numbered p) (declarations rows)) ≡ a
+  found : (a p : ℕ) → sumBelow (hostChannelsAt role rows) a ≡ p → hasRole role rows a ≡ true → orZero (lowest (numbered p) (declarations rows)) ≡ a
   found a p e h = go (lowest (numbered p) (declarations rows)) (lowest-is (numbered p) (declarations rows))
     where
       go : (o : Option ℕ) → Lowest (λ i. T (numbered p i)) (declarations rows) o → orZero o ≡ a
-      go none f = absurd (f a (declared-at a h .0) (rw (h, eq-eqb (sumBelow (portsAt role rows) a) p e) tt))
+      go none f = absurd (f a (declared-at a h .0) (rw (h, eq-eqb (sumBelow (hostChannelsAt role rows) a) p e) tt))
       go (some i) f =
-          let (s, t) = and-true (hasRole role rows i) (eqb (sumBelow (portsAt role rows) i) p) (of-T (numbered p i) (f .1)) in
-          same-row i a s h (eqb-true (sumBelow (portsAt role rows) i) p t ∙ sym e)
+          let (s, t) = and-true (hasRole role rows i) (eqb (sumBelow (hostChannelsAt role rows) i) p) (of-T (numbered p i) (f .1)) in
+          same-row i a s h (eqb-true (sumBelow (hostChannelsAt role rows) i) p t ∙ sym e)
 
   module _ (A : RightRows rows) (ne : role ≡ 0 → ⊥) where
-    holds-elements : (a : ℕ) → a < rowCount rows → kindAt rows a ≡ 2 → Holds rows a elements (fieldAt rows a 1)
+    holds-elements : (a : ℕ) → a < rowCount rows → kindAt rows a ≡ 2 → MayHold rows a elements (fieldAt rows a 1)
     unfolding WellFormed shapeOf shapeIn shapes
     holds-elements a l k =
         let w = A .1 a l .1 in
-        let e : shapeOf (kindAt rows a) ≡ some (shape 2 elements (range 0 2) capacity) = rw k in
-        subst (λ (s : Shape). Holds rows a (s .a) (fieldAt rows a 1)) (Option·some-injective (w .0) (shape 2 elements (range 0 2) capacity) (sym (w .1) ∙ e)) (w .2)
+        let e : shapeOf (kindAt rows a) ≡ some (shape 2 elements (fromTo 0 2) capacity) = rw k in
+        subst (λ (s : Shape). MayHold rows a (s .a) (fieldAt rows a 1)) (Option·some-injective (w .0) (shape 2 elements (fromTo 0 2) capacity) (sym (w .1) ∙ e)) (w .2)
 
     -- a host channel has one element
     one-element : (a : ℕ) → hasRole role rows a ≡ true → elementsAt rows a ≡ 1
-    unfolding elementsAt Holds
+    unfolding elementsAt MayHold
     one-element a h = rw (and-true (isChannel rows a) (eqb (naturalAt rows a 2) role) h .0) (go (holds-elements a (let l = root-below rows A in let d = declared-at a h .0 in omega arith) (declared-at a h .1) .1))
       where
         go : (fieldAt rows a 2 ≡ pos 0) ⊎ (fieldAt rows a 1 ≡ pos 1) → naturalAt rows a 1 ≡ 1
@@ -107,10 +108,10 @@ module _ (role : ℕ) (rows : List ℤ) where
     host-at a = go (hasRole 0 rows a || hasRole role rows a)
       where
         c : Channel
-        c = record { first = sumBelow (elementsAt rows) a; size = elementsAt rows a; host = hasRole role rows a; port = sumBelow (portsAt role rows) a; capacity = capacityAt rows a }
+        c = record { first = sumBelow (elementsAt rows) a; size = elementsAt rows a; host = hasRole role rows a; number = sumBelow (hostChannelsAt role rows) a; capacity = capacityAt rows a }
 
         go : (t : Bool) → HostAt elementOf (ifElse t c noChannel)
-        go true h = (ap (sumBelow (elementsAt rows)) (sym (found a (sumBelow (portsAt role rows) a) refl h)), one-element a h)
+        go true h = (ap (sumBelow (elementsAt rows)) (sym (found a (sumBelow (hostChannelsAt role rows) a) refl h)), one-element a h)
         go false h = absurd (false≢true h)
 
 -- Every row's host channels
@@ -139,14 +140,14 @@ module _ (rows : List ℤ) (A : RightRows rows) where
   unfolding sinkOf sinkAt
   at-sink = host-at 2 rows A (λ e. omega arith)
 
-  abbrev HostsOk : ℕ → Part → Type 0
-  HostsOk r p = GuardAt source (p .guard .input) × GuardsAt source (p .branches) × HostsO source sink (p .process)
+  abbrev HostsOk : ℕ → Content → Type 0
+  HostsOk r p = GuardAt source (p .guard .input) × GuardsAt source (p .options) × HostsO source sink (p .process)
 
-  of-known : (r b : ℕ) (p : Part) → Known rows HostsOk r b p → HostsOk b p
+  of-known : (r b : ℕ) (p : Content) → Known rows HostsOk r b p → HostsOk b p
   of-known r b p (inl e) = rw e (tt, tt, tt)
   of-known r b p (inr h) = h .3
 
-  part-ok : (r : ℕ) (at : ℕ → Part) → ((b : ℕ) → HostsOk b (at b)) → (k : Node) → HostsOk r (partOf rows r at k)
+  part-ok : (r : ℕ) (at : ℕ → Content) → ((b : ℕ) → HostsOk b (at b)) → (k : Node) → HostsOk r (contentOf rows r at k)
   part-ok r at h (Literal x) = (tt, tt, tt)
   part-ok r at h (Element a b) = (tt, tt, tt)
   part-ok r at h (Monadic a b) = (tt, tt, tt)
@@ -163,13 +164,13 @@ module _ (rows : List ℤ) (A : RightRows rows) where
   part-ok r at h (Alt a) = (tt, tt, h a .1)
   part-ok r at h (Member a b) = (tt, tt, tt)
   part-ok r at h (Choice a b c) = (tt, tt, tt)
-  part-ok r at h (Alternative a b c) = (tt, (h c .0, h b .1), tt)
+  part-ok r at h (OptionRow a b c) = (tt, (h c .0, h b .1), tt)
   part-ok r at h (Guard a b) = (h b .0, tt, tt)
   part-ok r at h Other = (tt, tt, tt)
 
-  every-part : (r : ℕ) → HostsOk r (partAt rows r)
-  every-part = every-row rows HostsOk (λ r. (tt, tt, tt)) (λ r l e h. part-ok r (higherPart rows r) (λ b. of-known r b (higherPart rows r b) (h b)) (nodeAt rows r))
+  every-part : (r : ℕ) → HostsOk r (contentAt rows r)
+  every-part = every-row rows HostsOk (λ r. (tt, tt, tt)) (λ r l e h. part-ok r (higherContent rows r) (λ b. of-known r b (higherContent rows r b) (h b)) (nodeAt rows r))
 
   -- the host channels of the process at a row
-  pub hosts-at : (r : ℕ) (k : Action) (ms : Members) → partAt rows r .process ≡ some (node k r ms) → HostsAt (sourceOf rows) (sinkOf rows) k
+  pub hosts-at : (r : ℕ) (k : Action) (ms : Processes) → contentAt rows r .process ≡ some (node k r ms) → HostsAt (sourceOf rows) (sinkOf rows) k
   hosts-at r k ms e = subst (HostsO source sink) e (every-part r .2)

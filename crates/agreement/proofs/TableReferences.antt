@@ -12,10 +12,14 @@ use lib.ListN.{length}
 use lib.Dec.{eqb, leb}
 use borrow.Author.Tests.{eqb-true, leb-true}
 use Rattle.meaning.specs.declared.Node.{Node}
-use Rattle.meaning.specs.declared.Node.the-variants.{Literal, Element, Monadic, Dyadic, Stop, Skip, Assignment, Input, Output, Seq, Par, If, While, Alt, Member, Choice, Option as Alternative, Guard, Other}
-use Rattle.meaning.specs.Rows.{ifElse, rowCount, naturalOf, kindAt, declarations, nodeAt}
-use Rattle.meaning.specs.TableBytes.{Refusal, numbersFault}
-use Rattle.meaning.specs.Kinds.{Field, unused, value, within, elements, capacity, variable, channel, reference, link, Shape, shape, shapeOf, shapes, shapeIn, expression, process}
+use Rattle.meaning.specs.declared.Node.the-variants.{Literal, Element, Monadic, Dyadic, Stop, Skip, Assignment, Input, Output, Seq, Par, If, While, Alt, Member, Choice, OptionRow, Guard, Other}
+use Rattle.meaning.specs.Basics.{ifElse}
+use Rattle.meaning.specs.Refusals.{Refusal}
+use Rattle.meaning.specs.Rows.{rowCount, naturalOf, kindAt}
+use Rattle.meaning.specs.TableBytes.{numbersFault}
+use Rattle.meaning.specs.Kinds.{Field, unused, literalValue, within, elements, capacity, variable, channel, reference, link, Shape, shape, shapeOf, shapes, shapeIn, expression, process}
+use Rattle.meaning.specs.Declarations.{declarations}
+use Rattle.meaning.specs.Nodes.{nodeAt}
 use Rattle.meaning.specs.References.{Place, of-a, of-b, of-c, fieldOf, numberOf, IsTarget, RefersBy, Refers}
 use Rattle.meaning.specs.Faults.{Leads, Once, Placed, WellPlaced}
 use Rattle.meaning.proofs.AnswerLaws.{RightRows}
@@ -41,7 +45,7 @@ option-shape = shape 42 process (link (42 ∷ [])) (reference (23 ∷ 43 ∷ [])
 -- a field that may refer to a row
 abbrev pub Leading : Field → Type 0
 Leading unused = ⊥
-Leading value = ⊥
+Leading literalValue = ⊥
 Leading (within lo hi) = ⊥
 Leading elements = ⊥
 Leading capacity = ⊥
@@ -87,7 +91,7 @@ module _ (rows : List ℤ) where
   Fields r (Alt a) = Shaped r 34 (members-shape 34 42) × Holding r of-a a
   Fields r (Member a b) = Shaped r 40 member-shape × Holding r of-a a × Holding r of-b b
   Fields r (Choice a b c) = Shaped r 41 choice-shape × Holding r of-a a × Holding r of-b b
-  Fields r (Alternative a b c) = Shaped r 42 option-shape × Holding r of-a a × Holding r of-b b
+  Fields r (OptionRow a b c) = Shaped r 42 option-shape × Holding r of-a a × Holding r of-b b
   Fields r (Guard a b) = Unit {0}
   Fields r Other = Unit {0}
 

@@ -8,17 +8,18 @@ use Prim.Native.Nat.{ℕ, _<_}
 use native.Mathlib.Omega.{arith}
 use lib.IntN.{ℤ}
 use Rattle.meaning.specs.declared.Node.{Node}
-use Rattle.meaning.specs.declared.Node.the-variants.{Literal, Element, Monadic, Dyadic, Stop, Skip, Assignment, Input, Output, Seq, Par, If, While, Alt, Member, Choice, Option as Alternative, Guard, Other}
-use Rattle.meaning.specs.Rows.{rowCount, kindAt, nodeAt}
+use Rattle.meaning.specs.declared.Node.the-variants.{Literal, Element, Monadic, Dyadic, Stop, Skip, Assignment, Input, Output, Seq, Par, If, While, Alt, Member, Choice, OptionRow, Guard, Other}
+use Rattle.meaning.specs.Rows.{rowCount, kindAt}
 use Rattle.meaning.specs.Kinds.{Shape}
 use Rattle.meaning.specs.References.{Place, of-a, of-b, fieldOf, Refers}
-use Rattle.meaning.specs.Tree.{Action, stop, skip, sequence, parallel, assign, receive, send, conditional, loop, alternation, Process, node, Members, empty, Part, noPart, andMember, receiveOf, partOf, partAt, rowsIn, rowsBeneath}
+use Rattle.meaning.specs.Tree.{Action, stop, skip, sequence, parallel, assign, input, output, conditional, loop, alternation, Process, node, Processes, empty, Content, noContent, andProcess, inputOf, contentOf, contentAt, rowsIn, rowsBeneath}
 use Rattle.meaning.specs.Declarations.{variableAt, sinkAt}
+use Rattle.meaning.specs.Nodes.{nodeAt}
 use Rattle.meaning.proofs.AnswerLaws.{RightRows}
 use Rattle.meaning.proofs.ReferenceCounts.{a-not-b}
 use Rattle.agreement.proofs.Frame.{Off}
 use Rattle.agreement.proofs.Again.{Out, Sound, SoundM}
-use Rattle.meaning.specs.PartClaims.{higherPart}
+use Rattle.meaning.specs.ContentClaims.{higherContent}
 use Rattle.agreement.proofs.TableTree.{Known, every-row}
 use Rattle.agreement.proofs.TableReferences.{members-shape, while-shape, member-shape, choice-shape, option-shape, Leading, unguarded, Shaped, Holding, Fields, fields-are, refers-to, refers-up, once, Desc, self, desc-le, desc-from, parted}
 
@@ -36,13 +37,13 @@ module _ (rows : List ℤ) (A : RightRows rows) where
   Down r R = (x : ℕ) → List·Memᴰ x R → Desc rows A r x
 
   -- so are the rows of a process and of members, and they are each another
-  abbrev Here : ℕ → Option Process → Members → Type 0
+  abbrev Here : ℕ → Option Process → Processes → Type 0
   Here r o ms = Down r (rowsOf o) × SoundO o (rowCount rows) × Down r (rowsBeneath ms) × SoundM ms (rowCount rows)
 
-  abbrev RowsOk : ℕ → Part → Type 0
-  RowsOk r p = Here r (p .process) (p .members)
+  abbrev RowsOk : ℕ → Content → Type 0
+  RowsOk r p = Here r (p .process) (p .listed)
 
-  nothing : (r : ℕ) → RowsOk r noPart
+  nothing : (r : ℕ) → RowsOk r noContent
   nothing r = (λ x m. absurd (List·Memᴰ·not-nil m), tt, λ x m. absurd (List·Memᴰ·not-nil m), tt)
 
   -- all these rows are at a row to which field p of row r refers, or beneath it
@@ -69,15 +70,15 @@ module _ (rows : List ℤ) (A : RightRows rows) where
   abbrev ProcessBy : ℕ → Place → Option Process → Type 0
   ProcessBy r p o = By r p (rowsOf o) × SoundO o (rowCount rows)
 
-  abbrev MembersBy : ℕ → Place → Members → Type 0
+  abbrev MembersBy : ℕ → Place → Processes → Type 0
   MembersBy r p ms = By r p (rowsBeneath ms) × SoundM ms (rowCount rows)
 
   none-by : (r : ℕ) (p : Place) → MembersBy r p empty
   none-by r p = (λ x m. absurd (List·Memᴰ·not-nil m), tt)
 
   -- a process and members that hang at two fields of a row
-  join : (r : ℕ) (p o : Place) → (p ≡ o → ⊥) → (q : Option Process) (ms : Members) → ProcessBy r p q → MembersBy r o ms
-      → Down r (rowsBeneath (andMember q ms)) × SoundM (andMember q ms) (rowCount rows)
+  join : (r : ℕ) (p o : Place) → (p ≡ o → ⊥) → (q : Option Process) (ms : Processes) → ProcessBy r p q → MembersBy r o ms
+      → Down r (rowsBeneath (andProcess q ms)) × SoundM (andProcess q ms) (rowCount rows)
   join r p o ne none ms f g = (by-down r o (rowsBeneath ms) (g .0), g .1)
   join r p o ne (some q) ms f g = (
     λ x m. ⊎-elim (by-down r p (rowsIn q) (f .0) x) (by-down r o (rowsBeneath ms) (g .0) x) (List·Memᴰ·append-cases (rowsIn q) m),
@@ -85,37 +86,37 @@ module _ (rows : List ℤ) (A : RightRows rows) where
   )
 
   -- one process that hangs at a field
-  single : (r : ℕ) (p : Place) (q : Option Process) → ProcessBy r p q → MembersBy r p (andMember q empty)
+  single : (r : ℕ) (p : Place) (q : Option Process) → ProcessBy r p q → MembersBy r p (andProcess q empty)
   single r p none f = none-by r p
   single r p (some q) f = (λ x m. ⊎-elim (f .0 x) (λ n. absurd (List·Memᴰ·not-nil n)) (List·Memᴰ·append-cases (rowsIn q) m), (f .1, tt, λ x m n. List·Memᴰ·not-nil n))
 
   -- the process of a row, by its members; a row of members
-  group : (r : ℕ) (k : Action) (p : Place) (ms : Members) → r < rowCount rows → MembersBy r p ms → Here r (some (node k r ms)) empty
+  group : (r : ℕ) (k : Action) (p : Place) (ms : Processes) → r < rowCount rows → MembersBy r p ms → Here r (some (node k r ms)) empty
   group r k p ms l f = (with-row r (rowsBeneath ms) (by-down r p (rowsBeneath ms) (f .0)), (l, row-out r p (rowsBeneath ms) (f .0), f .1), λ x m. absurd (List·Memᴰ·not-nil m), tt)
 
   alone : (r : ℕ) (k : Action) → r < rowCount rows → Here r (some (node k r empty)) empty
   alone r k l = group r k of-a empty l (none-by r of-a)
 
-  linked : (r : ℕ) (q : Option Process) (ms : Members) → ProcessBy r of-a q → MembersBy r of-b ms → Here r none (andMember q ms)
+  linked : (r : ℕ) (q : Option Process) (ms : Processes) → ProcessBy r of-a q → MembersBy r of-b ms → Here r none (andProcess q ms)
   linked r q ms f g = let h = join r of-a of-b a-not-b q ms f g in (λ x m. absurd (List·Memᴰ·not-nil m), tt, h .0, h .1)
 
-  module _ (r : ℕ) (l : r < rowCount rows) (at : ℕ → Part) (known : (b : ℕ) → Known rows RowsOk r b (at b)) where
+  module _ (r : ℕ) (l : r < rowCount rows) (at : ℕ → Content) (known : (b : ℕ) → Known rows RowsOk r b (at b)) where
     -- what stands at the row that a field holds hangs at that field
     process-by : (k : ℕ) (s : Shape) (p : Place) (b : ℕ) → Shaped rows r k s → Leading (fieldOf s p) → unguarded k p ≡ true → Holding rows r p b → ProcessBy r p (at b .process)
     process-by k s p b h u v e = go (at b) (known b)
       where
-        go : (q : Part) → Known rows RowsOk r b q → ProcessBy r p (q .process)
+        go : (q : Content) → Known rows RowsOk r b q → ProcessBy r p (q .process)
         go q (inl z) = rw z (λ x m. absurd (List·Memᴰ·not-nil m), tt)
         go q (inr i) = (λ x m. (b, refers-to rows A r k b s p l h u e (i .1), ap (λ (j : ℕ). unguarded j p) (h .0) ∙ v, i .3 .0 x m), i .3 .1)
 
-    members-by : (k : ℕ) (s : Shape) (p : Place) (b : ℕ) → Shaped rows r k s → Leading (fieldOf s p) → unguarded k p ≡ true → Holding rows r p b → MembersBy r p (at b .members)
+    members-by : (k : ℕ) (s : Shape) (p : Place) (b : ℕ) → Shaped rows r k s → Leading (fieldOf s p) → unguarded k p ≡ true → Holding rows r p b → MembersBy r p (at b .listed)
     members-by k s p b h u v e = go (at b) (known b)
       where
-        go : (q : Part) → Known rows RowsOk r b q → MembersBy r p (q .members)
+        go : (q : Content) → Known rows RowsOk r b q → MembersBy r p (q .listed)
         go q (inl z) = rw z (none-by r p)
         go q (inr i) = (λ x m. (b, refers-to rows A r k b s p l h u e (i .1), ap (λ (j : ℕ). unguarded j p) (h .0) ∙ v, i .3 .2 x m), i .3 .3)
 
-    part-ok : (k : Node) → Fields rows r k → RowsOk r (partOf rows r at k)
+    part-ok : (k : Node) → Fields rows r k → RowsOk r (contentOf rows r at k)
     part-ok (Literal x) f = nothing r
     part-ok (Element a b) f = nothing r
     part-ok (Monadic a b) f = nothing r
@@ -123,26 +124,26 @@ module _ (rows : List ℤ) (A : RightRows rows) where
     part-ok Stop f = alone r stop l
     part-ok Skip f = alone r skip l
     part-ok (Assignment a b c) f = alone r (assign (variableAt rows a) (at b .expr) (at c .expr)) l
-    part-ok (Input a b c) f = alone r (receive (receiveOf rows r at a b c)) l
-    part-ok (Output a b c) f = alone r (send (sinkAt rows a) (at b .expr) (at c .expr)) l
-    part-ok (Seq a) f = group r sequence of-a (at a .members) l (members-by 30 (members-shape 30 40) of-a a (f .0) tt refl (f .1))
-    part-ok (Par a) f = group r parallel of-a (at a .members) l (members-by 31 (members-shape 31 40) of-a a (f .0) tt refl (f .1))
-    part-ok (If a) f = group r (conditional (at a .tests)) of-a (at a .members) l (members-by 32 (members-shape 32 41) of-a a (f .0) tt refl (f .1))
-    part-ok (While a b) f = group r (loop (at a .expr) b) of-b (andMember (at b .process) empty) l (single r of-b (at b .process) (process-by 33 while-shape of-b b (f .0) tt refl (f .1)))
-    part-ok (Alt a) f = group r (alternation (at a .branches)) of-a (at a .members) l (members-by 34 (members-shape 34 42) of-a a (f .0) tt refl (f .1))
-    part-ok (Member a b) f = linked r (at a .process) (at b .members) (process-by 40 member-shape of-a a (f .0) tt refl (f .1)) (members-by 40 member-shape of-b b (f .0) tt refl (f .2))
-    part-ok (Choice a b c) f = linked r (at a .process) (at b .members) (process-by 41 choice-shape of-a a (f .0) tt refl (f .1)) (members-by 41 choice-shape of-b b (f .0) tt refl (f .2))
-    part-ok (Alternative a b c) f = linked r (at a .process) (at b .members) (process-by 42 option-shape of-a a (f .0) tt refl (f .1)) (members-by 42 option-shape of-b b (f .0) tt refl (f .2))
+    part-ok (Input a b c) f = alone r (input (inputOf rows r at a b c)) l
+    part-ok (Output a b c) f = alone r (output (sinkAt rows a) (at b .expr) (at c .expr)) l
+    part-ok (Seq a) f = group r sequence of-a (at a .listed) l (members-by 30 (members-shape 30 40) of-a a (f .0) tt refl (f .1))
+    part-ok (Par a) f = group r parallel of-a (at a .listed) l (members-by 31 (members-shape 31 40) of-a a (f .0) tt refl (f .1))
+    part-ok (If a) f = group r (conditional (at a .tests)) of-a (at a .listed) l (members-by 32 (members-shape 32 41) of-a a (f .0) tt refl (f .1))
+    part-ok (While a b) f = group r (loop (at a .expr) b) of-b (andProcess (at b .process) empty) l (single r of-b (at b .process) (process-by 33 while-shape of-b b (f .0) tt refl (f .1)))
+    part-ok (Alt a) f = group r (alternation (at a .options)) of-a (at a .listed) l (members-by 34 (members-shape 34 42) of-a a (f .0) tt refl (f .1))
+    part-ok (Member a b) f = linked r (at a .process) (at b .listed) (process-by 40 member-shape of-a a (f .0) tt refl (f .1)) (members-by 40 member-shape of-b b (f .0) tt refl (f .2))
+    part-ok (Choice a b c) f = linked r (at a .process) (at b .listed) (process-by 41 choice-shape of-a a (f .0) tt refl (f .1)) (members-by 41 choice-shape of-b b (f .0) tt refl (f .2))
+    part-ok (OptionRow a b c) f = linked r (at a .process) (at b .listed) (process-by 42 option-shape of-a a (f .0) tt refl (f .1)) (members-by 42 option-shape of-b b (f .0) tt refl (f .2))
     part-ok (Guard a b) f = nothing r
     part-ok Other f = nothing r
 
-  every-part : (r : ℕ) → RowsOk r (partAt rows r)
-  every-part = every-row rows RowsOk nothing (λ r l e h. part-ok r l (higherPart rows r) h (nodeAt rows r) (fields-are rows r))
+  every-part : (r : ℕ) → RowsOk r (contentAt rows r)
+  every-part = every-row rows RowsOk nothing (λ r l e h. part-ok r l (higherContent rows r) h (nodeAt rows r) (fields-are rows r))
 
   -- the rows of the process at a row are that row, or beneath it and not of guards
-  pub down-at : (r x : ℕ) → List·Memᴰ x (rowsOf (partAt rows r .process)) → Desc rows A r x
+  pub down-at : (r x : ℕ) → List·Memᴰ x (rowsOf (contentAt rows r .process)) → Desc rows A r x
   down-at r = every-part r .0
 
   -- the rows of the process at a row are each another, and below the number of rows
-  pub sound-at : (r : ℕ) → SoundO (partAt rows r .process) (rowCount rows)
+  pub sound-at : (r : ℕ) → SoundO (contentAt rows r .process) (rowCount rows)
   sound-at r = every-part r .1

@@ -10,17 +10,20 @@ use native.Mathlib.Decide.{decLt}
 use lib.IntN.{ℤ}
 use borrow.Author.Tests.{lt-ltb}
 use Rattle.meaning.specs.declared.Node.{Node}
-use Rattle.meaning.specs.declared.Node.the-variants.{Literal, Element, Monadic, Dyadic, Stop, Skip, Assignment, Input, Output, Seq, Par, If, While, Alt, Member, Choice, Option as Alternative, Guard, Other}
-use Rattle.meaning.specs.Rows.{ifElse, rowCount, naturalOf, naturalAt, kindAt, declares, leading, declarations, root, nodeAt}
+use Rattle.meaning.specs.declared.Node.the-variants.{Literal, Element, Monadic, Dyadic, Stop, Skip, Assignment, Input, Output, Seq, Par, If, While, Alt, Member, Choice, OptionRow, Guard, Other}
+use Rattle.meaning.specs.Basics.{ifElse}
+use Rattle.meaning.specs.Rows.{rowCount, naturalOf, naturalAt, kindAt}
 use Rattle.meaning.specs.Kinds.{Field, reference, Shape, processes}
+use Rattle.meaning.specs.Declarations.{declares, leading, declarations, root}
+use Rattle.meaning.specs.Nodes.{nodeAt}
 use Rattle.meaning.specs.PrintedForms.{Each, each-none, each-more}
 use Rattle.meaning.specs.References.{Place, of-a, of-b, fieldOf, numberOf}
 use Rattle.meaning.specs.Faults.{Leads, Placed, WellPlaced}
-use Rattle.meaning.specs.Tree.{IfChoice, AltOption, Action, Process, node, Members, empty, Part, noPart, andMember, partOf, partAt, actionOf, membersIn, rowOf}
+use Rattle.meaning.specs.Tree.{IfChoice, AltOption, Action, Process, node, Processes, empty, Content, noContent, andProcess, contentOf, contentAt, actionOf, processesIn, rowOf}
 use Rattle.meaning.proofs.AnswerLaws.{RightRows}
 use Rattle.agreement.proofs.Commute.{Child, eldest, younger}
 use Rattle.agreement.proofs.Fit.{ChoicesIn, OptionsIn, Starts}
-use Rattle.meaning.specs.PartClaims.{higherPart}
+use Rattle.meaning.specs.ContentClaims.{higherContent}
 use Rattle.agreement.proofs.TableTree.{part-at, Known, every-row}
 use Rattle.agreement.proofs.TableReferences.{while-shape, choice-shape, option-shape, Shaped, Holding, Fields, fields-are, placed-at, leads-at}
 
@@ -30,16 +33,16 @@ all-in P (j ∷ ks) (each-more h f) k (List·Memᴰ·tail m) = all-in P ks f k m
 
 abbrev StartsO : Option Process → Type 0
 StartsO none = Unit {0}
-StartsO (some p) = Starts (actionOf p) (membersIn p)
+StartsO (some p) = Starts (actionOf p) (processesIn p)
 
 module _ (rows : List ℤ) where
   -- a process stands at row b, as of that row
   abbrev pub IsProcess : ℕ → Type 0
-  IsProcess b = (k : Action) × (ms : Members) × (partAt rows b .process ≡ some (node k b ms))
+  IsProcess b = (k : Action) × (ms : Processes) × (contentAt rows b .process ≡ some (node k b ms))
 
   module _ (b : ℕ) (l : b < rowCount rows) where
-    there : (N : Node) (k : Action) (ms : Members) → nodeAt rows b ≡ N → partOf rows b (higherPart rows b) N .process ≡ some (node k b ms) → IsProcess b
-    there N k ms e h = (k, ms, ap (λ (q : Part). q .process) (part-at rows b l ∙ ap (partOf rows b (higherPart rows b)) e) ∙ h)
+    there : (N : Node) (k : Action) (ms : Processes) → nodeAt rows b ≡ N → contentOf rows b (higherContent rows b) N .process ≡ some (node k b ms) → IsProcess b
+    there N k ms e h = (k, ms, ap (λ (q : Content). q .process) (part-at rows b l ∙ ap (contentOf rows b (higherContent rows b)) e) ∙ h)
 
     -- a row of one of the kinds 20 to 34 is a process
     pub is-process : List·Memᴰ (kindAt rows b) processes → IsProcess b
@@ -71,15 +74,15 @@ module _ (rows : List ℤ) where
       go false h = omega arith
 
 -- the first process before the members
-child-first : (o : Option Process) (ms : Members) (a : ℕ) (q : Process) → o ≡ some q → rowOf q ≡ a → Child a (andMember o ms)
+child-first : (o : Option Process) (ms : Processes) (a : ℕ) (q : Process) → o ≡ some q → rowOf q ≡ a → Child a (andProcess o ms)
 child-first o ms a q e f = rw e (eldest (sym f))
 
-choices-later : (o : Option Process) (ms : Members) (ts : List IfChoice) → ChoicesIn ts ms → ChoicesIn ts (andMember o ms)
+choices-later : (o : Option Process) (ms : Processes) (ts : List IfChoice) → ChoicesIn ts ms → ChoicesIn ts (andProcess o ms)
 choices-later none ms ts h = h
 choices-later (some q) ms [] h = tt
 choices-later (some q) ms (t ∷ ts) h = (younger (h .0), choices-later (some q) ms ts (h .1))
 
-options-later : (o : Option Process) (ms : Members) (bs : List AltOption) → OptionsIn bs ms → OptionsIn bs (andMember o ms)
+options-later : (o : Option Process) (ms : Processes) (bs : List AltOption) → OptionsIn bs ms → OptionsIn bs (andProcess o ms)
 options-later none ms bs h = h
 options-later (some q) ms [] h = tt
 options-later (some q) ms (b ∷ bs) h = (younger (h .0), options-later (some q) ms bs (h .1))
@@ -109,24 +112,24 @@ module _ (rows : List ℤ) (A : RightRows rows) where
       let j : t ≡ b = sym (ap naturalOf z) ∙ e in
       subst (λ (y : ℕ). (r < y) × (y < rowCount rows) × IsProcess rows y) j (i .0, i .1, is-process rows t (i .1) (i .2))
 
-  abbrev StartsOk : ℕ → Part → Type 0
-  StartsOk r p = ChoicesIn (p .tests) (p .members) × OptionsIn (p .branches) (p .members) × StartsO (p .process)
+  abbrev StartsOk : ℕ → Content → Type 0
+  StartsOk r p = ChoicesIn (p .tests) (p .listed) × OptionsIn (p .options) (p .listed) × StartsO (p .process)
 
-  of-known : (r b : ℕ) (p : Part) → Known rows StartsOk r b p → StartsOk b p
+  of-known : (r b : ℕ) (p : Content) → Known rows StartsOk r b p → StartsOk b p
   of-known r b p (inl e) = rw e (tt, tt, tt)
   of-known r b p (inr h) = h .3
 
-  module _ (r : ℕ) (l : r < rowCount rows) (known : (b : ℕ) → StartsOk b (higherPart rows r b)) where
-    abbrev at : ℕ → Part
-    at = higherPart rows r
+  module _ (r : ℕ) (l : r < rowCount rows) (known : (b : ℕ) → StartsOk b (higherContent rows r b)) where
+    abbrev at : ℕ → Content
+    at = higherContent rows r
 
     -- the process that a field refers to comes first among the members
-    comes-first : (k b : ℕ) (s : Shape) (p : Place) (ms : Members) → Shaped rows r k s → fieldOf s p ≡ reference processes → Holding rows r p b → Child b (andMember (at b .process) ms)
+    comes-first : (k b : ℕ) (s : Shape) (p : Place) (ms : Processes) → Shaped rows r k s → fieldOf s p ≡ reference processes → Holding rows r p b → Child b (andProcess (at b .process) ms)
     comes-first k b s p ms h f e =
         let (g, m, (j, ps, i)) = field-process r k b s p l h f e in
-        child-first (at b .process) ms b (node j b ps) (ap (λ (t : Bool). ifElse t (partAt rows b) noPart .process) (lt-ltb r b g) ∙ i) refl
+        child-first (at b .process) ms b (node j b ps) (ap (λ (t : Bool). ifElse t (contentAt rows b) noContent .process) (lt-ltb r b g) ∙ i) refl
 
-    part-ok : (k : Node) → Fields rows r k → StartsOk r (partOf rows r at k)
+    part-ok : (k : Node) → Fields rows r k → StartsOk r (contentOf rows r at k)
     part-ok (Literal x) f = (tt, tt, tt)
     part-ok (Element a b) f = (tt, tt, tt)
     part-ok (Monadic a b) f = (tt, tt, tt)
@@ -142,14 +145,14 @@ module _ (rows : List ℤ) (A : RightRows rows) where
     part-ok (While a b) f = (tt, tt, comes-first 33 b while-shape of-b empty (f .0) refl (f .1))
     part-ok (Alt a) f = (tt, tt, known a .1)
     part-ok (Member a b) f = (tt, tt, tt)
-    part-ok (Choice a b c) f = ((comes-first 41 a choice-shape of-a (at b .members) (f .0) refl (f .1), choices-later (at a .process) (at b .members) (at b .tests) (known b .0)), tt, tt)
-    part-ok (Alternative a b c) f = (tt, (comes-first 42 a option-shape of-a (at b .members) (f .0) refl (f .1), options-later (at a .process) (at b .members) (at b .branches) (known b .1)), tt)
+    part-ok (Choice a b c) f = ((comes-first 41 a choice-shape of-a (at b .listed) (f .0) refl (f .1), choices-later (at a .process) (at b .listed) (at b .tests) (known b .0)), tt, tt)
+    part-ok (OptionRow a b c) f = (tt, (comes-first 42 a option-shape of-a (at b .listed) (f .0) refl (f .1), options-later (at a .process) (at b .listed) (at b .options) (known b .1)), tt)
     part-ok (Guard a b) f = (tt, tt, tt)
     part-ok Other f = (tt, tt, tt)
 
-  every-part : (r : ℕ) → StartsOk r (partAt rows r)
-  every-part = every-row rows StartsOk (λ r. (tt, tt, tt)) (λ r l e h. part-ok r l (λ b. of-known r b (higherPart rows r b) (h b)) (nodeAt rows r) (fields-are rows r))
+  every-part : (r : ℕ) → StartsOk r (contentAt rows r)
+  every-part = every-row rows StartsOk (λ r. (tt, tt, tt)) (λ r l e h. part-ok r l (λ b. of-known r b (higherContent rows r b) (h b)) (nodeAt rows r) (fields-are rows r))
 
   -- what the process at a row may start is one of its members
-  pub starts-at : (r : ℕ) (k : Action) (ms : Members) → partAt rows r .process ≡ some (node k r ms) → Starts k ms
+  pub starts-at : (r : ℕ) (k : Action) (ms : Processes) → contentAt rows r .process ≡ some (node k r ms) → Starts k ms
   starts-at r k ms e = subst StartsO e (every-part r .2)

@@ -6,10 +6,10 @@ use mathlib.Core.List.{List, [], _∷_, _++_, List·Memᴰ, List·Memᴰ·head, 
 use Prim.Native.Nat.{ℕ, zero, suc}
 use lib.IntN.{ℤ}
 use lib.ListN.{getD}
-use Rattle.meaning.specs.Rows.{ifElse, atRow}
-use Rattle.meaning.specs.Basics.{among, common}
-use Rattle.meaning.specs.Tree.{parallel, Process, node, Members, Part, noPart, partAt, parts}
-use Rattle.meaning.specs.Usage.{changes, uses, inputs, outputs, gather, cellClash, inputClash, outputClash, Pair, pairs, Comparison, ofProcess, comparisonsOf, comparisons, clashes, firstClash, refusal, usageFault}
+use Rattle.meaning.specs.Basics.{ifElse, among, common}
+use Rattle.meaning.specs.HigherRows.{atRow}
+use Rattle.meaning.specs.Tree.{parallel, Process, node, Processes, Content, noContent, contentAt, contents}
+use Rattle.meaning.specs.Usage.{changes, uses, inputElements, outputElements, gather, cellClash, inputClash, outputClash, Pair, pairs, Comparison, comparisonsIn, comparisonsOf, comparisons, clashes, firstClash, refusalOf, usageFault}
 use Rattle.meaning.proofs.Decides.{Decides, holding, failing, decides-any}
 use Rattle.meaning.proofs.ReferenceCounts.{decides-among}
 use Rattle.meaning.proofs.NoFault.{or-false}
@@ -28,8 +28,8 @@ off l m e x i j = failed (decides-any (λ y. List·Memᴰ y m) (λ y. among y m)
 pub record Clear (p q : Process) : Type 0 where
   pub there : Off (gather p changes) (gather q uses)
   pub back : Off (gather q changes) (gather p uses)
-  pub in-in : Off (gather p inputs) (gather q inputs)
-  pub out-out : Off (gather p outputs) (gather q outputs)
+  pub in-in : Off (gather p inputElements) (gather q inputElements)
+  pub out-out : Off (gather p outputElements) (gather q outputElements)
 
 -- Comparisons ---------------------------------------------------------------------------------------------------------------------
 
@@ -42,24 +42,24 @@ quiet (d ∷ l) c e m = go (clashes d) refl e m (quiet l c)
     go false i h (List·Memᴰ·head e) f = ap clashes e ∙ i
     go false i h (List·Memᴰ·tail m) f = f h m
 
-compared : (number : ℕ) (l : List Part) (r : ℕ) (c : Comparison) → List·Memᴰ c (ofProcess number (getD l r noPart .process)) → List·Memᴰ c (comparisonsOf number l)
+compared : (number : ℕ) (l : List Content) (r : ℕ) (c : Comparison) → List·Memᴰ c (comparisonsIn number (getD l r noContent .process)) → List·Memᴰ c (comparisonsOf number l)
 compared number [] r c m = absurd (List·Memᴰ·not-nil m)
 compared number (p ∷ l) zero c m = Memᴰ·append-left (comparisonsOf number l) m
-compared number (p ∷ l) (suc r) c m = Memᴰ·append-right (ofProcess number (p .process)) (compared number l r c m)
+compared number (p ∷ l) (suc r) c m = Memᴰ·append-right (comparisonsIn number (p .process)) (compared number l r c m)
 
-no-refusal : (o : Option Comparison) → refusal o ≡ none → o ≡ none
+no-refusal : (o : Option Comparison) → refusalOf o ≡ none → o ≡ none
 no-refusal none e = refl
 no-refusal (some c) e = absurd (Option·some-ne-none (c .number, c .row) e)
 
 module _ (rows : List ℤ) (u : usageFault rows ≡ none) where
   -- the components of the PAR at a row do not clash
-  module _ (r : ℕ) (ms : Members) (e : partAt rows r .process ≡ some (node parallel r ms)) (q : Pair) (m : List·Memᴰ q (pairs 0 ms)) where
+  module _ (r : ℕ) (ms : Processes) (e : contentAt rows r .process ≡ some (node parallel r ms)) (q : Pair) (m : List·Memᴰ q (pairs ms)) where
     abbrev Compared : ℕ → Comparison
     Compared number = record { number = number; row = r; pair = q }
 
-    at-row : (number : ℕ) → List·Memᴰ (Compared number) (comparisonsOf number (parts rows))
-    unfolding partAt parts atRow
-    at-row number = compared number (parts rows) r (Compared number) (subst (λ (o : Option Process). List·Memᴰ (Compared number) (ofProcess number o)) (sym e) (Memᴰ·map (λ (p : Pair). record { number = number; row = r; pair = p }) m))
+    at-row : (number : ℕ) → List·Memᴰ (Compared number) (comparisonsOf number (contents rows))
+    unfolding contentAt contents atRow
+    at-row number = compared number (contents rows) r (Compared number) (subst (λ (o : Option Process). List·Memᴰ (Compared number) (comparisonsIn number o)) (sym e) (Memᴰ·map (λ (p : Pair). record { number = number; row = r; pair = p }) m))
 
     unclashing : (c : Comparison) → List·Memᴰ c (comparisons rows) → clashes c ≡ false
     unfolding usageFault
@@ -68,7 +68,7 @@ module _ (rows : List ℤ) (u : usageFault rows ≡ none) where
     pub clear : Clear (q .one) (q .other)
     unfolding comparisons clashes cellClash inputClash outputClash
     clear =
-        let l = parts rows in
+        let l = contents rows in
         let rest = comparisonsOf 8 l ++ comparisonsOf 9 l in
         let cells = or-false (common (gather (q .one) changes) (gather (q .other) uses)) (common (gather (q .other) changes) (gather (q .one) uses)) (unclashing (Compared 7) (Memᴰ·append-left rest (at-row 7))) in
         let ins = unclashing (Compared 8) (Memᴰ·append-right (comparisonsOf 7 l) (Memᴰ·append-left (comparisonsOf 9 l) (at-row 8))) in
@@ -76,6 +76,6 @@ module _ (rows : List ℤ) (u : usageFault rows ≡ none) where
         record {
           there = off (gather (q .one) changes) (gather (q .other) uses) (cells .0);
           back = off (gather (q .other) changes) (gather (q .one) uses) (cells .1);
-          in-in = off (gather (q .one) inputs) (gather (q .other) inputs) ins;
-          out-out = off (gather (q .one) outputs) (gather (q .other) outputs) outs;
+          in-in = off (gather (q .one) inputElements) (gather (q .other) inputElements) ins;
+          out-out = off (gather (q .one) outputElements) (gather (q .other) outputElements) outs;
         }

@@ -10,11 +10,12 @@ use native.Mathlib.Omega.{arith}
 use lib.IntN.{ℤ}
 use lib.Dec.{eqb}
 use borrow.Author.Tests.{eqb-true}
-use Rattle.meaning.specs.Rows.{rowCount, fieldAt, kindAt, declarations, root}
+use Rattle.meaning.specs.Rows.{rowCount, fieldAt, kindAt}
 use Rattle.meaning.specs.Kinds.{Shape, shapes, shapeIn, shapeOf, expressions, processes}
+use Rattle.meaning.specs.Declarations.{declarations, root}
 use Rattle.meaning.specs.References.{Place, of-a, of-b, of-c, fieldOf, numberOf, RefersBy, Refers, Beneath, direct, further}
 use Rattle.meaning.specs.Faults.{Placed}
-use Rattle.meaning.specs.Tree.{Action, Process, node, Members, rowOf, membersIn, partAt, orStop, rowsIn, rowsBeneath}
+use Rattle.meaning.specs.Tree.{Action, Process, node, Processes, rowOf, processesIn, contentAt, orStop, rowsIn, rowsBeneath}
 use Rattle.meaning.specs.State.{program, processAt, whole}
 use Rattle.meaning.proofs.AnswerLaws.{RightRows, accepted}
 use Rattle.meaning.proofs.KindLaws.{none-left, and-then, by-shape}
@@ -151,7 +152,7 @@ module _ (rows : List ℤ) where
         (omega arith, (omega arith, (omega arith, (omega arith, (omega arith, (omega arith, (omega arith, (omega arith, (omega arith, (omega arith, tt))))))))))
 
     -- a row in the process of row r is a process
-    process-in : (r b : ℕ) (p : Process) → partAt rows r .process ≡ some p → List·Memᴰ b (rowsIn p) → (b < rowCount rows) × IsProcess rows b
+    process-in : (r b : ℕ) (p : Process) → contentAt rows r .process ≡ some p → List·Memᴰ b (rowsIn p) → (b < rowCount rows) × IsProcess rows b
     process-in r b p e m =
         let (k, ms, h) = row-sub p b m in
         process-kind rows A b (node k b ms) (stands rows r k b ms (subst (SubO k b ms) (sym e) h))
@@ -160,13 +161,13 @@ module _ (rows : List ℤ) where
       abbrev Reached : ℕ → Type 0
       Reached b = Beneath rows r b × IsProcess rows b × (¬ OfGuard rows b)
 
-      into : (b : ℕ) → Reached b → List·Memᴰ b (rowsOf (partAt rows r .process))
+      into : (b : ℕ) → Reached b → List·Memᴰ b (rowsOf (contentAt rows r .process))
       into b h =
           let (k, ms, e) = is-process rows b (beneath-up (h .0) .1) (h .1) in
           of-process rows A b r r l m (up-all rows A b (reached (h .0) (process-low b (h .1)) (h .2)) (inl (subst (λ (o : Option Process). List·Memᴰ b (rowsOf o)) (sym e) (List·Memᴰ·head refl))))
 
       -- by the process that stands there
-      module _ (k : Action) (ms : Members) (e : partAt rows r .process ≡ some (node k r ms)) where
+      module _ (k : Action) (ms : Processes) (e : contentAt rows r .process ≡ some (node k r ms)) where
         beneath-to : (b : ℕ) → List·Memᴰ b (rowsBeneath ms) → Reached b
         beneath-to b i =
             let n = List·Memᴰ·tail i in
@@ -184,10 +185,10 @@ module _ (rows : List ℤ) where
         process-there : processAt (program rows) r ≡ node k r ms
         process-there = process-is rows r ∙ ap orStop e
 
-        beneath-is : (b : ℕ) → List·Memᴰ b (rowsBeneath (membersIn (processAt (program rows) r))) ↔ Reached b
+        beneath-is : (b : ℕ) → List·Memᴰ b (rowsBeneath (processesIn (processAt (program rows) r))) ↔ Reached b
         beneath-is b = rw process-there (beneath-to b, beneath-from b)
 
-      pub beneath-rows : (b : ℕ) → List·Memᴰ b (rowsBeneath (membersIn (processAt (program rows) r))) ↔ Reached b
+      pub beneath-rows : (b : ℕ) → List·Memᴰ b (rowsBeneath (processesIn (processAt (program rows) r))) ↔ Reached b
       beneath-rows = let (k, ms, e) = is-process rows r l m in beneath-is k ms e
 
 pub beneath-in-tree : BeneathInTree
@@ -206,10 +207,10 @@ rows-of-tree rows e b = (to, λ h. from h (decLt b d) (decLt d b))
     root-kind : IsProcess rows d
     root-kind = placed-at rows A d (omega arith) (root-below rows A) .1 refl
 
-    beneath : List·Memᴰ b (rowsBeneath (membersIn (whole (program rows)))) ↔ (Beneath rows d b × IsProcess rows b × (¬ OfGuard rows b))
+    beneath : List·Memᴰ b (rowsBeneath (processesIn (whole (program rows)))) ↔ (Beneath rows d b × IsProcess rows b × (¬ OfGuard rows b))
     beneath = beneath-in-tree rows e d (root-below rows A) root-kind b
 
-    rows-are : (p : Process) → List·Memᴰ b (rowsIn p) → (b ≡ rowOf p) ⊎ List·Memᴰ b (rowsBeneath (membersIn p))
+    rows-are : (p : Process) → List·Memᴰ b (rowsIn p) → (b ≡ rowOf p) ⊎ List·Memᴰ b (rowsBeneath (processesIn p))
     rows-are (node k r ms) m = List·Memᴰ·cases-cons m
 
     root-row : rowOf (whole (program rows)) ≡ d
@@ -230,6 +231,6 @@ rows-of-tree rows e b = (to, λ h. from h (decLt b d) (decLt d b))
     from h (yes l) u = absurd (let k = process-low rows A b (h .1) in ⊎-elim (λ f. omega arith) (λ f. omega arith) (declared rows b l))
     from h (no l) (yes u) = later (whole (program rows)) (beneath .1 (one-tree-of-rows rows e b u (h .0) .0, h .1, h .2))
       where
-        later : (p : Process) → List·Memᴰ b (rowsBeneath (membersIn p)) → List·Memᴰ b (rowsIn p)
+        later : (p : Process) → List·Memᴰ b (rowsBeneath (processesIn p)) → List·Memᴰ b (rowsIn p)
         later (node k r ms) m = List·Memᴰ·tail m
     from h (no l) (no u) = subst (λ (x : ℕ). List·Memᴰ x (rowsIn (whole (program rows)))) (root-row ∙ omega arith) (row-in (whole (program rows)))

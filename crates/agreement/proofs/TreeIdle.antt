@@ -7,7 +7,7 @@ use Prim.Native.Nat.{ℕ, _<_}
 use lib.ListN.{getD}
 use Rattle.meaning.specs.Rows.{rowCount}
 use Rattle.meaning.specs.References.{Beneath}
-use Rattle.meaning.specs.Tree.{membersIn, rowsBeneath}
+use Rattle.meaning.specs.Tree.{processesIn, rowsBeneath}
 use Rattle.meaning.specs.State.{program, processAt}
 use Rattle.meaning.proofs.Decides.{Decides, holding, failing}
 use Rattle.meaning.proofs.ReferenceCounts.{decides-among}
@@ -24,9 +24,9 @@ other-rows-idle rows ok sheet l s o x h = orders-coherent rows ok sheet l s o .r
     go t (inr g) = t .2 g
 
 pub beneath-idle : BeneathIdle
-beneath-idle rows ok sheet l s o r i m = (λ h b w. to h b w (decides-among b (rowsBeneath (membersIn (processAt (program rows) r)))), λ h b n. h b (beneath-in-tree rows ok r i m b .0 n .0))
+beneath-idle rows ok sheet l s o r i m = (λ h b w. to h b w (decides-among b (rowsBeneath (processesIn (processAt (program rows) r)))), λ h b n. h b (beneath-in-tree rows ok r i m b .0 n .0))
   where
-    to : AllIdle (s .states) (rowsBeneath (membersIn (processAt (program rows) r))) → (b : ℕ) → Beneath rows r b → {t : Bool} → Decides (List·Memᴰ b (rowsBeneath (membersIn (processAt (program rows) r)))) t → getD (s .states) b 0 ≡ 0
+    to : AllIdle (s .states) (rowsBeneath (processesIn (processAt (program rows) r))) → (b : ℕ) → Beneath rows r b → {t : Bool} → Decides (List·Memᴰ b (rowsBeneath (processesIn (processAt (program rows) r)))) t → getD (s .states) b 0 ≡ 0
     to h b w (holding n) = h b n
     to h b w (failing n) =
         orders-coherent rows ok sheet l s o .rows-coherent .no-process b

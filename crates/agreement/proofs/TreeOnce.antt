@@ -4,7 +4,7 @@ use mathlib.Core.List.{List, _++_, List·Memᴰ·head, List·Memᴰ·tail, List�
 use mathlib.Core.Path.{refl}
 use Prim.Native.Nat.{ℕ}
 use Rattle.meaning.specs.Rows.{rowCount}
-use Rattle.meaning.specs.Tree.{Process, node, Members, empty, also, rowsIn, rowsBeneath}
+use Rattle.meaning.specs.Tree.{Process, node, Processes, empty, also, rowsIn, rowsBeneath}
 use Rattle.meaning.specs.State.{program, whole}
 use Rattle.agreement.specs.TreeClaims.{EachOnce, once-none, once-more, RowsOnce}
 use Rattle.agreement.proofs.Frame.{Off}
@@ -21,7 +21,7 @@ mutual
   process-once : (p : Process) (n : ℕ) → Sound p n → EachOnce (rowsIn p)
   process-once (node k r ms) n s = once-more (s .1) (members-once ms n (s .2))
 
-  members-once : (ms : Members) (n : ℕ) → SoundM ms n → EachOnce (rowsBeneath ms)
+  members-once : (ms : Processes) (n : ℕ) → SoundM ms n → EachOnce (rowsBeneath ms)
   members-once empty n s = once-none
   members-once (also p ms) n s = append (process-once p n (s .0)) (members-once ms n (s .1)) (s .2)
 

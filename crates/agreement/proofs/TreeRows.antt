@@ -1,19 +1,20 @@
 -- In an accepted table, the rows of what stands at a row hold those of what stands at each row that it refers to, but for guards.
 use mathlib.Core.Path.{_≡_, refl, sym, ap, _∙_, subst}
 use mathlib.Core.Logic.{_⊎_, inl, inr, ⊎-elim}
-use mathlib.Core.Bool.{true, false, false≢true}
+use mathlib.Core.Bool.{true, false≢true}
 use mathlib.Core.Option.{Option, none, some, Option·none-ne-some}
 use mathlib.Core.List.{List, [], _∷_, List·Memᴰ, List·Memᴰ·tail, List·Memᴰ·not-nil, Memᴰ·append-left, Memᴰ·append-right}
 use Prim.Native.Nat.{ℕ, _<_}
 use native.Mathlib.Decide.{decLt}
 use native.Mathlib.Omega.{arith}
 use lib.IntN.{ℤ, pos}
-use Rattle.meaning.specs.Rows.{naturalOf, rowCount, fieldAt, naturalAt, kindAt, nodeAt}
-use Rattle.meaning.specs.Basics.{any, among}
+use Rattle.meaning.specs.Rows.{naturalOf, rowCount, fieldAt, naturalAt, kindAt}
+use Rattle.meaning.specs.Basics.{anyPasses, among}
 use Rattle.meaning.specs.Kinds.{Shape, shapes, shapeOf, expressions, processes}
+use Rattle.meaning.specs.Nodes.{nodeAt}
 use Rattle.meaning.specs.References.{Place, of-a, of-b, of-c, fieldOf, numberOf, IsTarget, RefersBy, Refers}
 use Rattle.meaning.specs.Faults.{WellFormed}
-use Rattle.meaning.specs.Tree.{Process, Members, empty, Part, andMember, partOf, partAt, rowsIn, rowsBeneath}
+use Rattle.meaning.specs.Tree.{Process, Processes, empty, Content, andProcess, contentOf, contentAt, rowsIn, rowsBeneath}
 use Rattle.meaning.proofs.AnswerLaws.{RightRows}
 use Rattle.meaning.proofs.KindLaws.{none-left, and-then, by-shape}
 use Rattle.meaning.proofs.PartLaws.{part-unfolds}
@@ -27,15 +28,15 @@ use Rattle.agreement.proofs.UsageReferences.{never}
 use Rattle.agreement.proofs.UsageParts.{OfEach, partBy, part-is, part-by-kind}
 
 -- a row is among those of a part: of its process, or of its members
-abbrev In : ℕ → Part → Type 0
-In x p = List·Memᴰ x (rowsOf (p .process)) ⊎ List·Memᴰ x (rowsBeneath (p .members))
+abbrev In : ℕ → Content → Type 0
+In x p = List·Memᴰ x (rowsOf (p .process)) ⊎ List·Memᴰ x (rowsBeneath (p .listed))
 
 -- a process before members holds the rows of both
-first-in : (x : ℕ) (o : Option Process) (ms : Members) → List·Memᴰ x (rowsOf o) → List·Memᴰ x (rowsBeneath (andMember o ms))
+first-in : (x : ℕ) (o : Option Process) (ms : Processes) → List·Memᴰ x (rowsOf o) → List·Memᴰ x (rowsBeneath (andProcess o ms))
 first-in x none ms m = absurd (List·Memᴰ·not-nil m)
 first-in x (some p) ms m = Memᴰ·append-left (rowsBeneath ms) m
 
-later-in : (x : ℕ) (o : Option Process) (ms : Members) → List·Memᴰ x (rowsBeneath ms) → List·Memᴰ x (rowsBeneath (andMember o ms))
+later-in : (x : ℕ) (o : Option Process) (ms : Processes) → List·Memᴰ x (rowsBeneath ms) → List·Memᴰ x (rowsBeneath (andProcess o ms))
 later-in x none ms m = m
 later-in x (some p) ms m = Memᴰ·append-right (rowsIn p) m
 
@@ -50,12 +51,12 @@ module _ (rows : List ℤ) (A : RightRows rows) where
   each-fits : (r : ℕ) → r < rowCount rows → Fits rows r (nodeAt rows r)
   each-fits = fits rows (few-rows rows A) (A .1) (A .2)
 
-  by-kind : (P : Part → Type 0) (c : ℕ) (kinds : List ℕ) → c < rowCount rows → List·Memᴰ (kindAt rows c) kinds → OfEach (λ k. P (partBy rows c k)) kinds → P (partAt rows c)
+  by-kind : (P : Content → Type 0) (c : ℕ) (kinds : List ℕ) → c < rowCount rows → List·Memᴰ (kindAt rows c) kinds → OfEach (λ k. P (partBy rows c k)) kinds → P (contentAt rows c)
   by-kind P c kinds l m h = part-by-kind rows P c l (each-fits c l) kinds m h
 
   -- where a process stands, the row is of the kind of one
-  pub process-kind : (r : ℕ) (p : Process) → partAt rows r .process ≡ some p → (r < rowCount rows) × IsProcess rows r
-  unfolding WellFormed shapes any
+  pub process-kind : (r : ℕ) (p : Process) → contentAt rows r .process ≡ some p → (r < rowCount rows) × IsProcess rows r
+  unfolding WellFormed shapes anyPasses
   process-kind r p e = go (decLt r (rowCount rows))
     where
       Kind : ℕ → Shape → Type 0
@@ -90,12 +91,12 @@ module _ (rows : List ℤ) (A : RightRows rows) where
           none-left))))))))))))))))))))
 
       go : Dec (r < rowCount rows) → (r < rowCount rows) × IsProcess rows r
-      go (no l) = absurd (Option·none-ne-some p (sym (ap (λ (x : Part). x .process) (part-unfolds rows r .1 (omega arith))) ∙ e))
+      go (no l) = absurd (Option·none-ne-some p (sym (ap (λ (x : Content). x .process) (part-unfolds rows r .1 (omega arith))) ∙ e))
       go (yes l) =
           let w = A .1 r l .1 in (
             l,
             each (kindAt rows r) (w .0) (w .1)
-                (sym (ap (λ (x : Part). x .process) (part-is rows r l (each-fits r l) ∙ ap (partOf rows r (partAt rows)) (node-of-kind rows r (kindAt rows r) refl))) ∙ e),
+                (sym (ap (λ (x : Content). x .process) (part-is rows r l (each-fits r l) ∙ ap (contentOf rows r (contentAt rows)) (node-of-kind rows r (kindAt rows r) refl))) ∙ e),
           )
 
   -- by the kind of what is referred to: an expression has no rows, a process those of the process, a link those of its members
@@ -103,16 +104,16 @@ module _ (rows : List ℤ) (A : RightRows rows) where
     no-rows : List·Memᴰ x [] ⊎ List·Memᴰ x [] → ⊥
     no-rows = ⊎-elim List·Memᴰ·not-nil List·Memᴰ·not-nil
 
-    of-expression : IsTarget rows q expressions c → In x (partAt rows c) → ⊥
+    of-expression : IsTarget rows q expressions c → In x (contentAt rows c) → ⊥
     of-expression t = by-kind (λ y. In x y → ⊥) c expressions (t .1) (t .2) (no-rows, (no-rows, (no-rows, (no-rows, tt))))
 
-    of-element : IsTarget rows q (11 ∷ []) c → In x (partAt rows c) → ⊥
+    of-element : IsTarget rows q (11 ∷ []) c → In x (contentAt rows c) → ⊥
     of-element t = by-kind (λ y. In x y → ⊥) c (11 ∷ []) (t .1) (t .2) (no-rows, tt)
 
     alone : {l : List ℕ} → List·Memᴰ x l ⊎ List·Memᴰ x [] → List·Memᴰ x l
     alone = ⊎-elim (λ m. m) (λ m. absurd (List·Memᴰ·not-nil m))
 
-    pub of-process : c < rowCount rows → IsProcess rows c → In x (partAt rows c) → List·Memᴰ x (rowsOf (partAt rows c .process))
+    pub of-process : c < rowCount rows → IsProcess rows c → In x (contentAt rows c) → List·Memᴰ x (rowsOf (contentAt rows c .process))
     of-process l m =
         by-kind (λ y. In x y → List·Memᴰ x (rowsOf (y .process))) c processes l m
         (alone, (alone, (alone, (alone, (alone, (alone, (alone, (alone, (alone, (alone, tt))))))))))
@@ -120,18 +121,18 @@ module _ (rows : List ℤ) (A : RightRows rows) where
     linked : {l : List ℕ} → List·Memᴰ x [] ⊎ List·Memᴰ x l → List·Memᴰ x l
     linked = ⊎-elim (λ m. absurd (List·Memᴰ·not-nil m)) (λ m. m)
 
-    of-members : IsTarget rows q (40 ∷ []) c → In x (partAt rows c) → List·Memᴰ x (rowsBeneath (partAt rows c .members))
-    of-members t = by-kind (λ y. In x y → List·Memᴰ x (rowsBeneath (y .members))) c (40 ∷ []) (t .1) (t .2) (linked, tt)
+    of-members : IsTarget rows q (40 ∷ []) c → In x (contentAt rows c) → List·Memᴰ x (rowsBeneath (contentAt rows c .listed))
+    of-members t = by-kind (λ y. In x y → List·Memᴰ x (rowsBeneath (y .listed))) c (40 ∷ []) (t .1) (t .2) (linked, tt)
 
-    of-choices : IsTarget rows q (41 ∷ []) c → In x (partAt rows c) → List·Memᴰ x (rowsBeneath (partAt rows c .members))
-    of-choices t = by-kind (λ y. In x y → List·Memᴰ x (rowsBeneath (y .members))) c (41 ∷ []) (t .1) (t .2) (linked, tt)
+    of-choices : IsTarget rows q (41 ∷ []) c → In x (contentAt rows c) → List·Memᴰ x (rowsBeneath (contentAt rows c .listed))
+    of-choices t = by-kind (λ y. In x y → List·Memᴰ x (rowsBeneath (y .listed))) c (41 ∷ []) (t .1) (t .2) (linked, tt)
 
-    of-options : IsTarget rows q (42 ∷ []) c → In x (partAt rows c) → List·Memᴰ x (rowsBeneath (partAt rows c .members))
-    of-options t = by-kind (λ y. In x y → List·Memᴰ x (rowsBeneath (y .members))) c (42 ∷ []) (t .1) (t .2) (linked, tt)
+    of-options : IsTarget rows q (42 ∷ []) c → In x (contentAt rows c) → List·Memᴰ x (rowsBeneath (contentAt rows c .listed))
+    of-options t = by-kind (λ y. In x y → List·Memᴰ x (rowsBeneath (y .listed))) c (42 ∷ []) (t .1) (t .2) (linked, tt)
 
     -- what a field of row q refers to has its rows in row q as kind k
     abbrev Up : ℕ → Place → Type 0
-    Up k p = unguarded k p ≡ true → In x (partAt rows c) → In x (partBy rows q k)
+    Up k p = unguarded k p ≡ true → In x (contentAt rows c) → In x (partBy rows q k)
 
     abbrev EachUp : ℕ → Shape → Type 0
     EachUp k s =
@@ -143,19 +144,19 @@ module _ (rows : List ℤ) (A : RightRows rows) where
     held : (P : ℕ → Type 0) (z : ℤ) → z ≡ pos c → P c → P (naturalOf z)
     held P z e = subst P (sym (ap naturalOf e))
 
-    members-up : (z : ℤ) → z ≡ pos c → List·Memᴰ x (rowsBeneath (partAt rows c .members)) → List·Memᴰ x (rowsBeneath (partAt rows (naturalOf z) .members))
-    members-up z e = held (λ b. List·Memᴰ x (rowsBeneath (partAt rows b .members))) z e
+    members-up : (z : ℤ) → z ≡ pos c → List·Memᴰ x (rowsBeneath (contentAt rows c .listed)) → List·Memᴰ x (rowsBeneath (contentAt rows (naturalOf z) .listed))
+    members-up z e = held (λ b. List·Memᴰ x (rowsBeneath (contentAt rows b .listed))) z e
 
-    process-up : (z : ℤ) → z ≡ pos c → List·Memᴰ x (rowsOf (partAt rows c .process)) → List·Memᴰ x (rowsOf (partAt rows (naturalOf z) .process))
-    process-up z e = held (λ b. List·Memᴰ x (rowsOf (partAt rows b .process))) z e
+    process-up : (z : ℤ) → z ≡ pos c → List·Memᴰ x (rowsOf (contentAt rows c .process)) → List·Memᴰ x (rowsOf (contentAt rows (naturalOf z) .process))
+    process-up z e = held (λ b. List·Memᴰ x (rowsOf (contentAt rows b .process))) z e
 
     each-up : (k : ℕ) (s : Shape) → shapeOf k ≡ some s → EachUp k s
     unfolding shapes RefersBy
     each-up =
         let za = fieldAt rows q 1 in
         let zb = fieldAt rows q 2 in
-        let a = partAt rows (naturalAt rows q 1) in
-        let b = partAt rows (naturalAt rows q 2) in
+        let a = contentAt rows (naturalAt rows q 1) in
+        let b = contentAt rows (naturalAt rows q 2) in
         by-shape EachUp
         (and-then (never, never, never)
         (and-then (never, never, never)
@@ -173,18 +174,18 @@ module _ (rows : List ℤ) (A : RightRows rows) where
         (and-then (λ h u i. inl (List·Memᴰ·tail (members-up za (h .0) (of-choices (h .1) i))), never, never)
         (and-then (λ h u i. absurd (of-expression (h .1) i), λ h u i. inl (List·Memᴰ·tail (first-in x (b .process) empty (process-up zb (h .0) (of-process (h .1 .1) (h .1 .2) i)))), never)
         (and-then (λ h u i. inl (List·Memᴰ·tail (members-up za (h .0) (of-options (h .1) i))), never, never)
-        (and-then (λ h u i. inr (first-in x (a .process) (b .members) (process-up za (h .0) (of-process (h .1 .1) (h .1 .2) i))), λ h u i. inr (later-in x (a .process) (b .members) (members-up zb (h .0) (of-members (h .1) i))), never)
-        (and-then (λ h u i. inr (first-in x (a .process) (b .members) (process-up za (h .0) (of-process (h .1 .1) (h .1 .2) i))), λ h u i. inr (later-in x (a .process) (b .members) (members-up zb (h .0) (of-choices (h .1) i))), λ h u i. absurd (of-expression (h .1) i))
-        (and-then (λ h u i. inr (first-in x (a .process) (b .members) (process-up za (h .0) (of-process (h .1 .1) (h .1 .2) i))), λ h u i. inr (later-in x (a .process) (b .members) (members-up zb (h .0) (of-options (h .1) i))), λ h u i. absurd (false≢true u))
+        (and-then (λ h u i. inr (first-in x (a .process) (b .listed) (process-up za (h .0) (of-process (h .1 .1) (h .1 .2) i))), λ h u i. inr (later-in x (a .process) (b .listed) (members-up zb (h .0) (of-members (h .1) i))), never)
+        (and-then (λ h u i. inr (first-in x (a .process) (b .listed) (process-up za (h .0) (of-process (h .1 .1) (h .1 .2) i))), λ h u i. inr (later-in x (a .process) (b .listed) (members-up zb (h .0) (of-choices (h .1) i))), λ h u i. absurd (of-expression (h .1) i))
+        (and-then (λ h u i. inr (first-in x (a .process) (b .listed) (process-up za (h .0) (of-process (h .1 .1) (h .1 .2) i))), λ h u i. inr (later-in x (a .process) (b .listed) (members-up zb (h .0) (of-options (h .1) i))), λ h u i. absurd (false≢true u))
         (and-then (λ h u i. absurd (of-expression (h .1) i), λ h u i. absurd (false≢true u), never)
         none-left))))))))))))))))))))
 
-    up : (p : Place) → Refers rows q p c → unguarded (kindAt rows q) p ≡ true → In x (partAt rows c) → In x (partAt rows q)
+    up : (p : Place) → Refers rows q p c → unguarded (kindAt rows q) p ≡ true → In x (contentAt rows c) → In x (contentAt rows q)
     unfolding Refers
     up p h u i =
         let l = refers-up rows A q c p h in
         let k : q < rowCount rows = omega arith in
-        subst (In x) (sym (part-is rows q k (each-fits q k) ∙ ap (partOf rows q (partAt rows)) (node-of-kind rows q (kindAt rows q) refl)))
+        subst (In x) (sym (part-is rows q k (each-fits q k) ∙ ap (contentOf rows q (contentAt rows)) (node-of-kind rows q (kindAt rows q) refl)))
         (go (kindAt rows q) (h .0) p (each-up (kindAt rows q) (h .0) (h .1)) (h .2) u i)
       where
         go : (k : ℕ) (s : Shape) (p : Place) → EachUp k s → RefersBy rows q (fieldOf s p) (numberOf rows q p) c → Up k p
@@ -193,6 +194,6 @@ module _ (rows : List ℤ) (A : RightRows rows) where
         go k s of-c f = f .2
 
   -- so along every way that goes by no guard
-  pub up-all : (x : ℕ) {r c : ℕ} → Desc rows A r c → In x (partAt rows c) → In x (partAt rows r)
+  pub up-all : (x : ℕ) {r c : ℕ} → Desc rows A r c → In x (contentAt rows c) → In x (contentAt rows r)
   up-all x self i = i
   up-all x (down {y} {x = c} p h g u) i = up-all x h (up x y c p g u i)

@@ -5,13 +5,14 @@ use mathlib.Core.List.{List, [], _∷_, List·Memᴰ, List·Memᴰ·eq-of-single
 use Prim.Native.Nat.{ℕ, _<_}
 use lib.IntN.{ℤ}
 use Rattle.meaning.specs.declared.Node.{Node}
-use Rattle.meaning.specs.declared.Node.the-variants.{Literal, Element, Monadic, Dyadic, Stop, Skip, Assignment, Input, Output, Seq, Par, If, While, Alt, Member, Choice, Option as Alternative, Guard, Other}
-use Rattle.meaning.specs.Rows.{rowCount, naturalAt, nodeAt}
+use Rattle.meaning.specs.declared.Node.the-variants.{Literal, Element, Monadic, Dyadic, Stop, Skip, Assignment, Input, Output, Seq, Par, If, While, Alt, Member, Choice, OptionRow, Guard, Other}
+use Rattle.meaning.specs.Rows.{rowCount, naturalAt}
 use Rattle.meaning.specs.Declarations.{cellsAt, elementsAt, variableAt, sourceAt, sinkAt}
-use Rattle.meaning.specs.Tree.{Target, Receive, Part, partOf, partAt}
+use Rattle.meaning.specs.Nodes.{nodeAt}
+use Rattle.meaning.specs.Tree.{Target, ChannelInput, Content, contentOf, contentAt}
 use Rattle.meaning.specs.Usage.{countsFor, changesBy}
 use Rattle.meaning.specs.References.{IsTarget}
-use Rattle.meaning.specs.Clash.{Changes, by-assignment, by-input, Stands, stands, Inputs, inputs, Outputs, outputs}
+use Rattle.meaning.specs.Clash.{Changes, changed-by-assignment, changed-by-input, Stands, stands, Inputs, input-row, Outputs, output-row}
 use Rattle.agreement.proofs.UsageRows.{node-of-kind, ToExpr, Fits}
 use Rattle.agreement.proofs.UsageParts.{part-is}
 use Rattle.agreement.proofs.UsageTree.{Mark}
@@ -30,15 +31,15 @@ module _ (rows : List ℤ) where
   Touches r v i = Changes rows r v i ⊎ Stands rows r v i
 
   -- an input as the table has it
-  abbrev receiveAt : ℕ → ℕ → ℕ → Receive
-  receiveAt a b c = record { channel = sourceAt rows a; subscript = partAt rows b .expr; target = partAt rows c .target }
+  abbrev receiveAt : ℕ → ℕ → ℕ → ChannelInput
+  receiveAt a b c = record { channel = sourceAt rows a; subscript = contentAt rows b .expr; target = contentAt rows c .target }
 
   -- the rows that can bear a mark
   data Bearer (M : Mark) (r : ℕ) : Type 0 where
-    an-element : {a b : ℕ} → nodeAt rows r ≡ Element a b → ToExpr rows r b → M .atElement (variableAt rows a) (partAt rows b .expr) → Bearer M r
-    an-assignment : {a b c : ℕ} → nodeAt rows r ≡ Assignment a b c → ToExpr rows r b → M .atAssignment (variableAt rows a) (partAt rows b .expr) → Bearer M r
+    an-element : {a b : ℕ} → nodeAt rows r ≡ Element a b → ToExpr rows r b → M .atElement (variableAt rows a) (contentAt rows b .expr) → Bearer M r
+    an-assignment : {a b c : ℕ} → nodeAt rows r ≡ Assignment a b c → ToExpr rows r b → M .atAssignment (variableAt rows a) (contentAt rows b .expr) → Bearer M r
     an-input : {a b c : ℕ} → nodeAt rows r ≡ Input a b c → Fits rows r (Input a b c) → M .atInput (receiveAt a b c) → Bearer M r
-    an-output : {a b c : ℕ} → nodeAt rows r ≡ Output a b c → Fits rows r (Output a b c) → M .atOutput (sinkAt rows a) (partAt rows b .expr) → Bearer M r
+    an-output : {a b c : ℕ} → nodeAt rows r ≡ Output a b c → Fits rows r (Output a b c) → M .atOutput (sinkAt rows a) (contentAt rows b .expr) → Bearer M r
 
   bearer : (M : Mark) (r : ℕ) (x : Node) → nodeAt rows r ≡ x → Fits rows r x → Bears rows M x → Bearer M r
   bearer M r (Literal x) e f h = absurd h
@@ -57,18 +58,18 @@ module _ (rows : List ℤ) where
   bearer M r (Alt a) e f h = absurd h
   bearer M r (Member a b) e f h = absurd h
   bearer M r (Choice a b c) e f h = absurd h
-  bearer M r (Alternative a b c) e f h = absurd h
+  bearer M r (OptionRow a b c) e f h = absurd h
   bearer M r (Guard a b) e f h = absurd h
   bearer M r Other e f h = absurd h
 
   module _ (fits : (r : ℕ) → r < rowCount rows → Fits rows r (nodeAt rows r)) where
     -- the row of a target is an element
     abbrev Targets : ℕ → ℕ → ℕ → Type 0
-    Targets c v d = (nodeAt rows c ≡ Element v d) × ToExpr rows c d × (partAt rows c .target ≡ record { name = variableAt rows v; subscript = partAt rows d .expr })
+    Targets c v d = (nodeAt rows c ≡ Element v d) × ToExpr rows c d × (contentAt rows c .target ≡ record { name = variableAt rows v; subscript = contentAt rows d .expr })
 
     target-of : (c v d : ℕ) → c < rowCount rows → nodeAt rows c ≡ Element v d → Targets c v d
     target-of c v d l e =
-        (e, subst (Fits rows c) e (fits c l), ap (λ (x : Part). x .target) (part-is rows c l (fits c l)) ∙ ap (λ (x : Node). partOf rows c (partAt rows) x .target) e)
+        (e, subst (Fits rows c) e (fits c l), ap (λ (x : Content). x .target) (part-is rows c l (fits c l)) ∙ ap (λ (x : Node). contentOf rows c (contentAt rows) x .target) e)
 
     target-is : (r c : ℕ) → IsTarget rows r (11 ∷ []) c → Targets c (naturalAt rows c 1) (naturalAt rows c 2)
     target-is r c t = target-of c (naturalAt rows c 1) (naturalAt rows c 2) (t .1) (node-of-kind rows c 11 (List·Memᴰ·eq-of-singleton (t .2)))
@@ -81,11 +82,11 @@ module _ (rows : List ℤ) where
 
       changes-to : (r : ℕ) → Bearer (markChanges n) r → Of n (cellsAt rows) (Changes rows) r
       changes-to r (an-element e f h) = absurd h
-      changes-to r (an-assignment {a} {b} e f h) = let p = cells-is rows fits n r a b f .0 h in (a, (p .0, p .1, by-assignment e (p .2)))
+      changes-to r (an-assignment {a} {b} e f h) = let p = cells-is rows fits n r a b f .0 h in (a, (p .0, p .1, changed-by-assignment e (p .2)))
       changes-to r (an-input {a} {b} {c} e f h) =
           let t = target-is r c (f .2) in
           let p = target-cells a b c (naturalAt rows c 1) (naturalAt rows c 2) t .0 h in
-          (naturalAt rows c 1, (p .0, p .1, by-input e (t .0) (p .2)))
+          (naturalAt rows c 1, (p .0, p .1, changed-by-input e (t .0) (p .2)))
       changes-to r (an-output e f h) = absurd h
 
       -- a row's node is looked at by an equation
@@ -96,9 +97,9 @@ module _ (rows : List ℤ) where
       fits-by r x l e = subst (Fits rows r) e (fits r l)
 
       changes-from : (r v i : ℕ) → r < rowCount rows → Numbers (cellsAt rows) n v i → Changes rows r v i → Bears rows (markChanges n) (nodeAt rows r)
-      changes-from r v i l u (by-assignment {b} {c} e k) =
+      changes-from r v i l u (changed-by-assignment {b} {c} e k) =
           bears-by (markChanges n) r (Assignment v b c) e (cells-is rows fits n r v b (fits-by r (Assignment v b c) l e .0) .1 (i, u, k))
-      changes-from r v i l u (by-input {a} {b} {c} {d} e g k) =
+      changes-from r v i l u (changed-by-input {a} {b} {c} {d} e g k) =
           let f = fits-by r (Input a b c) l e in
           bears-by (markChanges n) r (Input a b c) e (target-cells a b c v d (target-of c v d (f .2 .1) g) .1 (i, u, k))
 
@@ -108,17 +109,17 @@ module _ (rows : List ℤ) where
       -- uses
       uses-to : (r : ℕ) → Bearer (markUses n) r → Of n (cellsAt rows) Touches r
       uses-to r (an-element {a} {b} e f h) = let p = cells-is rows fits n r a b f .0 h in (a, (p .0, p .1, inr (stands e (p .2))))
-      uses-to r (an-assignment {a} {b} e f h) = let p = cells-is rows fits n r a b f .0 h in (a, (p .0, p .1, inl (by-assignment e (p .2))))
+      uses-to r (an-assignment {a} {b} e f h) = let p = cells-is rows fits n r a b f .0 h in (a, (p .0, p .1, inl (changed-by-assignment e (p .2))))
       uses-to r (an-input {a} {b} {c} e f h) =
           let t = target-is r c (f .2) in
           let p = target-cells a b c (naturalAt rows c 1) (naturalAt rows c 2) t .0 h in
-          (naturalAt rows c 1, (p .0, p .1, inl (by-input e (t .0) (p .2))))
+          (naturalAt rows c 1, (p .0, p .1, inl (changed-by-input e (t .0) (p .2))))
       uses-to r (an-output e f h) = absurd h
 
       uses-from : (r v i : ℕ) → r < rowCount rows → Numbers (cellsAt rows) n v i → Touches r v i → Bears rows (markUses n) (nodeAt rows r)
-      uses-from r v i l u (inl (by-assignment {b} {c} e k)) =
+      uses-from r v i l u (inl (changed-by-assignment {b} {c} e k)) =
           bears-by (markUses n) r (Assignment v b c) e (cells-is rows fits n r v b (fits-by r (Assignment v b c) l e .0) .1 (i, u, k))
-      uses-from r v i l u (inl (by-input {a} {b} {c} {d} e g k)) =
+      uses-from r v i l u (inl (changed-by-input {a} {b} {c} {d} e g k)) =
           let f = fits-by r (Input a b c) l e in
           bears-by (markUses n) r (Input a b c) e (target-cells a b c v d (target-of c v d (f .2 .1) g) .1 (i, u, k))
       uses-from r v i l u (inr (stands {b} e k)) = bears-by (markUses n) r (Element v b) e (cells-is rows fits n r v b (fits-by r (Element v b) l e) .1 (i, u, k))
@@ -131,12 +132,12 @@ module _ (rows : List ℤ) where
       unfolding sourceAt
       inputs-to r (an-element e f h) = absurd h
       inputs-to r (an-assignment e f h) = absurd h
-      inputs-to r (an-input {a} {b} {c} e f h) = let p = elements-is rows fits n r 1 a b (f .0) (f .1) .0 h in (a, (p .0, p .1, inputs e (p .2)))
+      inputs-to r (an-input {a} {b} {c} e f h) = let p = elements-is rows fits n r 1 a b (f .0) (f .1) .0 h in (a, (p .0, p .1, input-row e (p .2)))
       inputs-to r (an-output e f h) = absurd h
 
       inputs-from : (r c i : ℕ) → r < rowCount rows → Numbers (elementsAt rows) n c i → Inputs rows r c i → Bears rows (markInputs n) (nodeAt rows r)
       unfolding sourceAt
-      inputs-from r c i l u (inputs {b} {d} e k) =
+      inputs-from r c i l u (input-row {b} {d} e k) =
           let f = fits-by r (Input c b d) l e in
           bears-by (markInputs n) r (Input c b d) e (elements-is rows fits n r 1 c b (f .0) (f .1) .1 (i, u, k))
 
@@ -149,11 +150,11 @@ module _ (rows : List ℤ) where
       outputs-to r (an-element e f h) = absurd h
       outputs-to r (an-assignment e f h) = absurd h
       outputs-to r (an-input e f h) = absurd h
-      outputs-to r (an-output {a} {b} {c} e f h) = let p = elements-is rows fits n r 2 a b (f .0) (f .1) .0 h in (a, (p .0, p .1, outputs e (p .2)))
+      outputs-to r (an-output {a} {b} {c} e f h) = let p = elements-is rows fits n r 2 a b (f .0) (f .1) .0 h in (a, (p .0, p .1, output-row e (p .2)))
 
       outputs-from : (r c i : ℕ) → r < rowCount rows → Numbers (elementsAt rows) n c i → Outputs rows r c i → Bears rows (markOutputs n) (nodeAt rows r)
       unfolding sinkAt
-      outputs-from r c i l u (outputs {b} {d} e k) =
+      outputs-from r c i l u (output-row {b} {d} e k) =
           let f = fits-by r (Output c b d) l e in
           bears-by (markOutputs n) r (Output c b d) e (elements-is rows fits n r 2 c b (f .0) (f .1) .1 (i, u, k))
 

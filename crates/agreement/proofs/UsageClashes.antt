@@ -5,14 +5,15 @@ use mathlib.Core.List.{List, List·Memᴰ}
 use mathlib.Core.Option.{some}
 use Prim.Native.Nat.{ℕ, _+_, _<_}
 use lib.IntN.{ℤ}
-use Rattle.meaning.specs.Rows.{rowCount, kindAt, nodeAt}
+use Rattle.meaning.specs.Rows.{rowCount, kindAt}
 use Rattle.meaning.specs.Basics.{among, common}
 use Rattle.meaning.specs.Kinds.{processes}
 use Rattle.meaning.specs.Declarations.{sumBelow, cellsAt, elementsAt}
-use Rattle.meaning.specs.Tree.{Process, partAt}
+use Rattle.meaning.specs.Nodes.{nodeAt}
+use Rattle.meaning.specs.Tree.{Process, contentAt}
 use Rattle.meaning.specs.Usage as U
 use Rattle.meaning.specs.Usage.{gather, changes, uses, cellClash, inputClash, outputClash}
-use Rattle.meaning.specs.Clash.{Within, Changes, by-assignment, by-input, Inputs, inputs, Outputs, outputs, Changed, Used, InputFrom, OutputTo}
+use Rattle.meaning.specs.Clash.{Within, Changes, changed-by-assignment, changed-by-input, Inputs, input-row, Outputs, output-row, Changed, Used, InputFrom, OutputTo}
 use Rattle.meaning.proofs.Decides.{Decides, decides-iff, decides-or, decides-any}
 use Rattle.meaning.proofs.ReferenceCounts.{decides-among}
 use Rattle.agreement.specs.VerdictClaims.{Passed}
@@ -31,7 +32,7 @@ decides-common l m = decides-any (λ n. List·Memᴰ n m) (λ n. among n m) (λ 
 module _ (rows : List ℤ) where
   -- the process at row p
   abbrev pub IsProcess : ℕ → Process → Type 0
-  IsProcess p x = (p < rowCount rows) × List·Memᴰ (kindAt rows p) processes × (partAt rows p .process ≡ some x)
+  IsProcess p x = (p < rowCount rows) × List·Memᴰ (kindAt rows p) processes × (contentAt rows p .process ≡ some x)
 
   -- a place of which R holds in the process at row p
   abbrev In : (ℕ → ℕ → ℕ → Type 0) → ℕ → ℕ → ℕ → Type 0
@@ -46,7 +47,7 @@ module _ (rows : List ℤ) where
         → (p : ℕ) (x : Process) → IsProcess p x → InProcess M x ↔ ((v : ℕ) × ((i : ℕ) × Numbers size n v i × In R p v i))
     located n M size R each p x h = (λ m. to (some-in .0 (subst (InOption M) (sym (h .2)) m)), λ s. subst (InOption M) (h .2) (some-in .1 (from s)))
       where
-        some-in : InOption M (partAt rows p .process) ↔ Some rows M passed p
+        some-in : InOption M (contentAt rows p .process) ↔ Some rows M passed p
         some-in = (λ m. at-some rows M passed p (h .0) .0 (in-process m), λ s. at-process rows M passed p (h .0) (h .1) (at-some rows M passed p (h .0) .1 s))
 
         to : Some rows M passed p → (v : ℕ) × ((i : ℕ) × Numbers size n v i × In R p v i)
@@ -87,14 +88,14 @@ module _ (rows : List ℤ) where
     BothOutput p q = (c : ℕ) × ((i : ℕ) × OutputTo rows p c i × OutputTo rows q c i)
 
     changes-below : {r v i : ℕ} → Changes rows r v i → i < cellsAt rows v
-    changes-below (by-assignment e k) = counts-below rows k
-    changes-below (by-input e f k) = counts-below rows k
+    changes-below (changed-by-assignment e k) = counts-below rows k
+    changes-below (changed-by-input e f k) = counts-below rows k
 
     inputs-below : {r c i : ℕ} → Inputs rows r c i → i < elementsAt rows c
-    inputs-below (inputs e k) = counts-below rows k
+    inputs-below (input-row e k) = counts-below rows k
 
     outputs-below : {r c i : ℕ} → Outputs rows r c i → i < elementsAt rows c
-    outputs-below (outputs e k) = counts-below rows k
+    outputs-below (output-row e k) = counts-below rows k
 
     -- one list and the other, by the marks
     through : {A B C : Type 0} → A ↔ B → B ↔ C → A ↔ C
@@ -116,16 +117,16 @@ module _ (rows : List ℤ) where
           (λ v i h. changes-below (h .2)))
           (λ h. (h .0, (h .1 .0, h .1 .1, used-is q (h .0) (h .1 .0) .0 (h .1 .2))), λ h. (h .0, (h .1 .0, h .1 .1, used-is q (h .0) (h .1 .0) .1 (h .1 .2))))
 
-      inputs-common : ((n : ℕ) × List·Memᴰ n (gather x U.inputs) × List·Memᴰ n (gather y U.inputs)) ↔ BothInput p q
+      inputs-common : ((n : ℕ) × List·Memᴰ n (gather x U.inputElements) × List·Memᴰ n (gather y U.inputElements)) ↔ BothInput p q
       inputs-common =
-          shared (elementsAt rows) (Inputs rows) (Inputs rows) (gather x U.inputs) (gather y U.inputs) p q
+          shared (elementsAt rows) (Inputs rows) (Inputs rows) (gather x U.inputElements) (gather y U.inputElements) p q
           (λ n. through (gathers-inputs n x) (located n (markInputs n) (elementsAt rows) (Inputs rows) (bears-inputs rows fits n) p x a))
           (λ n. through (gathers-inputs n y) (located n (markInputs n) (elementsAt rows) (Inputs rows) (bears-inputs rows fits n) q y b))
           (λ v i h. inputs-below (h .2))
 
-      outputs-common : ((n : ℕ) × List·Memᴰ n (gather x U.outputs) × List·Memᴰ n (gather y U.outputs)) ↔ BothOutput p q
+      outputs-common : ((n : ℕ) × List·Memᴰ n (gather x U.outputElements) × List·Memᴰ n (gather y U.outputElements)) ↔ BothOutput p q
       outputs-common =
-          shared (elementsAt rows) (Outputs rows) (Outputs rows) (gather x U.outputs) (gather y U.outputs) p q
+          shared (elementsAt rows) (Outputs rows) (Outputs rows) (gather x U.outputElements) (gather y U.outputElements) p q
           (λ n. through (gathers-outputs n x) (located n (markOutputs n) (elementsAt rows) (Outputs rows) (bears-outputs rows fits n) p x a))
           (λ n. through (gathers-outputs n y) (located n (markOutputs n) (elementsAt rows) (Outputs rows) (bears-outputs rows fits n) q y b))
           (λ v i h. outputs-below (h .2))
@@ -140,8 +141,8 @@ module _ (rows : List ℤ) where
 
     pub decides-inputs : (p q : ℕ) (x y : Process) → IsProcess p x → IsProcess q y → Decides (BothInput p q) (inputClash x y)
     unfolding inputClash
-    decides-inputs p q x y a b = let e = inputs-common p q x y a b in decides-iff (e .0) (e .1) (decides-common (gather x U.inputs) (gather y U.inputs))
+    decides-inputs p q x y a b = let e = inputs-common p q x y a b in decides-iff (e .0) (e .1) (decides-common (gather x U.inputElements) (gather y U.inputElements))
 
     pub decides-outputs : (p q : ℕ) (x y : Process) → IsProcess p x → IsProcess q y → Decides (BothOutput p q) (outputClash x y)
     unfolding outputClash
-    decides-outputs p q x y a b = let e = outputs-common p q x y a b in decides-iff (e .0) (e .1) (decides-common (gather x U.outputs) (gather y U.outputs))
+    decides-outputs p q x y a b = let e = outputs-common p q x y a b in decides-iff (e .0) (e .1) (decides-common (gather x U.outputElements) (gather y U.outputElements))

@@ -10,10 +10,12 @@ use lib.IntN.{ℤ}
 use lib.ListN.{length, getD}
 use lib.Dec.{eqb}
 use Rattle.meaning.specs.Basics.{ifElse, Lowest}
-use Rattle.meaning.specs.Rows.{rowCount, nodeAt, atRow}
-use Rattle.meaning.specs.Tree.{noPart, partOf, parts, partAt}
-use Rattle.meaning.specs.Usage.{Comparison, comparisonsOf, comparisons, clashes, cellClash, inputClash, outputClash, firstClash, refusal, usageFault}
-use Rattle.meaning.specs.Clash.{Components, components, Clash, cell, input, output}
+use Rattle.meaning.specs.Rows.{rowCount}
+use Rattle.meaning.specs.Nodes.{nodeAt}
+use Rattle.meaning.specs.Tree.{noContent, contentOf, contents, contentAt}
+use Rattle.meaning.specs.Usage.{Comparison, comparisonsOf, comparisons, clashes, cellClash, inputClash, outputClash, firstClash, refusalOf, usageFault}
+use Rattle.meaning.specs.Clash.{Components, components, Clash, cell-clash, input-clash, output-clash}
+use Rattle.meaning.specs.HigherRows.{atRow}
 use Rattle.meaning.proofs.HigherRows.{lastRows-length}
 use Rattle.meaning.proofs.LowestLaws.{lowest-one}
 use Rattle.agreement.specs.VerdictClaims.{Passed, NoClash, LowestClash, UsagePasses, UsageFaults, UsageExact}
@@ -51,9 +53,9 @@ module _ (rows : List ℤ) (passed : Passed rows) where
   CellsEither p q = Cells rows passed p q ⊎ Cells rows passed q p
 
   by-number : {r k : ℕ} → Clash rows r k → ((k ≡ 7) × Between CellsEither r) ⊎ (((k ≡ 8) × Between (BothInput rows passed) r) ⊎ ((k ≡ 9) × Between (BothOutput rows passed) r))
-  by-number (cell {p} {q} {v} {i} c a b) = inl (refl, (p, (q, c, inl (v, (i, a, b)))))
-  by-number (input {p} {q} {c = v} {i} c a b) = inr (inl (refl, (p, (q, c, (v, (i, a, b))))))
-  by-number (output {p} {q} {c = v} {i} c a b) = inr (inr (refl, (p, (q, c, (v, (i, a, b))))))
+  by-number (cell-clash {p} {q} {v} {i} c a b) = inl (refl, (p, (q, c, inl (v, (i, a, b)))))
+  by-number (input-clash {p} {q} {c = v} {i} c a b) = inr (inl (refl, (p, (q, c, (v, (i, a, b))))))
+  by-number (output-clash {p} {q} {c = v} {i} c a b) = inr (inr (refl, (p, (q, c, (v, (i, a, b))))))
 
   sevens : (r : ℕ) → Clash rows r 7 ↔ Between CellsEither r
   sevens r = (λ h. to (by-number h), from)
@@ -64,10 +66,10 @@ module _ (rows : List ℤ) (passed : Passed rows) where
       to (inr (inr h)) = absurd (let e = h .0 in omega arith)
 
       from : Between CellsEither r → Clash rows r 7
-      from h = ⊎-elim (λ c. cell (h .1 .1) (c .1 .1) (c .1 .2)) (λ c. cell (turn (h .1 .1)) (c .1 .1) (c .1 .2)) (h .1 .2)
+      from h = ⊎-elim (λ c. cell-clash (h .1 .1) (c .1 .1) (c .1 .2)) (λ c. cell-clash (turn (h .1 .1)) (c .1 .1) (c .1 .2)) (h .1 .2)
 
   eights : (r : ℕ) → Clash rows r 8 ↔ Between (BothInput rows passed) r
-  eights r = (λ h. to (by-number h), λ h. input (h .1 .1) (h .1 .2 .1 .1) (h .1 .2 .1 .2))
+  eights r = (λ h. to (by-number h), λ h. input-clash (h .1 .1) (h .1 .2 .1 .1) (h .1 .2 .1 .2))
     where
       to : ((_≡_ {A = ℕ} 8 7) × Between CellsEither r) ⊎ (((_≡_ {A = ℕ} 8 8) × Between (BothInput rows passed) r) ⊎ ((_≡_ {A = ℕ} 8 9) × Between (BothOutput rows passed) r)) → Between (BothInput rows passed) r
       to (inl h) = absurd (let e = h .0 in omega arith)
@@ -75,7 +77,7 @@ module _ (rows : List ℤ) (passed : Passed rows) where
       to (inr (inr h)) = absurd (let e = h .0 in omega arith)
 
   nines : (r : ℕ) → Clash rows r 9 ↔ Between (BothOutput rows passed) r
-  nines r = (λ h. to (by-number h), λ h. output (h .1 .1) (h .1 .2 .1 .1) (h .1 .2 .1 .2))
+  nines r = (λ h. to (by-number h), λ h. output-clash (h .1 .1) (h .1 .2 .1 .1) (h .1 .2 .1 .2))
     where
       to : ((_≡_ {A = ℕ} 9 7) × Between CellsEither r) ⊎ (((_≡_ {A = ℕ} 9 8) × Between (BothInput rows passed) r) ⊎ ((_≡_ {A = ℕ} 9 9) × Between (BothOutput rows passed) r)) → Between (BothOutput rows passed) r
       to (inl h) = absurd (let e = h .0 in omega arith)
@@ -83,13 +85,13 @@ module _ (rows : List ℤ) (passed : Passed rows) where
       to (inr (inr h)) = h .1
 
   -- the parts of all rows
-  parts-length : length (parts rows) + 0 ≡ rowCount rows
-  unfolding parts
-  parts-length = omega (arith, lastRows-length noPart (λ r at. partOf rows r at (nodeAt rows r)) (rowCount rows) (rowCount rows))
+  parts-length : length (contents rows) + 0 ≡ rowCount rows
+  unfolding contents
+  parts-length = omega (arith, lastRows-length noContent (λ r at. contentOf rows r at (nodeAt rows r)) (rowCount rows) (rowCount rows))
 
-  parts-at : (k : ℕ) → getD (parts rows) k noPart ≡ partAt rows (k + 0)
-  unfolding parts partAt atRow
-  parts-at k = ap (partAt rows) (omega arith)
+  parts-at : (k : ℕ) → getD (contents rows) k noContent ≡ contentAt rows (k + 0)
+  unfolding contents contentAt atRow
+  parts-at k = ap (contentAt rows) (omega arith)
 
   -- the first clash of a number
   abbrev First : ℕ → Option Comparison → Type 0
@@ -100,20 +102,20 @@ module _ (rows : List ℤ) (passed : Passed rows) where
   at-start k none h = λ q. h q (omega arith)
   at-start k (some c) h = (h .0, h .2, λ q. h .3 q (omega arith))
 
-  first-seven : First 7 (firstClash (comparisonsOf 7 (parts rows)))
+  first-seven : First 7 (firstClash (comparisonsOf 7 (contents rows)))
   first-seven =
-      at-start 7 (firstClash (comparisonsOf 7 (parts rows)))
-      (from-row rows passed 7 cellClash seven CellsEither (decides-cells rows passed) (λ p q h. ⊎-elim inr inl h) sevens (parts rows) 0 parts-length (λ k l. parts-at k))
+      at-start 7 (firstClash (comparisonsOf 7 (contents rows)))
+      (from-row rows passed 7 cellClash seven CellsEither (decides-cells rows passed) (λ p q h. ⊎-elim inr inl h) sevens (contents rows) 0 parts-length (λ k l. parts-at k))
 
-  first-eight : First 8 (firstClash (comparisonsOf 8 (parts rows)))
+  first-eight : First 8 (firstClash (comparisonsOf 8 (contents rows)))
   first-eight =
-      at-start 8 (firstClash (comparisonsOf 8 (parts rows)))
-      (from-row rows passed 8 inputClash eight (BothInput rows passed) (decides-inputs rows passed) (λ p q h. (h .0, (h .1 .0, h .1 .2, h .1 .1))) eights (parts rows) 0 parts-length (λ k l. parts-at k))
+      at-start 8 (firstClash (comparisonsOf 8 (contents rows)))
+      (from-row rows passed 8 inputClash eight (BothInput rows passed) (decides-inputs rows passed) (λ p q h. (h .0, (h .1 .0, h .1 .2, h .1 .1))) eights (contents rows) 0 parts-length (λ k l. parts-at k))
 
-  first-nine : First 9 (firstClash (comparisonsOf 9 (parts rows)))
+  first-nine : First 9 (firstClash (comparisonsOf 9 (contents rows)))
   first-nine =
-      at-start 9 (firstClash (comparisonsOf 9 (parts rows)))
-      (from-row rows passed 9 outputClash nine (BothOutput rows passed) (decides-outputs rows passed) (λ p q h. (h .0, (h .1 .0, h .1 .2, h .1 .1))) nines (parts rows) 0 parts-length (λ k l. parts-at k))
+      at-start 9 (firstClash (comparisonsOf 9 (contents rows)))
+      (from-row rows passed 9 outputClash nine (BothOutput rows passed) (decides-outputs rows passed) (λ p q h. (h .0, (h .1 .0, h .1 .2, h .1 .1))) nines (contents rows) 0 parts-length (λ k l. parts-at k))
 
   -- the lowest row of the lowest number
   abbrev pub Least : Option (ℕ × ℕ) → Type 0
@@ -124,9 +126,9 @@ module _ (rows : List ℤ) (passed : Passed rows) where
   par-below (components i j ne f g) = member-par rows i .2
 
   clash-below : {r k : ℕ} → Clash rows r k → r < rowCount rows
-  clash-below (cell c a b) = par-below c
-  clash-below (input c a b) = par-below c
-  clash-below (output c a b) = par-below c
+  clash-below (cell-clash c a b) = par-below c
+  clash-below (input-clash c a b) = par-below c
+  clash-below (output-clash c a b) = par-below c
 
   -- the numbers of clashes are 7, 8 and 9
   none-below : (n q j : ℕ) → (7 < n → ¬ Clash rows q 7) → (8 < n → ¬ Clash rows q 8) → (9 < n → ¬ Clash rows q 9) → j < n → ¬ Clash rows q j
@@ -139,7 +141,7 @@ module _ (rows : List ℤ) (passed : Passed rows) where
   found : (k : ℕ) (c : Comparison) → First k (some c) → ((q j : ℕ) → j < k → ¬ Clash rows q j) → Least (some (c .number, c .row))
   found k c h f = let e = sym (h .0) in subst (λ (j : ℕ). Least (some (j, c .row))) e ((clash-below (h .1), h .1, h .2), f)
 
-  least-of : (o p q : Option Comparison) → First 7 o → First 8 p → First 9 q → Least (refusal (orElse o (orElse p q)))
+  least-of : (o p q : Option Comparison) → First 7 o → First 8 p → First 9 q → Least (refusalOf (orElse o (orElse p q)))
   least-of (some c) p q f g h = found 7 c f (λ r j. none-below 7 r j (λ l. absurd (omega arith)) (λ l. absurd (omega arith)) (λ l. absurd (omega arith)))
   least-of none (some c) q f g h = found 8 c g (λ r j. none-below 8 r j (λ l. f r) (λ l. absurd (omega arith)) (λ l. absurd (omega arith)))
   least-of none none (some c) f g h = found 9 c h (λ r j. none-below 9 r j (λ l. f r) (λ l. g r) (λ l. absurd (omega arith)))
@@ -148,9 +150,9 @@ module _ (rows : List ℤ) (passed : Passed rows) where
   pub usage-least : Least (usageFault rows)
   unfolding usageFault comparisons
   usage-least =
-      let l = parts rows in
+      let l = contents rows in
       let two = comparisonsOf 8 l ++ comparisonsOf 9 l in
-      subst (λ (o : Option Comparison). Least (refusal o))
+      subst (λ (o : Option Comparison). Least (refusalOf o))
       (sym (first-append (comparisonsOf 7 l) two ∙ ap (orElse (firstClash (comparisonsOf 7 l))) (first-append (comparisonsOf 8 l) (comparisonsOf 9 l))))
       (least-of (firstClash (comparisonsOf 7 l)) (firstClash (comparisonsOf 8 l)) (firstClash (comparisonsOf 9 l)) first-seven first-eight first-nine)
 

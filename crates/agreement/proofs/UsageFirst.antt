@@ -10,11 +10,13 @@ use native.Mathlib.Omega.{arith}
 use lib.IntN.{ℤ}
 use lib.ListN.{length, getD}
 use Rattle.meaning.specs.declared.Node.{Node}
-use Rattle.meaning.specs.declared.Node.the-variants.{Literal, Element, Monadic, Dyadic, Stop, Skip, Assignment, Input, Output, Seq, Par, If, While, Alt, Member, Choice, Option as Alternative, Guard, Other}
-use Rattle.meaning.specs.Rows.{ifElse, rowCount, naturalAt, nodeAt}
-use Rattle.meaning.specs.Tree.{Process, Part, noPart, partOf, partAt}
-use Rattle.meaning.specs.Usage.{Pair, pairs, Comparison, ofProcess, comparisonsOf, clashes, firstClash}
-use Rattle.meaning.specs.Clash.{IsMember, first, next, Components, components, Clash}
+use Rattle.meaning.specs.declared.Node.the-variants.{Literal, Element, Monadic, Dyadic, Stop, Skip, Assignment, Input, Output, Seq, Par, If, While, Alt, Member, Choice, OptionRow, Guard, Other}
+use Rattle.meaning.specs.Basics.{ifElse}
+use Rattle.meaning.specs.Rows.{rowCount, naturalAt}
+use Rattle.meaning.specs.Nodes.{nodeAt}
+use Rattle.meaning.specs.Tree.{Process, Content, noContent, contentOf, contentAt}
+use Rattle.meaning.specs.Usage.{Pair, pairs, Comparison, comparisonsIn, comparisonsOf, clashes, firstClash}
+use Rattle.meaning.specs.Clash.{IsMember, member-first, member-next, Components, components, Clash}
 use Rattle.meaning.proofs.Decides.{Decides, holding, failing}
 use Rattle.agreement.specs.VerdictClaims.{Passed}
 use Rattle.agreement.proofs.TableReferences.{Fields, fields-are}
@@ -74,7 +76,7 @@ parOf (While a b) = none
 parOf (Alt a) = none
 parOf (Member a b) = none
 parOf (Choice a b c) = none
-parOf (Alternative a b c) = none
+parOf (OptionRow a b c) = none
 parOf (Guard a b) = none
 parOf Other = none
 
@@ -82,7 +84,7 @@ module _ (rows : List ℤ) where
   -- a row is a PAR, or has nothing to compare
   data Looks (number r : ℕ) (x : Node) : Type 0 where
     a-par : (a : ℕ) → x ≡ Par a → Looks number r x
-    no-par : parOf x ≡ none → ofProcess number (partOf rows r (partAt rows) x .process) ≡ [] → Looks number r x
+    no-par : parOf x ≡ none → comparisonsIn number (contentOf rows r (contentAt rows) x .process) ≡ [] → Looks number r x
 
   looks : (number r : ℕ) (x : Node) → Looks number r x
   unfolding parOf
@@ -102,14 +104,14 @@ module _ (rows : List ℤ) where
   looks k r (Alt a) = no-par refl refl
   looks k r (Member a b) = no-par refl refl
   looks k r (Choice a b c) = no-par refl refl
-  looks k r (Alternative a b c) = no-par refl refl
+  looks k r (OptionRow a b c) = no-par refl refl
   looks k r (Guard a b) = no-par refl refl
   looks k r Other = no-par refl refl
 
   -- a row with members is a PAR within the table
   pub member-par : {r m : ℕ} → IsMember rows r m → (a : ℕ) × (nodeAt rows r ≡ Par a) × (r < rowCount rows)
-  member-par {r} (first {m} k h) = let f = first-node rows r m k h in let u = f .2 in let v = f .3 in (m, f .0, omega arith)
-  member-par (next i h) = member-par i
+  member-par {r} (member-first {m} k h) = let f = first-node rows r m k h in let u = f .2 in let v = f .3 in (m, f .0, omega arith)
+  member-par (member-next i h) = member-par i
 
   par-one : (r a c : ℕ) → nodeAt rows r ≡ Par a → nodeAt rows r ≡ Par c → c ≡ a
   unfolding parOf
@@ -140,27 +142,27 @@ module _ (rows : List ℤ) where
     holds-true (failing f) e = absurd (false≢true e)
 
     module _ (r a : ℕ) (l : r < rowCount rows) (e : nodeAt rows r ≡ Par a) where
-      chain : Chain rows a (partAt rows a .members)
+      chain : Chain rows a (contentAt rows a .listed)
       chain = chain-at rows fits (rowCount rows) a (omega arith) (subst (Fits rows r) e (fits r l) .1)
 
       first-member : a < rowCount rows → IsMember rows r a
-      first-member i = first (subst (Fields rows r) e (fields-are rows r) .0 .0) (first-refers rows passed r a l e i)
+      first-member i = member-first (subst (Fields rows r) e (fields-are rows r) .0 .0) (first-refers rows passed r a l e i)
 
       -- a pair that clashes is a clash of components
-      pair-clash : (d : Pair) → List·Memᴰ d (pairs 0 (partAt rows a .members)) → test (d .one) (d .other) ≡ true → Clash rows r number
-      pair-clash d m t = go (pairs-to rows passed r 0 chain first-member d m)
+      pair-clash : (d : Pair) → List·Memᴰ d (pairs (contentAt rows a .listed)) → test (d .one) (d .other) ≡ true → Clash rows r number
+      pair-clash d m t = go (pairs-to rows passed r chain first-member d m)
         where
           go : Apart rows r (d .one) (d .other) → Clash rows r number
           go (apart {p} {q} c u v) = clash-is r .1 (p, (q, c, holds-true (decides-rel p q (d .one) (d .other) u v) t))
 
       -- a clash of components is that of a pair
-      clash-pair : Clash rows r number → (d : Pair) × List·Memᴰ d (pairs 0 (partAt rows a .members)) × (test (d .one) (d .other) ≡ true)
+      clash-pair : Clash rows r number → (d : Pair) × List·Memᴰ d (pairs (contentAt rows a .listed)) × (test (d .one) (d .other) ≡ true)
       clash-pair h = let w = clash-is r .0 h in go (w .0) (w .1 .0) (w .1 .1) (w .1 .2)
         where
           runs : (p m b : ℕ) → IsMember rows r m → nodeAt rows m ≡ Member p b → (x : Process) × IsProcess rows p x
           runs p m b i f = let w = subst (Fits rows m) f (fits m (member-is rows i .1)) in process-at rows fits p (w .0 .1) (w .0 .2)
 
-          go : (p q : ℕ) → Components rows r p q → Rel p q → (d : Pair) × List·Memᴰ d (pairs 0 (partAt rows a .members)) × (test (d .one) (d .other) ≡ true)
+          go : (p q : ℕ) → Components rows r p q → Rel p q → (d : Pair) × List·Memᴰ d (pairs (contentAt rows a .listed)) × (test (d .one) (d .other) ≡ true)
           go p q (components {m} {n} i j ne f g) rel =
               let b = naturalAt rows m 2 in
               let c = naturalAt rows n 2 in
@@ -169,7 +171,7 @@ module _ (rows : List ℤ) where
               let x = runs p m b i f′ in
               let y = runs q n c j g′ in
               let one-par : (k : ℕ) → nodeAt rows r ≡ Par k → k ≡ a = λ k u. par-one r a k e u in
-              let s = pairs-from rows 0 (x .0) (y .0) chain (member-from rows r a one-par i) (member-from rows r a one-par j) ne (p, (b, member-is rows i .1, f′, x .1)) (q, (c, member-is rows j .1, g′, y .1)) in (
+              let s = pairs-from rows (x .0) (y .0) chain (member-from rows r a one-par i) (member-from rows r a one-par j) ne (p, (b, member-is rows i .1, f′, x .1)) (q, (c, member-is rows j .1, g′, y .1)) in (
                 s .0,
                 s .1,
                 ⊎-elim
@@ -178,12 +180,12 @@ module _ (rows : List ℤ) where
                     (s .2),
               )
 
-      par-row : {o : Option Comparison} → Search (map (compared r) (pairs 0 (partAt rows a .members))) o → AtRow r o
+      par-row : {o : Option Comparison} → Search (map (compared r) (pairs (contentAt rows a .listed))) o → AtRow r o
       par-row (nothing f) = λ h.
           let w = clash-pair h in
           false≢true (sym (f (compared r (w .0)) (Memᴰ·map (compared r) (w .1))) ∙ tests (compared r (w .0)) refl ∙ w .2)
       par-row (something c m h) =
-          let w = Memᴰ·of-map (compared r) (pairs 0 (partAt rows a .members)) m in
+          let w = Memᴰ·of-map (compared r) (pairs (contentAt rows a .listed)) m in
           (sym (ap (λ (z : Comparison). z .number) (w .2)), sym (ap (λ (z : Comparison). z .row) (w .2)), pair-clash (w .0) (w .1) (sym (tests (compared r (w .0)) refl) ∙ ap clashes (w .2) ∙ h))
 
     some-member : {r p q : ℕ} → Components rows r p q → (m : ℕ) × IsMember rows r m
@@ -192,14 +194,14 @@ module _ (rows : List ℤ) where
     clash-par : (r : ℕ) → Clash rows r number → (a : ℕ) × (nodeAt rows r ≡ Par a) × (r < rowCount rows)
     clash-par r h = member-par (some-member (clash-is r .0 h .1 .1) .1)
 
-    at-row : (r : ℕ) → r < rowCount rows → AtRow r (firstClash (ofProcess number (partAt rows r .process)))
+    at-row : (r : ℕ) → r < rowCount rows → AtRow r (firstClash (comparisonsIn number (contentAt rows r .process)))
     unfolding firstClash parOf
-    at-row r l = subst (λ (x : Part). AtRow r (firstClash (ofProcess number (x .process)))) (sym (part-is rows r l (fits r l))) (go (nodeAt rows r) refl (looks number r (nodeAt rows r)))
+    at-row r l = subst (λ (x : Content). AtRow r (firstClash (comparisonsIn number (x .process)))) (sym (part-is rows r l (fits r l))) (go (nodeAt rows r) refl (looks number r (nodeAt rows r)))
       where
-        go : (x : Node) → nodeAt rows r ≡ x → Looks number r x → AtRow r (firstClash (ofProcess number (partOf rows r (partAt rows) x .process)))
+        go : (x : Node) → nodeAt rows r ≡ x → Looks number r x → AtRow r (firstClash (comparisonsIn number (contentOf rows r (contentAt rows) x .process)))
         go x e (a-par a f) =
-            subst (λ (y : Node). AtRow r (firstClash (ofProcess number (partOf rows r (partAt rows) y .process)))) (sym f)
-            (par-row r a l (e ∙ f) (search-is (map (compared r) (pairs 0 (partAt rows a .members)))))
+            subst (λ (y : Node). AtRow r (firstClash (comparisonsIn number (contentOf rows r (contentAt rows) y .process)))) (sym f)
+            (par-row r a l (e ∙ f) (search-is (map (compared r) (pairs (contentAt rows a .listed)))))
         go x e (no-par f g) =
             subst (λ (y : List Comparison). AtRow r (firstClash y)) (sym g)
             (λ h. let w = clash-par r h in Option·none-ne-some (w .0) (sym f ∙ ap parOf (sym e ∙ w .1)))
@@ -215,17 +217,17 @@ module _ (rows : List ℤ) where
     onward j (some c) u f g = let e = f .1 in (f .0, omega arith, subst (λ (k : ℕ). Clash rows k number) (sym e) (f .2), λ q i l. absurd (omega arith))
 
     -- of the parts of the rows from j on
-    pub from-row : (l : List Part) (j : ℕ) → length l + j ≡ rowCount rows → ((k : ℕ) → k < length l → getD l k noPart ≡ partAt rows (k + j)) → FromRow number j (firstClash (comparisonsOf number l))
+    pub from-row : (l : List Content) (j : ℕ) → length l + j ≡ rowCount rows → ((k : ℕ) → k < length l → getD l k noContent ≡ contentAt rows (k + j)) → FromRow number j (firstClash (comparisonsOf number l))
     unfolding firstClash
     from-row [] j e f = λ q i h. let w = clash-par q h .2 in absurd (omega arith)
     from-row (x ∷ l) j e f =
-        subst (FromRow number j) (sym (first-append (ofProcess number (x .process)) (comparisonsOf number l)))
-        (onward j (firstClash (ofProcess number (x .process))) (firstClash (comparisonsOf number l))
-        (subst (λ (y : Part). AtRow j (firstClash (ofProcess number (y .process)))) (sym here) (at-row j (omega arith)))
+        subst (FromRow number j) (sym (first-append (comparisonsIn number (x .process)) (comparisonsOf number l)))
+        (onward j (firstClash (comparisonsIn number (x .process))) (firstClash (comparisonsOf number l))
+        (subst (λ (y : Content). AtRow j (firstClash (comparisonsIn number (y .process)))) (sym here) (at-row j (omega arith)))
         (from-row l (suc j) (omega arith) later))
       where
-        here : x ≡ partAt rows j
-        here = f 0 (omega arith) ∙ ap (partAt rows) (omega arith)
+        here : x ≡ contentAt rows j
+        here = f 0 (omega arith) ∙ ap (contentAt rows) (omega arith)
 
-        later : (k : ℕ) → k < length l → getD l k noPart ≡ partAt rows (k + suc j)
-        later k i = f (suc k) (omega arith) ∙ ap (partAt rows) (omega arith)
+        later : (k : ℕ) → k < length l → getD l k noContent ≡ contentAt rows (k + suc j)
+        later k i = f (suc k) (omega arith) ∙ ap (contentAt rows) (omega arith)

@@ -4,8 +4,8 @@ use mathlib.Core.List.{List, [], _∷_, _++_, List·Memᴰ, List·Memᴰ·not-ni
 use mathlib.Core.Option.{Option, none, some}
 use Prim.Native.Nat.{ℕ}
 use Rattle.meaning.specs.Declarations.{Variable}
-use Rattle.meaning.specs.Tree.{Expr, literal, element, monadic, dyadic, noExpr, Receive, IfChoice, AltOption, Action, stop, skip, sequence, parallel, assign, receive, send, conditional, loop, alternation, Process, node, Members, empty, also}
-use Rattle.meaning.specs.Usage.{countsFor, standsIn, standsInChoices, changesBy, usesBy, inputsBy, ofGuard, ofGuards, standsInGuards, changes, uses, inputs, outputs, gather, gatherAll}
+use Rattle.meaning.specs.Tree.{Expr, literal, element, monadic, dyadic, noExpr, ChannelInput, IfChoice, AltOption, Action, stop, skip, sequence, parallel, assign, input, output, conditional, loop, alternation, Process, node, Processes, empty, also}
+use Rattle.meaning.specs.Usage.{countsFor, standsIn, standsInChoices, changesBy, usesBy, inputsBy, ofGuard, ofGuards, standsInGuards, changes, uses, inputElements, outputElements, gather, gatherAll}
 use Rattle.agreement.proofs.UsageTree.{Mark, InExpr, InReceive, InChoices, InInput, InOptions, InAction, InProcess, InMembers}
 
 module _ (n : ℕ) where
@@ -50,7 +50,7 @@ module _ (n : ℕ) where
       gather-to : (p : Process) → List·Memᴰ n (gather p f) → InProcess M p
       gather-to (node a r ms) h = ⊎-elim (λ i. inl (each a .0 i)) (λ i. inr (gatherAll-to ms i)) (split (f a) (gatherAll ms f) h)
 
-      gatherAll-to : (ms : Members) → List·Memᴰ n (gatherAll ms f) → InMembers M ms
+      gatherAll-to : (ms : Processes) → List·Memᴰ n (gatherAll ms f) → InMembers M ms
       gatherAll-to empty h = absurd (List·Memᴰ·not-nil h)
       gatherAll-to (also p ms) h = ⊎-elim (λ i. inl (gather-to p i)) (λ i. inr (gatherAll-to ms i)) (split (gather p f) (gatherAll ms f) h)
 
@@ -60,7 +60,7 @@ module _ (n : ℕ) where
       gather-from : (p : Process) → InProcess M p → List·Memᴰ n (gather p f)
       gather-from (node a r ms) h = ⊎-elim (λ i. left (f a) (gatherAll ms f) (each a .1 i)) (λ i. right (f a) (gatherAll ms f) (gatherAll-from ms i)) h
 
-      gatherAll-from : (ms : Members) → InMembers M ms → List·Memᴰ n (gatherAll ms f)
+      gatherAll-from : (ms : Processes) → InMembers M ms → List·Memᴰ n (gatherAll ms f)
       gatherAll-from empty h = absurd h
       gatherAll-from (also p ms) h =
           ⊎-elim (λ i. left (gather p f) (gatherAll ms f) (gather-from p i)) (λ i. right (gather p f) (gatherAll ms f) (gatherAll-from ms i)) h
@@ -79,12 +79,12 @@ module _ (n : ℕ) where
     booleans-in (b ∷ l) h = ⊎-elim (λ i. inl (inl i)) (λ i. inr (booleans-in l i)) h
 
     -- the inputs of guards, where it is so of each input
-    module _ (by : Receive → List ℕ) (each : (i : Receive) → List·Memᴰ n (by i) ↔ InReceive M i) where
-      guard-to : (o : Option Receive) → List·Memᴰ n (ofGuard by o) → InInput M o
+    module _ (by : ChannelInput → List ℕ) (each : (i : ChannelInput) → List·Memᴰ n (by i) ↔ InReceive M i) where
+      guard-to : (o : Option ChannelInput) → List·Memᴰ n (ofGuard by o) → InInput M o
       guard-to none h = absurd (List·Memᴰ·not-nil h)
       guard-to (some i) h = each i .0 h
 
-      guard-from : (o : Option Receive) → InInput M o → List·Memᴰ n (ofGuard by o)
+      guard-from : (o : Option ChannelInput) → InInput M o → List·Memᴰ n (ofGuard by o)
       guard-from none h = absurd h
       guard-from (some i) h = each i .1 h
 
@@ -130,11 +130,11 @@ module _ (n : ℕ) where
   either-quiet : {A B : Type 0} → ¬ A → ¬ B → ¬ (A ⊎ B)
   either-quiet f g h = ⊎-elim f g h
 
-  module _ (M : Mark) (quiet : (v : Variable) (e : Expr) → ¬ M .atElement v e) (by : Receive → List ℕ) where
-    receive-is : (i : Receive) → List·Memᴰ n (by i) ↔ M .atInput i → List·Memᴰ n (by i) ↔ InReceive M i
+  module _ (M : Mark) (quiet : (v : Variable) (e : Expr) → ¬ M .atElement v e) (by : ChannelInput → List ℕ) where
+    receive-is : (i : ChannelInput) → List·Memᴰ n (by i) ↔ M .atInput i → List·Memᴰ n (by i) ↔ InReceive M i
     receive-is i e = only-first e (either-quiet (quiet-expr M quiet (i .subscript)) (quiet-expr M quiet (element (i .target .name) (i .target .subscript))))
 
-    guards-are : ((i : Receive) → List·Memᴰ n (by i) ↔ M .atInput i) → (bs : List AltOption) → List·Memᴰ n (ofGuards by bs) ↔ InOptions M bs
+    guards-are : ((i : ChannelInput) → List·Memᴰ n (by i) ↔ M .atInput i) → (bs : List AltOption) → List·Memᴰ n (ofGuards by bs) ↔ InOptions M bs
     guards-are e bs = (
       guards-to M by (λ i. receive-is i (e i)) bs,
       λ h. ⊎-elim (λ b. absurd (quiet-booleans M quiet bs b)) (λ m. m) (guards-from M by (λ i. receive-is i (e i)) bs h),
@@ -144,8 +144,8 @@ module _ (n : ℕ) where
     two-quiet e f = either-quiet (quiet-expr M quiet e) (quiet-expr M quiet f)
 
   -- a mark that no input bears either is in no option
-  module _ (M : Mark) (quiet : (v : Variable) (e : Expr) → ¬ M .atElement v e) (silent : (i : Receive) → ¬ M .atInput i) where
-    quiet-input : (o : Option Receive) → ¬ InInput M o
+  module _ (M : Mark) (quiet : (v : Variable) (e : Expr) → ¬ M .atElement v e) (silent : (i : ChannelInput) → ¬ M .atInput i) where
+    quiet-input : (o : Option ChannelInput) → ¬ InInput M o
     quiet-input none h = h
     quiet-input (some i) h = ⊎-elim (silent i) (two-quiet M quiet (λ j. []) (i .subscript) (element (i .target .name) (i .target .subscript))) h
 
@@ -160,8 +160,8 @@ module _ (n : ℕ) where
   changes-is sequence = none-in (λ h. h)
   changes-is parallel = none-in (λ h. h)
   changes-is (assign v e f) = only-first (λ h. h, λ h. h) (two-quiet markChanges (λ v e h. h) changesBy e f)
-  changes-is (receive i) = receive-is markChanges (λ v e h. h) changesBy i (λ h. h, λ h. h)
-  changes-is (send c e f) = none-in (either-quiet (λ h. h) (two-quiet markChanges (λ v e h. h) changesBy e f))
+  changes-is (input i) = receive-is markChanges (λ v e h. h) changesBy i (λ h. h, λ h. h)
+  changes-is (output c e f) = none-in (either-quiet (λ h. h) (two-quiet markChanges (λ v e h. h) changesBy e f))
   changes-is (conditional ts) = none-in (quiet-choices markChanges (λ v e h. h) ts)
   changes-is (loop e b) = none-in (quiet-expr markChanges (λ v e h. h) e)
   changes-is (alternation bs) = guards-are markChanges (λ v e h. h) changesBy (λ i. (λ h. h, λ h. h)) bs
@@ -170,36 +170,36 @@ module _ (n : ℕ) where
   gathers-changes = gather-is markChanges changes changes-is
 
   -- inputs
-  inputs-is : (a : Action) → List·Memᴰ n (inputs a) ↔ InAction markInputs a
+  inputs-is : (a : Action) → List·Memᴰ n (inputElements a) ↔ InAction markInputs a
   inputs-is stop = none-in (λ h. h)
   inputs-is skip = none-in (λ h. h)
   inputs-is sequence = none-in (λ h. h)
   inputs-is parallel = none-in (λ h. h)
   inputs-is (assign v e f) = none-in (either-quiet (λ h. h) (two-quiet markInputs (λ v e h. h) inputsBy e f))
-  inputs-is (receive i) = receive-is markInputs (λ v e h. h) inputsBy i (λ h. h, λ h. h)
-  inputs-is (send c e f) = none-in (either-quiet (λ h. h) (two-quiet markInputs (λ v e h. h) inputsBy e f))
+  inputs-is (input i) = receive-is markInputs (λ v e h. h) inputsBy i (λ h. h, λ h. h)
+  inputs-is (output c e f) = none-in (either-quiet (λ h. h) (two-quiet markInputs (λ v e h. h) inputsBy e f))
   inputs-is (conditional ts) = none-in (quiet-choices markInputs (λ v e h. h) ts)
   inputs-is (loop e b) = none-in (quiet-expr markInputs (λ v e h. h) e)
   inputs-is (alternation bs) = guards-are markInputs (λ v e h. h) inputsBy (λ i. (λ h. h, λ h. h)) bs
 
-  pub gathers-inputs : (p : Process) → List·Memᴰ n (gather p inputs) ↔ InProcess markInputs p
-  gathers-inputs = gather-is markInputs inputs inputs-is
+  pub gathers-inputs : (p : Process) → List·Memᴰ n (gather p inputElements) ↔ InProcess markInputs p
+  gathers-inputs = gather-is markInputs inputElements inputs-is
 
   -- outputs
-  outputs-is : (a : Action) → List·Memᴰ n (outputs a) ↔ InAction markOutputs a
+  outputs-is : (a : Action) → List·Memᴰ n (outputElements a) ↔ InAction markOutputs a
   outputs-is stop = none-in (λ h. h)
   outputs-is skip = none-in (λ h. h)
   outputs-is sequence = none-in (λ h. h)
   outputs-is parallel = none-in (λ h. h)
   outputs-is (assign v e f) = none-in (either-quiet (λ h. h) (two-quiet markOutputs (λ v e h. h) (λ i. []) e f))
-  outputs-is (receive i) = receive-is markOutputs (λ v e h. h) (λ j. []) i (none-in (λ h. h))
-  outputs-is (send c e f) = only-first (λ h. h, λ h. h) (two-quiet markOutputs (λ v e h. h) (λ i. []) e f)
+  outputs-is (input i) = receive-is markOutputs (λ v e h. h) (λ j. []) i (none-in (λ h. h))
+  outputs-is (output c e f) = only-first (λ h. h, λ h. h) (two-quiet markOutputs (λ v e h. h) (λ i. []) e f)
   outputs-is (conditional ts) = none-in (quiet-choices markOutputs (λ v e h. h) ts)
   outputs-is (loop e b) = none-in (quiet-expr markOutputs (λ v e h. h) e)
   outputs-is (alternation bs) = none-in (quiet-options markOutputs (λ v e h. h) (λ i h. h) bs)
 
-  pub gathers-outputs : (p : Process) → List·Memᴰ n (gather p outputs) ↔ InProcess markOutputs p
-  gathers-outputs = gather-is markOutputs outputs outputs-is
+  pub gathers-outputs : (p : Process) → List·Memᴰ n (gather p outputElements) ↔ InProcess markOutputs p
+  gathers-outputs = gather-is markOutputs outputElements outputs-is
 
   -- uses
   both : {A B : Type 0} (l m : List ℕ) → List·Memᴰ n l ↔ A → List·Memᴰ n m ↔ B → List·Memᴰ n (l ++ m) ↔ (A ⊎ B)
@@ -225,7 +225,7 @@ module _ (n : ℕ) where
   stands-in-guards (b ∷ l) = both (standsIn (b .guard .boolean)) (standsInGuards l) (stands-is (b .guard .boolean)) (stands-in-guards l)
 
   -- the target of an input counts as changed, whether or not it is looked at as an element
-  uses-by : (i : Receive) → List·Memᴰ n (usesBy i) ↔ InReceive markUses i
+  uses-by : (i : ChannelInput) → List·Memᴰ n (usesBy i) ↔ InReceive markUses i
   uses-by i = (λ h. ⊎-elim inl (λ j. inr (⊎-elim inl (λ k. inr (inr k)) j)) (e .0 h), λ h. e .1 (⊎-elim inl (λ j. ⊎-elim (λ k. inr (inl k)) (λ k. ⊎-elim inl (λ o. inr (inr o)) k) j) h))
     where
       e : List·Memᴰ n (usesBy i) ↔ (List·Memᴰ n (changesBy i) ⊎ (InExpr markUses (i .subscript) ⊎ InExpr markUses (i .target .subscript)))
@@ -237,8 +237,8 @@ module _ (n : ℕ) where
   uses-is sequence = none-in (λ h. h)
   uses-is parallel = none-in (λ h. h)
   uses-is (assign v e f) = both (countsFor (v .first) (v .size) e) (standsIn e ++ standsIn f) (λ h. h, λ h. h) (two-stand e f)
-  uses-is (receive i) = uses-by i
-  uses-is (send c e f) = (λ h. inr (two-stand e f .0 h), λ h. ⊎-elim (λ i. absurd i) (two-stand e f .1) h)
+  uses-is (input i) = uses-by i
+  uses-is (output c e f) = (λ h. inr (two-stand e f .0 h), λ h. ⊎-elim (λ i. absurd i) (two-stand e f .1) h)
   uses-is (conditional ts) = stands-in-choices ts
   uses-is (loop e b) = stands-is e
   uses-is (alternation bs) = (

@@ -6,10 +6,12 @@ use mathlib.Core.List.{List, [], _∷_, List·Memᴰ, List·Memᴰ·not-nil, Lis
 use Prim.Native.Nat.{ℕ, _<_}
 use native.Mathlib.Omega.{arith}
 use lib.IntN.{ℤ}
-use Rattle.meaning.specs.Rows.{ifElse, rowCount, naturalAt, kindAt, declarations, nodeAt}
+use Rattle.meaning.specs.Basics.{ifElse}
+use Rattle.meaning.specs.Rows.{rowCount, naturalAt, kindAt}
 use Rattle.meaning.specs.Kinds.{expressions}
-use Rattle.meaning.specs.Declarations.{Variable, Channel, noVariable, noChannel, sumBelow, isVariable, hasRole, portsAt, capacityAt, cellsAt, elementsAt, variableAt, channelAt}
-use Rattle.meaning.specs.Tree.{partAt}
+use Rattle.meaning.specs.Declarations.{declarations, Variable, Channel, noVariable, noChannel, sumBelow, isVariable, hasRole, cellsAt, elementsAt, hostChannelsAt, capacityAt, variableAt, channelAt}
+use Rattle.meaning.specs.Nodes.{nodeAt}
+use Rattle.meaning.specs.Tree.{contentAt}
 use Rattle.meaning.specs.Usage.{countsFor}
 use Rattle.meaning.specs.References.{IsTarget}
 use Rattle.meaning.specs.Clash.{Counts}
@@ -81,7 +83,7 @@ module _ (rows : List ℤ) where
         first = sumBelow (elementsAt rows) c;
         size = elementsAt rows c;
         host = hasRole role rows c;
-        port = sumBelow (portsAt role rows) c;
+        number = sumBelow (hostChannelsAt role rows) c;
         capacity = capacityAt rows c;
       }
 
@@ -89,13 +91,13 @@ module _ (rows : List ℤ) where
       go t e = subst (λ (s : Bool). (ifElse s whole noChannel .first ≡ sumBelow (elementsAt rows) c) × (ifElse s whole noChannel .size ≡ elementsAt rows c)) (sym e) (refl, refl)
 
   module _ (fits : (r : ℕ) → r < rowCount rows → Fits rows r (nodeAt rows r)) (n : ℕ) where
-    pub cells-is : (r v b : ℕ) → IsTarget rows r expressions b → List·Memᴰ n (countsFor (variableAt rows v .first) (variableAt rows v .size) (partAt rows b .expr)) ↔ Located (cellsAt rows) n v b
+    pub cells-is : (r v b : ℕ) → IsTarget rows r expressions b → List·Memᴰ n (countsFor (variableAt rows v .first) (variableAt rows v .size) (contentAt rows b .expr)) ↔ Located (cellsAt rows) n v b
     cells-is r v b t =
         let e = counts-is rows n (variableAt rows v .first) (variableAt rows v .size) b (t .1) (fits b (t .1)) (t .2) in
         let f = located-is (cellsAt rows) n v b (variableAt rows v .first) (variableAt rows v .size) (variable-size v) (variable-first v) in
         (λ m. f .0 (e .0 m), λ h. e .1 (f .1 h))
 
-    pub elements-is : (r role c b : ℕ) → ToChannel rows (0 ∷ role ∷ []) c → IsTarget rows r expressions b → List·Memᴰ n (countsFor (channelAt role rows c .first) (channelAt role rows c .size) (partAt rows b .expr)) ↔ Located (elementsAt rows) n c b
+    pub elements-is : (r role c b : ℕ) → ToChannel rows (0 ∷ role ∷ []) c → IsTarget rows r expressions b → List·Memᴰ n (countsFor (channelAt role rows c .first) (channelAt role rows c .size) (contentAt rows b .expr)) ↔ Located (elementsAt rows) n c b
     elements-is r role c b h t =
         let e = counts-is rows n (channelAt role rows c .first) (channelAt role rows c .size) b (t .1) (fits b (t .1)) (t .2) in
         let f = located-is (elementsAt rows) n c b (channelAt role rows c .first) (channelAt role rows c .size) (channel-is role c h .1) (inl (channel-is role c h .0)) in

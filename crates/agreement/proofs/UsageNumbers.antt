@@ -11,12 +11,13 @@ use native.Mathlib.Omega.{arith}
 use lib.IntN.{ℤ, pos, negsuc, pos-ne-negsuc}
 use lib.Dec.{ltb}
 use Rattle.meaning.specs.declared.Node.{Node}
-use Rattle.meaning.specs.declared.Node.the-variants.{Literal, Element, Monadic, Dyadic, Stop, Skip, Assignment, Input, Output, Seq, Par, If, While, Alt, Member, Choice, Option as Alternative, Guard, Other}
-use Rattle.meaning.specs.Rows.{rowCount, fieldAt, naturalAt, kindAt, nodeAt}
+use Rattle.meaning.specs.declared.Node.the-variants.{Literal, Element, Monadic, Dyadic, Stop, Skip, Assignment, Input, Output, Seq, Par, If, While, Alt, Member, Choice, OptionRow, Guard, Other}
+use Rattle.meaning.specs.Rows.{rowCount, fieldAt, naturalAt, kindAt}
 use Rattle.meaning.specs.Kinds.{expressions}
 use Rattle.meaning.specs.Declarations.{sumBelow}
-use Rattle.meaning.specs.Tree.{literal, Part, partOf, partAt}
-use Rattle.meaning.specs.Usage.{range, when, countsFor}
+use Rattle.meaning.specs.Nodes.{nodeAt}
+use Rattle.meaning.specs.Tree.{literal, Content, contentOf, contentAt}
+use Rattle.meaning.specs.Usage.{numbersFrom, onlyIf, countsFor}
 use Rattle.meaning.specs.Clash.{Counts, literal-only, every-number}
 use Rattle.meaning.proofs.Decides.{Decides, holding, failing, decides-lt, pos-injective}
 use Rattle.agreement.proofs.UsageRows.{nodeOf, node-of-kind, Fits}
@@ -48,16 +49,16 @@ module _ (size : ℕ → ℕ) where
 
 -- Numbers that count for a subscript ----------------------------------------------------------------------------------------------
 
-range-to : (n first size : ℕ) → List·Memᴰ n (range first size) → (i : ℕ) × (n ≡ first + i) × (i < size)
-unfolding range
+range-to : (n first size : ℕ) → List·Memᴰ n (numbersFrom first size) → (i : ℕ) × (n ≡ first + i) × (i < size)
+unfolding numbersFrom
 range-to n first zero m = absurd (List·Memᴰ·not-nil m)
 range-to n first (suc size) m = ⊎-elim (λ e. (0, omega arith, omega arith)) (λ i. let h = range-to n (suc first) size i in (suc (h .0), omega (arith, h .1), omega (arith, h .2))) (List·Memᴰ·cases-cons m)
 
-range-from : (first size i : ℕ) → i < size → List·Memᴰ (first + i) (range first size)
-unfolding range
+range-from : (first size i : ℕ) → i < size → List·Memᴰ (first + i) (numbersFrom first size)
+unfolding numbersFrom
 range-from first zero i l = absurd (omega arith)
 range-from first (suc size) zero l = List·Memᴰ·head {x = first} (omega arith)
-range-from first (suc size) (suc i) l = List·Memᴰ·tail (let e : first + suc i ≡ suc first + i = omega arith in subst (λ (x : ℕ). List·Memᴰ x (range (suc first) size)) (sym e) (range-from (suc first) size i (omega arith)))
+range-from first (suc size) (suc i) l = List·Memᴰ·tail (let e : first + suc i ≡ suc first + i = omega arith in subst (λ (x : ℕ). List·Memᴰ x (numbersFrom (suc first) size)) (sym e) (range-from (suc first) size i (omega arith)))
 
 -- the value of a literal
 literalOf : Node → Option ℤ
@@ -77,7 +78,7 @@ literalOf (While a b) = none
 literalOf (Alt a) = none
 literalOf (Member a b) = none
 literalOf (Choice a b c) = none
-literalOf (Alternative a b c) = none
+literalOf (OptionRow a b c) = none
 literalOf (Guard a b) = none
 literalOf Other = none
 
@@ -95,15 +96,15 @@ module _ (rows : List ℤ) where
     unfolding countsFor literalOf
     counts-literal (pos k) e = (λ m. to (decides-lt k size) m, λ h. from h (h .2))
       where
-        to : {t : Bool} → Decides (k < size) t → List·Memᴰ n (when t (first + k)) → Counted
+        to : {t : Bool} → Decides (k < size) t → List·Memᴰ n (onlyIf t (first + k)) → Counted
         to (holding l) m = (k, List·Memᴰ·eq-of-singleton m, literal-only e l)
         to (failing l) m = absurd (List·Memᴰ·not-nil m)
 
-        is : {t : Bool} (i : ℕ) → n ≡ first + i → k ≡ i → i < size → Decides (k < size) t → List·Memᴰ n (when t (first + k))
+        is : {t : Bool} (i : ℕ) → n ≡ first + i → k ≡ i → i < size → Decides (k < size) t → List·Memᴰ n (onlyIf t (first + k))
         is i h j l (holding g) = List·Memᴰ·head {x = first + k} (omega arith)
         is i h j l (failing g) = absurd (g (omega arith))
 
-        from : (h : Counted) → Counts rows size b (h .0) → List·Memᴰ n (when (ltb k size) (first + k))
+        from : (h : Counted) → Counts rows size b (h .0) → List·Memᴰ n (onlyIf (ltb k size) (first + k))
         from h (literal-only f l) = is (h .0) (h .1) (pos-injective (Option·some-injective (pos k) (pos (h .0)) (ap literalOf (sym e ∙ f)))) l (decides-lt k size)
         from h (every-number f l) = absurd (f (pos k) e)
     counts-literal (negsuc k) e = (λ m. absurd (List·Memᴰ·not-nil m), λ h. absurd (from (h .0) (h .2)))
@@ -112,22 +113,22 @@ module _ (rows : List ℤ) where
         from i (literal-only f l) = pos-ne-negsuc i k (sym (Option·some-injective (negsuc k) (pos i) (ap literalOf (sym e ∙ f))))
         from i (every-number f l) = f (negsuc k) e
 
-    counts-other : literalOf (nodeAt rows b) ≡ none → List·Memᴰ n (range first size) ↔ Counted
+    counts-other : literalOf (nodeAt rows b) ≡ none → List·Memᴰ n (numbersFrom first size) ↔ Counted
     unfolding literalOf
     counts-other e = (λ m. let h = range-to n first size m in (h .0, h .1, every-number (λ x f. other x f) (h .2)), λ h. from h (h .2))
       where
         other : (x : ℤ) → nodeAt rows b ≢ Literal x
         other x f = Option·none-ne-some x (sym e ∙ ap literalOf f)
 
-        from : (h : Counted) → Counts rows size b (h .0) → List·Memᴰ n (range first size)
+        from : (h : Counted) → Counts rows size b (h .0) → List·Memᴰ n (numbersFrom first size)
         from h (literal-only f l) = absurd (other (pos (h .0)) f)
-        from h (every-number f l) = subst (λ (x : ℕ). List·Memᴰ x (range first size)) (sym (h .1)) (range-from first size (h .0) l)
+        from h (every-number f l) = subst (λ (x : ℕ). List·Memᴰ x (numbersFrom first size)) (sym (h .1)) (range-from first size (h .0) l)
 
     -- of an expression's row
-    pub counts-is : b < rowCount rows → Fits rows b (nodeAt rows b) → List·Memᴰ (kindAt rows b) expressions → List·Memᴰ n (countsFor first size (partAt rows b .expr)) ↔ Counted
+    pub counts-is : b < rowCount rows → Fits rows b (nodeAt rows b) → List·Memᴰ (kindAt rows b) expressions → List·Memᴰ n (countsFor first size (contentAt rows b .expr)) ↔ Counted
     unfolding countsFor literalOf
     counts-is l f m =
-        subst (λ (x : Part). List·Memᴰ n (countsFor first size (x .expr)) ↔ Counted) (sym (part-is rows b l f ∙ ap (partOf rows b (partAt rows)) (node-of-kind rows b (kindAt rows b) refl)))
+        subst (λ (x : Content). List·Memᴰ n (countsFor first size (x .expr)) ↔ Counted) (sym (part-is rows b l f ∙ ap (contentOf rows b (contentAt rows)) (node-of-kind rows b (kindAt rows b) refl)))
         (of-each Of (kindAt rows b) expressions m (λ e. counts-literal (fieldAt rows b 1) e, (λ e. counts-other (ap literalOf e), (λ e. counts-other (ap literalOf e), (λ e. counts-other (ap literalOf e), tt)))) (node-of-kind rows b (kindAt rows b) refl))
       where
         Of : ℕ → Type 0

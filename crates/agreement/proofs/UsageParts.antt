@@ -8,11 +8,13 @@ use Prim.Native.Nat.{ℕ, _<_}
 use lib.IntN.{ℤ}
 use borrow.Author.Tests.{lt-ltb}
 use Rattle.meaning.specs.declared.Node.{Node}
-use Rattle.meaning.specs.declared.Node.the-variants.{Literal, Element, Monadic, Dyadic, Stop, Skip, Assignment, Input, Output, Seq, Par, If, While, Alt, Member, Choice, Option as Alternative, Guard, Other}
-use Rattle.meaning.specs.Rows.{ifElse, rowCount, fieldAt, naturalAt, kindAt, nodeAt}
+use Rattle.meaning.specs.declared.Node.the-variants.{Literal, Element, Monadic, Dyadic, Stop, Skip, Assignment, Input, Output, Seq, Par, If, While, Alt, Member, Choice, OptionRow, Guard, Other}
+use Rattle.meaning.specs.Basics.{ifElse}
+use Rattle.meaning.specs.Rows.{rowCount, fieldAt, naturalAt, kindAt}
 use Rattle.meaning.specs.Declarations.{variableAt, sourceAt, sinkAt}
-use Rattle.meaning.specs.Tree.{monadic, dyadic, sequence, parallel, assign, receive, send, conditional, loop, alternation, node, empty, Receive, Part, noPart, andMember, ofExpr, ofElement, ofProcess, ofGuarded, ofGuardRow, ofLink, partOf, partAt}
-use Rattle.meaning.specs.PartClaims.{higherPart}
+use Rattle.meaning.specs.Nodes.{nodeAt}
+use Rattle.meaning.specs.Tree.{monadic, dyadic, sequence, parallel, assign, input, output, conditional, loop, alternation, node, empty, ChannelInput, Content, noContent, andProcess, ofExpr, ofElement, ofProcess, ofGuarded, ofGuardRow, ofLink, contentOf, contentAt}
+use Rattle.meaning.specs.ContentClaims.{higherContent}
 use Rattle.meaning.proofs.PartLaws.{part-unfolds}
 use Rattle.agreement.proofs.UsageRows.{nodeOf, node-of-kind, Fits}
 use Rattle.agreement.proofs.UsageLists.{references, one, two, three, m0, m1, m2}
@@ -28,7 +30,7 @@ of-each P k (j ∷ ks) m h = ⊎-elim (λ e. subst P (sym e) (h .0)) (λ i. of-e
 
 module _ (rows : List ℤ) where
   -- parts at higher rows that agree on a row's references give one part
-  part-agree : (r : ℕ) (f g : ℕ → Part) (x : Node) → ((c : ℕ) → List·Memᴰ c (references x) → f c ≡ g c) → partOf rows r f x ≡ partOf rows r g x
+  part-agree : (r : ℕ) (f g : ℕ → Content) (x : Node) → ((c : ℕ) → List·Memᴰ c (references x) → f c ≡ g c) → contentOf rows r f x ≡ contentOf rows r g x
   part-agree r f g (Literal x) h = refl
   part-agree r f g (Element a b) h = λ i. ofElement (variableAt rows a) (h b m0 i .expr)
   part-agree r f g (Monadic a b) h = λ i. ofExpr (monadic a (h b m0 i .expr))
@@ -37,18 +39,18 @@ module _ (rows : List ℤ) where
   part-agree r f g Skip h = refl
   part-agree r f g (Assignment a b c) h = λ i. ofProcess (node (assign (variableAt rows a) (h b m0 i .expr) (h c m1 i .expr)) r empty)
   part-agree r f g (Input a b c) h =
-      ap (λ (j : Receive). ofGuarded (node (receive j) r empty) (some j)) (λ i. record { channel = sourceAt rows a; subscript = h b m0 i .expr; target = h c m1 i .target })
-  part-agree r f g (Output a b c) h = λ i. ofProcess (node (send (sinkAt rows a) (h b m0 i .expr) (h c m1 i .expr)) r empty)
-  part-agree r f g (Seq a) h = λ i. ofProcess (node sequence r (h a m0 i .members))
-  part-agree r f g (Par a) h = λ i. ofProcess (node parallel r (h a m0 i .members))
-  part-agree r f g (If a) h = λ i. ofProcess (node (conditional (h a m0 i .tests)) r (h a m0 i .members))
-  part-agree r f g (While a b) h = λ i. ofProcess (node (loop (h a m0 i .expr) b) r (andMember (h b m1 i .process) empty))
-  part-agree r f g (Alt a) h = λ i. ofProcess (node (alternation (h a m0 i .branches)) r (h a m0 i .members))
-  part-agree r f g (Member a b) h = λ i. ofLink (andMember (h a m0 i .process) (h b m1 i .members)) [] []
+      ap (λ (j : ChannelInput). ofGuarded (node (input j) r empty) (some j)) (λ i. record { channel = sourceAt rows a; subscript = h b m0 i .expr; target = h c m1 i .target })
+  part-agree r f g (Output a b c) h = λ i. ofProcess (node (output (sinkAt rows a) (h b m0 i .expr) (h c m1 i .expr)) r empty)
+  part-agree r f g (Seq a) h = λ i. ofProcess (node sequence r (h a m0 i .listed))
+  part-agree r f g (Par a) h = λ i. ofProcess (node parallel r (h a m0 i .listed))
+  part-agree r f g (If a) h = λ i. ofProcess (node (conditional (h a m0 i .tests)) r (h a m0 i .listed))
+  part-agree r f g (While a b) h = λ i. ofProcess (node (loop (h a m0 i .expr) b) r (andProcess (h b m1 i .process) empty))
+  part-agree r f g (Alt a) h = λ i. ofProcess (node (alternation (h a m0 i .options)) r (h a m0 i .listed))
+  part-agree r f g (Member a b) h = λ i. ofLink (andProcess (h a m0 i .process) (h b m1 i .listed)) [] []
   part-agree r f g (Choice a b c) h =
-      λ i. ofLink (andMember (h a m0 i .process) (h b m1 i .members)) (record { boolean = h c m2 i .expr; process = a } ∷ h b m1 i .tests) []
-  part-agree r f g (Alternative a b c) h =
-      λ i. ofLink (andMember (h a m0 i .process) (h b m1 i .members)) [] (record { row = r; guard = h c m2 i .guard; process = a } ∷ h b m1 i .branches)
+      λ i. ofLink (andProcess (h a m0 i .process) (h b m1 i .listed)) (record { boolean = h c m2 i .expr; process = a } ∷ h b m1 i .tests) []
+  part-agree r f g (OptionRow a b c) h =
+      λ i. ofLink (andProcess (h a m0 i .process) (h b m1 i .listed)) [] (record { row = r; guard = h c m2 i .guard; process = a } ∷ h b m1 i .options)
   part-agree r f g (Guard a b) h = λ i. ofGuardRow (record { boolean = h a m0 i .expr; input = h b m1 i .guard .input })
   part-agree r f g Other h = refl
 
@@ -70,21 +72,21 @@ module _ (rows : List ℤ) where
   fits-higher r (Alt a) f = one (_<_ r) a (f .0)
   fits-higher r (Member a b) f = two (_<_ r) a b (f .0 .0) (f .1 .0)
   fits-higher r (Choice a b c) f = three (_<_ r) a b c (f .0 .0) (f .1 .0) (f .2 .0)
-  fits-higher r (Alternative a b c) f = three (_<_ r) a b c (f .0 .0) (f .1 .0) (f .2 .0)
+  fits-higher r (OptionRow a b c) f = three (_<_ r) a b c (f .0 .0) (f .1 .0) (f .2 .0)
   fits-higher r (Guard a b) f = two (_<_ r) a b (f .0 .0) (f .1 .0)
   fits-higher r Other f = λ c m. absurd (List·Memᴰ·not-nil m)
 
   -- what stands at a row, from what stands at any row
-  pub part-is : (r : ℕ) → r < rowCount rows → Fits rows r (nodeAt rows r) → partAt rows r ≡ partOf rows r (partAt rows) (nodeAt rows r)
+  pub part-is : (r : ℕ) → r < rowCount rows → Fits rows r (nodeAt rows r) → contentAt rows r ≡ contentOf rows r (contentAt rows) (nodeAt rows r)
   part-is r l f =
       part-unfolds rows r .0 l
-      ∙ part-agree r (higherPart rows r) (partAt rows) (nodeAt rows r)
-      (λ c m. ap (λ (t : Bool). ifElse t (partAt rows c) noPart) (lt-ltb r c (fits-higher r (nodeAt rows r) f c m)))
+      ∙ part-agree r (higherContent rows r) (contentAt rows) (nodeAt rows r)
+      (λ c m. ap (λ (t : Bool). ifElse t (contentAt rows c) noContent) (lt-ltb r c (fits-higher r (nodeAt rows r) f c m)))
 
   -- what stands at row r, if it is of kind k
-  abbrev pub partBy : ℕ → ℕ → Part
-  partBy r k = partOf rows r (partAt rows) (nodeOf k (fieldAt rows r 1) (naturalAt rows r 1) (naturalAt rows r 2) (naturalAt rows r 3))
+  abbrev pub partBy : ℕ → ℕ → Content
+  partBy r k = contentOf rows r (contentAt rows) (nodeOf k (fieldAt rows r 1) (naturalAt rows r 1) (naturalAt rows r 2) (naturalAt rows r 3))
 
-  pub part-by-kind : (P : Part → Type 0) (r : ℕ) → r < rowCount rows → Fits rows r (nodeAt rows r) → (kinds : List ℕ) → List·Memᴰ (kindAt rows r) kinds → OfEach (λ k. P (partBy r k)) kinds → P (partAt rows r)
+  pub part-by-kind : (P : Content → Type 0) (r : ℕ) → r < rowCount rows → Fits rows r (nodeAt rows r) → (kinds : List ℕ) → List·Memᴰ (kindAt rows r) kinds → OfEach (λ k. P (partBy r k)) kinds → P (contentAt rows r)
   part-by-kind P r l f kinds m h =
-      subst P (sym (part-is r l f ∙ ap (partOf rows r (partAt rows)) (node-of-kind rows r (kindAt rows r) refl))) (of-each (λ k. P (partBy r k)) (kindAt rows r) kinds m h)
+      subst P (sym (part-is r l f ∙ ap (contentOf rows r (contentAt rows)) (node-of-kind rows r (kindAt rows r) refl))) (of-each (λ k. P (partBy r k)) (kindAt rows r) kinds m h)

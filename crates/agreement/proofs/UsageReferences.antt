@@ -8,8 +8,10 @@ use native.Mathlib.Decide.{decLt}
 use native.Mathlib.Omega.{arith}
 use lib.IntN.{ℤ, pos}
 use Rattle.meaning.specs.declared.Node.the-variants.{Par, Member}
-use Rattle.meaning.specs.Rows.{naturalOf, rowCount, fieldAt, naturalAt, kindAt, declarations, nodeAt}
+use Rattle.meaning.specs.Rows.{naturalOf, rowCount, fieldAt, naturalAt, kindAt}
 use Rattle.meaning.specs.Kinds.{Shape, shapes, shapeIn, shapeOf}
+use Rattle.meaning.specs.Declarations.{declarations}
+use Rattle.meaning.specs.Nodes.{nodeAt}
 use Rattle.meaning.specs.References.{Place, of-a, of-b, of-c, fieldOf, numberOf, RefersBy, Refers}
 use Rattle.meaning.specs.Faults.{Leads, WellFormed, Placed, WellPlaced}
 use Rattle.meaning.proofs.KindLaws.{none-left, and-then, by-shape}

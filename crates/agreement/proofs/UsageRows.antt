@@ -11,11 +11,14 @@ use lib.IntN.{ℤ, pos, negsuc}
 use lib.Dec.{eqb}
 use borrow.Author.Tests.{eqb-true}
 use Rattle.meaning.specs.declared.Node.{Node}
-use Rattle.meaning.specs.declared.Node.the-variants.{Literal, Element, Monadic, Dyadic, Stop, Skip, Assignment, Input, Output, Seq, Par, If, While, Alt, Member, Choice, Option as Alternative, Guard, Other}
-use Rattle.meaning.specs.Rows.{ifElse, naturalOf, rowCount, fieldAt, naturalAt, kindAt, declarations, nodeAt}
+use Rattle.meaning.specs.declared.Node.the-variants.{Literal, Element, Monadic, Dyadic, Stop, Skip, Assignment, Input, Output, Seq, Par, If, While, Alt, Member, Choice, OptionRow, Guard, Other}
+use Rattle.meaning.specs.Basics.{ifElse}
+use Rattle.meaning.specs.Rows.{naturalOf, rowCount, fieldAt, naturalAt, kindAt}
 use Rattle.meaning.specs.Kinds.{Shape, shapes, shapeIn, shapeOf, expressions, processes}
+use Rattle.meaning.specs.Declarations.{declarations}
+use Rattle.meaning.specs.Nodes.{nodeAt}
 use Rattle.meaning.specs.References.{IsOf, IsTarget, Place, of-a, of-b, of-c, fieldOf, numberOf}
-use Rattle.meaning.specs.Faults.{Holds, WellFormed, Leads, Placed, WellPlaced}
+use Rattle.meaning.specs.Faults.{MayHold, WellFormed, Leads, Placed, WellPlaced}
 use Rattle.meaning.proofs.OneTreeLaw.{declared}
 use Rattle.agreement.proofs.TableReferences.{if-else}
 
@@ -38,7 +41,7 @@ nodeOf k x a b c =
     (ifElse (eqb k 34) (Alt a)
     (ifElse (eqb k 40) (Member a b)
     (ifElse (eqb k 41) (Choice a b c)
-    (ifElse (eqb k 42) (Alternative a b c)
+    (ifElse (eqb k 42) (OptionRow a b c)
     (ifElse (eqb k 43) (Guard a b)
     Other)))))))))))))))))
 
@@ -80,7 +83,7 @@ module _ (rows : List ℤ) where
   Fits r (Alt a) = ToLink r (42 ∷ []) a
   Fits r (Member a b) = ToProcess r a × ToLink r (40 ∷ []) b
   Fits r (Choice a b c) = ToProcess r a × ToLink r (41 ∷ []) b × ToExpr r c
-  Fits r (Alternative a b c) = ToProcess r a × ToLink r (42 ∷ []) b × IsTarget rows r (23 ∷ 43 ∷ []) c
+  Fits r (OptionRow a b c) = ToProcess r a × ToLink r (42 ∷ []) b × IsTarget rows r (23 ∷ 43 ∷ []) c
   Fits r (Guard a b) = ToExpr r a × IsTarget rows r (21 ∷ 23 ∷ []) b
   Fits r Other = Unit {0}
 
@@ -101,17 +104,17 @@ module _ (rows : List ℤ) where
       unfolding WellPlaced Placed
       leads-to = placed r (omega arith) .1 (d, l) .0
 
-      holds-a : (s : Shape) → IsOf rows r s → Holds rows r (s .a) (fieldAt rows r 1)
+      holds-a : (s : Shape) → IsOf rows r s → MayHold rows r (s .a) (fieldAt rows r 1)
       unfolding WellFormed
       holds-a s h =
           let w = formed r l .1 in
-          subst (λ (u : Shape). Holds rows r (u .a) (fieldAt rows r 1)) (Option·some-injective (w .0) s (sym (w .1) ∙ h)) (w .2)
+          subst (λ (u : Shape). MayHold rows r (u .a) (fieldAt rows r 1)) (Option·some-injective (w .0) s (sym (w .1) ∙ h)) (w .2)
 
       is-of : (k : ℕ) (s : Shape) → shapeOf k ≡ some s → eqb (kindAt rows r) k ≡ true → IsOf rows r s
       is-of k s e h = ap shapeOf (eqb-true (kindAt rows r) k h) ∙ e
 
       fits-later : Fits r (nodeAt rows r)
-      unfolding nodeAt Leads Holds shapeOf shapeIn shapes
+      unfolding nodeAt Leads MayHold shapeOf shapeIn shapes
       fits-later =
           let k = kindAt rows r in
           let i = is-of in

@@ -3,13 +3,13 @@ use mathlib.Core.Logic.{_⊎_, inl, inr, ⊎-elim}
 use mathlib.Core.List.{List, [], _∷_}
 use mathlib.Core.Option.{Option, none, some}
 use Rattle.meaning.specs.Declarations.{Variable, Channel}
-use Rattle.meaning.specs.Tree.{Expr, literal, element, monadic, dyadic, noExpr, Receive, IfChoice, AltGuard, AltOption, Action, stop, skip, sequence, parallel, assign, receive, send, conditional, loop, alternation, Process, node, Members, empty, also, Part, noPart, andMember, ofExpr, ofElement, ofProcess, ofGuarded, ofGuardRow, ofLink}
+use Rattle.meaning.specs.Tree.{Expr, literal, element, monadic, dyadic, noExpr, ChannelInput, IfChoice, AltGuard, AltOption, Action, stop, skip, sequence, parallel, assign, input, output, conditional, loop, alternation, Process, node, Processes, empty, also, Content, noContent, andProcess, ofExpr, ofElement, ofProcess, ofGuarded, ofGuardRow, ofLink}
 
 -- what bears the mark
 pub record Mark : Type 1 where
   pub atElement : Variable → Expr → Type 0
   pub atAssignment : Variable → Expr → Type 0
-  pub atInput : Receive → Type 0
+  pub atInput : ChannelInput → Type 0
   pub atOutput : Channel → Expr → Type 0
 
 module _ (M : Mark) where
@@ -21,14 +21,14 @@ module _ (M : Mark) where
   InExpr (dyadic op e f) = InExpr e ⊎ InExpr f
   InExpr noExpr = ⊥
 
-  abbrev pub InReceive : Receive → Type 0
+  abbrev pub InReceive : ChannelInput → Type 0
   InReceive i = M .atInput i ⊎ (InExpr (i .subscript) ⊎ InExpr (element (i .target .name) (i .target .subscript)))
 
   abbrev pub InChoices : List IfChoice → Type 0
   InChoices [] = ⊥
   InChoices (t ∷ l) = InExpr (t .boolean) ⊎ InChoices l
 
-  abbrev pub InInput : Option Receive → Type 0
+  abbrev pub InInput : Option ChannelInput → Type 0
   InInput none = ⊥
   InInput (some i) = InReceive i
 
@@ -45,8 +45,8 @@ module _ (M : Mark) where
   InAction sequence = ⊥
   InAction parallel = ⊥
   InAction (assign v e f) = M .atAssignment v e ⊎ (InExpr e ⊎ InExpr f)
-  InAction (receive i) = InReceive i
-  InAction (send c e f) = M .atOutput c e ⊎ (InExpr e ⊎ InExpr f)
+  InAction (input i) = InReceive i
+  InAction (output c e f) = M .atOutput c e ⊎ (InExpr e ⊎ InExpr f)
   InAction (conditional ts) = InChoices ts
   InAction (loop e b) = InExpr e
   InAction (alternation bs) = InOptions bs
@@ -56,7 +56,7 @@ module _ (M : Mark) where
     pub InProcess : Process → Type 0
     InProcess (node a r ms) = InAction a ⊎ InMembers ms
 
-    pub InMembers : Members → Type 0
+    pub InMembers : Processes → Type 0
     InMembers empty = ⊥
     InMembers (also p ms) = InProcess p ⊎ InMembers ms
 
@@ -65,16 +65,16 @@ module _ (M : Mark) where
   InOption (some p) = InProcess p
 
   -- anything in what stands at a row
-  pub data InPart (x : Part) : Type 0 where
+  pub data InPart (x : Content) : Type 0 where
     in-expr : InExpr (x .expr) → InPart x
     in-process : InOption (x .process) → InPart x
-    in-members : InMembers (x .members) → InPart x
+    in-members : InMembers (x .listed) → InPart x
     in-choices : InChoices (x .tests) → InPart x
-    in-options : InOptions (x .branches) → InPart x
+    in-options : InOptions (x .options) → InPart x
     in-guard : InGuard (x .guard) → InPart x
 
   -- by what a part is
-  pub in-no-part : InPart noPart → ⊥
+  pub in-no-part : InPart noContent → ⊥
   in-no-part (in-expr h) = h
   in-no-part (in-process h) = h
   in-no-part (in-members h) = h
@@ -107,7 +107,7 @@ module _ (M : Mark) where
   in-process-part p (in-guard h) = absurd (⊎-elim (λ z. z) (λ z. z) h)
 
   -- an input or SKIP, whose process is that of the guard
-  pub in-guarded-part : (p : Process) (i : Option Receive) → InPart (ofGuarded p i) → InProcess p ⊎ InInput i
+  pub in-guarded-part : (p : Process) (i : Option ChannelInput) → InPart (ofGuarded p i) → InProcess p ⊎ InInput i
   in-guarded-part p i (in-expr h) = absurd h
   in-guarded-part p i (in-process h) = inl h
   in-guarded-part p i (in-members h) = absurd h
@@ -123,7 +123,7 @@ module _ (M : Mark) where
   in-guard-part g (in-options h) = absurd h
   in-guard-part g (in-guard h) = h
 
-  pub in-link-part : (ms : Members) (ts : List IfChoice) (bs : List AltOption) → InPart (ofLink ms ts bs) → InMembers ms ⊎ (InChoices ts ⊎ InOptions bs)
+  pub in-link-part : (ms : Processes) (ts : List IfChoice) (bs : List AltOption) → InPart (ofLink ms ts bs) → InMembers ms ⊎ (InChoices ts ⊎ InOptions bs)
   in-link-part ms ts bs (in-expr h) = absurd h
   in-link-part ms ts bs (in-process h) = absurd h
   in-link-part ms ts bs (in-members h) = inl h
@@ -132,10 +132,10 @@ module _ (M : Mark) where
   in-link-part ms ts bs (in-guard h) = absurd (⊎-elim (λ z. z) (λ z. z) h)
 
   -- a process before members
-  pub split-member : (o : Option Process) (ms : Members) → InMembers (andMember o ms) → InOption o ⊎ InMembers ms
+  pub split-member : (o : Option Process) (ms : Processes) → InMembers (andProcess o ms) → InOption o ⊎ InMembers ms
   split-member none ms h = inr h
   split-member (some p) ms h = h
 
-  pub join-member : (o : Option Process) (ms : Members) → InOption o ⊎ InMembers ms → InMembers (andMember o ms)
+  pub join-member : (o : Option Process) (ms : Processes) → InOption o ⊎ InMembers ms → InMembers (andProcess o ms)
   join-member none ms h = ⊎-elim (λ z. absurd z) (λ z. z) h
   join-member (some p) ms h = h

@@ -7,11 +7,12 @@ use native.Mathlib.Decide.{decLt}
 use native.Mathlib.Omega.{arith}
 use lib.IntN.{ℤ}
 use Rattle.meaning.specs.declared.Node.{Node}
-use Rattle.meaning.specs.declared.Node.the-variants.{Literal, Element, Monadic, Dyadic, Stop, Skip, Assignment, Input, Output, Seq, Par, If, While, Alt, Member, Choice, Option as Alternative, Guard, Other}
-use Rattle.meaning.specs.Rows.{rowCount, kindAt, nodeAt}
+use Rattle.meaning.specs.declared.Node.the-variants.{Literal, Element, Monadic, Dyadic, Stop, Skip, Assignment, Input, Output, Seq, Par, If, While, Alt, Member, Choice, OptionRow, Guard, Other}
+use Rattle.meaning.specs.Rows.{rowCount, kindAt}
 use Rattle.meaning.specs.Kinds.{expressions, processes}
 use Rattle.meaning.specs.Declarations.{variableAt, sourceAt, sinkAt}
-use Rattle.meaning.specs.Tree.{element, Process, empty, Part, ofProcess, andMember, partOf, partAt}
+use Rattle.meaning.specs.Nodes.{nodeAt}
+use Rattle.meaning.specs.Tree.{element, Process, empty, Content, ofProcess, andProcess, contentOf, contentAt}
 use Rattle.meaning.specs.References.{Place, fieldOf, numberOf, IsTarget, Refers, Beneath, direct, further}
 use Rattle.meaning.specs.Clash.{Within}
 use Rattle.meaning.proofs.PartLaws.{part-unfolds}
@@ -27,14 +28,14 @@ module _ (rows : List ℤ) (M : Mark) where
   -- row r itself bears the mark
   abbrev pub Bears : Node → Type 0
   Bears (Literal x) = ⊥
-  Bears (Element a b) = M .atElement (variableAt rows a) (partAt rows b .expr)
+  Bears (Element a b) = M .atElement (variableAt rows a) (contentAt rows b .expr)
   Bears (Monadic a b) = ⊥
   Bears (Dyadic a b c) = ⊥
   Bears Stop = ⊥
   Bears Skip = ⊥
-  Bears (Assignment a b c) = M .atAssignment (variableAt rows a) (partAt rows b .expr)
-  Bears (Input a b c) = M .atInput (record { channel = sourceAt rows a; subscript = partAt rows b .expr; target = partAt rows c .target })
-  Bears (Output a b c) = M .atOutput (sinkAt rows a) (partAt rows b .expr)
+  Bears (Assignment a b c) = M .atAssignment (variableAt rows a) (contentAt rows b .expr)
+  Bears (Input a b c) = M .atInput (record { channel = sourceAt rows a; subscript = contentAt rows b .expr; target = contentAt rows c .target })
+  Bears (Output a b c) = M .atOutput (sinkAt rows a) (contentAt rows b .expr)
   Bears (Seq a) = ⊥
   Bears (Par a) = ⊥
   Bears (If a) = ⊥
@@ -42,13 +43,13 @@ module _ (rows : List ℤ) (M : Mark) where
   Bears (Alt a) = ⊥
   Bears (Member a b) = ⊥
   Bears (Choice a b c) = ⊥
-  Bears (Alternative a b c) = ⊥
+  Bears (OptionRow a b c) = ⊥
   Bears (Guard a b) = ⊥
   Bears Other = ⊥
 
   -- something at a row bears it
   abbrev pub At : ℕ → Type 0
-  At r = InPart M (partAt rows r)
+  At r = InPart M (contentAt rows r)
 
   pub at-below : (r : ℕ) → At r → r < rowCount rows
   at-below r h = go (decLt r (rowCount rows))
@@ -62,14 +63,14 @@ module _ (rows : List ℤ) (M : Mark) where
     fits = passed-fits rows passed
 
     -- where it is, in a row of given kinds
-    by-kind : (P : Part → Type 0) (c : ℕ) (kinds : List ℕ) → c < rowCount rows → List·Memᴰ (kindAt rows c) kinds → OfEach (λ k. P (partBy rows c k)) kinds → P (partAt rows c)
+    by-kind : (P : Content → Type 0) (c : ℕ) (kinds : List ℕ) → c < rowCount rows → List·Memᴰ (kindAt rows c) kinds → OfEach (λ k. P (partBy rows c k)) kinds → P (contentAt rows c)
     by-kind P c kinds l m h = part-by-kind rows P c l (fits c l) kinds m h
 
-    at-expr : (r c : ℕ) → IsTarget rows r expressions c → At c → InExpr M (partAt rows c .expr)
+    at-expr : (r c : ℕ) → IsTarget rows r expressions c → At c → InExpr M (contentAt rows c .expr)
     at-expr r c t = by-kind (λ x. InPart M x → InExpr M (x .expr)) c expressions (t .1) (t .2)
         (in-expr-part M _, (in-element-part M _ _, (in-expr-part M _, (in-expr-part M _, tt))))
 
-    pub at-process : (c : ℕ) → c < rowCount rows → List·Memᴰ (kindAt rows c) processes → At c → InOption M (partAt rows c .process)
+    pub at-process : (c : ℕ) → c < rowCount rows → List·Memᴰ (kindAt rows c) processes → At c → InOption M (contentAt rows c .process)
     at-process c l m = by-kind (λ x. InPart M x → InOption M (x .process)) c processes l m
         (p _, (guarded, (p _, (input, (p _, (p _, (p _, (p _, (p _, (p _, tt))))))))))
       where
@@ -83,20 +84,20 @@ module _ (rows : List ℤ) (M : Mark) where
         input h = ⊎-elim (λ z. z) (λ z. inl z) (in-guarded-part M _ _ h)
 
     -- an element as a target
-    at-target : (r c : ℕ) → IsTarget rows r (11 ∷ []) c → At c → InExpr M (element (partAt rows c .target .name) (partAt rows c .target .subscript))
+    at-target : (r c : ℕ) → IsTarget rows r (11 ∷ []) c → At c → InExpr M (element (contentAt rows c .target .name) (contentAt rows c .target .subscript))
     at-target r c t = by-kind (λ x. InPart M x → InExpr M (element (x .target .name) (x .target .subscript))) c (11 ∷ []) (t .1) (t .2) (in-element-part M _ _, tt)
 
-    target-at : (r c : ℕ) → IsTarget rows r (11 ∷ []) c → InExpr M (element (partAt rows c .target .name) (partAt rows c .target .subscript)) → At c
+    target-at : (r c : ℕ) → IsTarget rows r (11 ∷ []) c → InExpr M (element (contentAt rows c .target .name) (contentAt rows c .target .subscript)) → At c
     target-at r c t = by-kind (λ x. InExpr M (element (x .target .name) (x .target .subscript)) → InPart M x) c (11 ∷ []) (t .1) (t .2) (in-expr, tt)
 
     -- a guard, and the input of a guard
-    at-guard : (r c : ℕ) → IsTarget rows r (23 ∷ 43 ∷ []) c → At c → InGuard M (partAt rows c .guard)
+    at-guard : (r c : ℕ) → IsTarget rows r (23 ∷ 43 ∷ []) c → At c → InGuard M (contentAt rows c .guard)
     at-guard r c t = by-kind (λ x. InPart M x → InGuard M (x .guard)) c (23 ∷ 43 ∷ []) (t .1) (t .2) (input, (in-guard-part M _, tt))
       where
         input : InPart M (partBy rows c 23) → InGuard M (partBy rows c 23 .guard)
         input h = inr (⊎-elim (λ z. ⊎-elim (λ i. i) (λ i. absurd i) z) (λ z. z) (in-guarded-part M _ _ h))
 
-    at-input : (r c : ℕ) → IsTarget rows r (21 ∷ 23 ∷ []) c → At c → InInput M (partAt rows c .guard .input)
+    at-input : (r c : ℕ) → IsTarget rows r (21 ∷ 23 ∷ []) c → At c → InInput M (contentAt rows c .guard .input)
     at-input r c t = by-kind (λ x. InPart M x → InInput M (x .guard .input)) c (21 ∷ 23 ∷ []) (t .1) (t .2) (plain, (input, tt))
       where
         plain : InPart M (partBy rows c 21) → InInput M (partBy rows c 21 .guard .input)
@@ -106,26 +107,26 @@ module _ (rows : List ℤ) (M : Mark) where
         input h = ⊎-elim (λ z. ⊎-elim (λ i. i) (λ i. absurd i) z) (λ z. z) (in-guarded-part M _ _ h)
 
     -- the links of members, choices, options
-    at-members : (r c : ℕ) → ToLink rows r (40 ∷ []) c → At c → InMembers M (partAt rows c .members)
-    at-members r c t h = by-kind (λ x. InPart M x → InMembers M (x .members)) c (40 ∷ []) (at-below c h) (t .1 (at-below c h)) (link, tt) h
+    at-members : (r c : ℕ) → ToLink rows r (40 ∷ []) c → At c → InMembers M (contentAt rows c .listed)
+    at-members r c t h = by-kind (λ x. InPart M x → InMembers M (x .listed)) c (40 ∷ []) (at-below c h) (t .1 (at-below c h)) (link, tt) h
       where
-        link : InPart M (partBy rows c 40) → InMembers M (partBy rows c 40 .members)
+        link : InPart M (partBy rows c 40) → InMembers M (partBy rows c 40 .listed)
         link i = ⊎-elim (λ z. z) (λ z. ⊎-elim (λ j. absurd j) (λ j. absurd j) z) (in-link-part M _ _ _ i)
 
-    at-choices : (r c : ℕ) → ToLink rows r (41 ∷ []) c → At c → InMembers M (partAt rows c .members) ⊎ InChoices M (partAt rows c .tests)
-    at-choices r c t h = by-kind (λ x. InPart M x → InMembers M (x .members) ⊎ InChoices M (x .tests)) c (41 ∷ []) (at-below c h) (t .1 (at-below c h)) (link, tt) h
+    at-choices : (r c : ℕ) → ToLink rows r (41 ∷ []) c → At c → InMembers M (contentAt rows c .listed) ⊎ InChoices M (contentAt rows c .tests)
+    at-choices r c t h = by-kind (λ x. InPart M x → InMembers M (x .listed) ⊎ InChoices M (x .tests)) c (41 ∷ []) (at-below c h) (t .1 (at-below c h)) (link, tt) h
       where
-        link : InPart M (partBy rows c 41) → InMembers M (partBy rows c 41 .members) ⊎ InChoices M (partBy rows c 41 .tests)
+        link : InPart M (partBy rows c 41) → InMembers M (partBy rows c 41 .listed) ⊎ InChoices M (partBy rows c 41 .tests)
         link i = ⊎-elim (λ z. inl z) (λ z. ⊎-elim (λ j. inr j) (λ j. absurd j) z) (in-link-part M _ _ _ i)
 
-    at-options : (r c : ℕ) → ToLink rows r (42 ∷ []) c → At c → InMembers M (partAt rows c .members) ⊎ InOptions M (partAt rows c .branches)
-    at-options r c t h = by-kind (λ x. InPart M x → InMembers M (x .members) ⊎ InOptions M (x .branches)) c (42 ∷ []) (at-below c h) (t .1 (at-below c h)) (link, tt) h
+    at-options : (r c : ℕ) → ToLink rows r (42 ∷ []) c → At c → InMembers M (contentAt rows c .listed) ⊎ InOptions M (contentAt rows c .options)
+    at-options r c t h = by-kind (λ x. InPart M x → InMembers M (x .listed) ⊎ InOptions M (x .options)) c (42 ∷ []) (at-below c h) (t .1 (at-below c h)) (link, tt) h
       where
-        link : InPart M (partBy rows c 42) → InMembers M (partBy rows c 42 .members) ⊎ InOptions M (partBy rows c 42 .branches)
+        link : InPart M (partBy rows c 42) → InMembers M (partBy rows c 42 .listed) ⊎ InOptions M (partBy rows c 42 .options)
         link i = ⊎-elim (λ z. inl z) (λ z. ⊎-elim (λ j. absurd j) (λ j. inr j) z) (in-link-part M _ _ _ i)
 
     -- a row itself, and what it refers to, bear the mark in it
-    up-own : (r : ℕ) (x : Node) → Bears x → InPart M (partOf rows r (partAt rows) x)
+    up-own : (r : ℕ) (x : Node) → Bears x → InPart M (contentOf rows r (contentAt rows) x)
     up-own r (Literal x) h = absurd h
     up-own r (Element a b) h = in-expr (inl h)
     up-own r (Monadic a b) h = absurd h
@@ -142,19 +143,19 @@ module _ (rows : List ℤ) (M : Mark) where
     up-own r (Alt a) h = absurd h
     up-own r (Member a b) h = absurd h
     up-own r (Choice a b c) h = absurd h
-    up-own r (Alternative a b c) h = absurd h
+    up-own r (OptionRow a b c) h = absurd h
     up-own r (Guard a b) h = absurd h
     up-own r Other h = absurd h
 
-    member : (r a b : ℕ) → IsTarget rows r processes a → At a → InMembers M (andMember (partAt rows a .process) (partAt rows b .members))
-    member r a b t h = join-member M (partAt rows a .process) (partAt rows b .members) (inl (at-process a (t .1) (t .2) h))
+    member : (r a b : ℕ) → IsTarget rows r processes a → At a → InMembers M (andProcess (contentAt rows a .process) (contentAt rows b .listed))
+    member r a b t h = join-member M (contentAt rows a .process) (contentAt rows b .listed) (inl (at-process a (t .1) (t .2) h))
 
-    others : (a b : ℕ) → InMembers M (partAt rows b .members) → InMembers M (andMember (partAt rows a .process) (partAt rows b .members))
-    others a b h = join-member M (partAt rows a .process) (partAt rows b .members) (inr h)
+    others : (a b : ℕ) → InMembers M (contentAt rows b .listed) → InMembers M (andProcess (contentAt rows a .process) (contentAt rows b .listed))
+    others a b h = join-member M (contentAt rows a .process) (contentAt rows b .listed) (inr h)
 
     -- what row r bears as node x, if row c does
     abbrev Up : ℕ → Node → ℕ → Type 0
-    Up r x c = At c → InPart M (partOf rows r (partAt rows) x)
+    Up r x c = At c → InPart M (contentOf rows r (contentAt rows) x)
 
     up : (r : ℕ) (x : Node) → Fits rows r x → (c : ℕ) → List·Memᴰ c (references x) → Up r x c
     up r (Literal x) f = λ c m. absurd (List·Memᴰ·not-nil m)
@@ -174,15 +175,15 @@ module _ (rows : List ℤ) (M : Mark) where
     up r (If a) f = one (Up r (If a)) a (λ h. ⊎-elim (λ i. in-process (inr i)) (λ i. in-process (inl i)) (at-choices r a f h))
     up r (While a b) f =
         two (Up r (While a b)) a b (λ h. in-process (inl (at-expr r a (f .0) h)))
-        (λ h. in-process (inr (join-member M (partAt rows b .process) empty (inl (at-process b (f .1 .1) (f .1 .2) h)))))
+        (λ h. in-process (inr (join-member M (contentAt rows b .process) empty (inl (at-process b (f .1 .1) (f .1 .2) h)))))
     up r (Alt a) f = one (Up r (Alt a)) a (λ h. ⊎-elim (λ i. in-process (inr i)) (λ i. in-process (inl i)) (at-options r a f h))
     up r (Member a b) f = two (Up r (Member a b)) a b (λ h. in-members (member r a b (f .0) h)) (λ h. in-members (others a b (at-members r b (f .1) h)))
     up r (Choice a b c) f =
         three (Up r (Choice a b c)) a b c (λ h. in-members (member r a b (f .0) h))
         (λ h. ⊎-elim (λ i. in-members (others a b i)) (λ i. in-choices (inr i)) (at-choices r b (f .1) h))
         (λ h. in-choices (inl (at-expr r c (f .2) h)))
-    up r (Alternative a b c) f =
-        three (Up r (Alternative a b c)) a b c (λ h. in-members (member r a b (f .0) h))
+    up r (OptionRow a b c) f =
+        three (Up r (OptionRow a b c)) a b c (λ h. in-members (member r a b (f .0) h))
         (λ h. ⊎-elim (λ i. in-members (others a b i)) (λ i. in-options (inr i)) (at-options r b (f .1) h))
         (λ h. in-options (inl (at-guard r c (f .2) h)))
     up r (Guard a b) f = two (Up r (Guard a b)) a b (λ h. in-guard (inl (at-expr r a (f .0) h))) (λ h. in-guard (inr (at-input r b (f .1) h)))
@@ -192,11 +193,11 @@ module _ (rows : List ℤ) (M : Mark) where
     abbrev Down : Node → Type 0
     Down x = Bears x ⊎ ((c : ℕ) × List·Memᴰ c (references x) × At c)
 
-    down-member : (x : Node) (a b : ℕ) → List·Memᴰ a (references x) → List·Memᴰ b (references x) → InMembers M (andMember (partAt rows a .process) (partAt rows b .members)) → Down x
+    down-member : (x : Node) (a b : ℕ) → List·Memᴰ a (references x) → List·Memᴰ b (references x) → InMembers M (andProcess (contentAt rows a .process) (contentAt rows b .listed)) → Down x
     down-member x a b m n h =
-        ⊎-elim (λ i. inr (a, m, in-process i)) (λ i. inr (b, n, in-members i)) (split-member M (partAt rows a .process) (partAt rows b .members) h)
+        ⊎-elim (λ i. inr (a, m, in-process i)) (λ i. inr (b, n, in-members i)) (split-member M (contentAt rows a .process) (contentAt rows b .listed) h)
 
-    down : (r : ℕ) (x : Node) → Fits rows r x → InPart M (partOf rows r (partAt rows) x) → Down x
+    down : (r : ℕ) (x : Node) → Fits rows r x → InPart M (contentOf rows r (contentAt rows) x) → Down x
     down r (Literal x) f h = absurd (in-expr-part M _ h)
     down r (Element a b) f h = ⊎-elim (λ i. inl i) (λ i. inr (b, m0, in-expr i)) (in-element-part M _ _ h)
     down r (Monadic a b) f h = inr (b, m0, in-expr (in-expr-part M _ h))
@@ -207,7 +208,7 @@ module _ (rows : List ℤ) (M : Mark) where
         ⊎-elim (λ i. ⊎-elim (λ j. inl j) (λ j. ⊎-elim (λ k. inr (b, m0, in-expr k)) (λ k. inr (c, m1, in-expr k)) j) i) (λ i. absurd i) (in-process-part M _ h)
     down r (Input a b c) f h = ⊎-elim (λ i. ⊎-elim input (λ j. absurd j) i) input (in-guarded-part M _ _ h)
       where
-        input : InReceive M (record { channel = sourceAt rows a; subscript = partAt rows b .expr; target = partAt rows c .target }) → Down (Input a b c)
+        input : InReceive M (record { channel = sourceAt rows a; subscript = contentAt rows b .expr; target = contentAt rows c .target }) → Down (Input a b c)
         input i = ⊎-elim (λ j. inl j) (λ j. ⊎-elim (λ k. inr (b, m0, in-expr k)) (λ k. inr (c, m1, target-at r c (f .2) k)) j) i
     down r (Output a b c) f h =
         ⊎-elim (λ i. ⊎-elim (λ j. inl j) (λ j. ⊎-elim (λ k. inr (b, m0, in-expr k)) (λ k. inr (c, m1, in-expr k)) j) i) (λ i. absurd i) (in-process-part M _ h)
@@ -216,14 +217,14 @@ module _ (rows : List ℤ) (M : Mark) where
     down r (If a) f h = ⊎-elim (λ i. inr (a, m0, in-choices i)) (λ i. inr (a, m0, in-members i)) (in-process-part M _ h)
     down r (While a b) f h =
         ⊎-elim (λ i. inr (a, m0, in-expr i))
-        (λ i. ⊎-elim (λ j. inr (b, m1, in-process j)) (λ j. absurd j) (split-member M (partAt rows b .process) empty i)) (in-process-part M _ h)
+        (λ i. ⊎-elim (λ j. inr (b, m1, in-process j)) (λ j. absurd j) (split-member M (contentAt rows b .process) empty i)) (in-process-part M _ h)
     down r (Alt a) f h = ⊎-elim (λ i. inr (a, m0, in-options i)) (λ i. inr (a, m0, in-members i)) (in-process-part M _ h)
     down r (Member a b) f h = ⊎-elim (down-member (Member a b) a b m0 m1) (λ i. ⊎-elim (λ j. absurd j) (λ j. absurd j) i) (in-link-part M _ _ _ h)
     down r (Choice a b c) f h =
         ⊎-elim (down-member (Choice a b c) a b m0 m1)
         (λ i. ⊎-elim (λ j. ⊎-elim (λ k. inr (c, m2, in-expr k)) (λ k. inr (b, m1, in-choices k)) j) (λ j. absurd j) i) (in-link-part M _ _ _ h)
-    down r (Alternative a b c) f h =
-        ⊎-elim (down-member (Alternative a b c) a b m0 m1)
+    down r (OptionRow a b c) f h =
+        ⊎-elim (down-member (OptionRow a b c) a b m0 m1)
         (λ i. ⊎-elim (λ j. absurd j) (λ j. ⊎-elim (λ k. inr (c, m2, in-guard k)) (λ k. inr (b, m1, in-options k)) j) i) (in-link-part M _ _ _ h)
     down r (Guard a b) f h = ⊎-elim (λ i. inr (a, m0, in-expr i)) (λ i. inr (b, m1, in-guard (inr i))) (in-guard-part M _ h)
     down r Other f h = absurd (in-no-part M h)

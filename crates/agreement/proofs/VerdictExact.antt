@@ -13,7 +13,7 @@ use Rattle.meaning.specs.Faults.{WellPlaced, Placed}
 use Rattle.meaning.specs.StageClaims.{OneTree}
 use Rattle.meaning.proofs.OneTreeLaw.{one-tree}
 use Rattle.meaning.proofs.AnswerLaws.{check-stages, First, here, later, first-found, found-first, none-found, found-none}
-use Rattle.agreement.specs.VerdictClaims.{Passed, WholeRows, EachFormed, EachPlaced, EachLimited, NoClash, Refused, not-whole, not-formed, not-placed, over-limit, clash, VerdictExact, RefusalLeast, OneTreeOfRows}
+use Rattle.agreement.specs.VerdictClaims.{Passed, WholeRows, EachFormed, EachPlaced, EachLimited, NoClash, RefusedWith, not-whole, not-formed, not-placed, over-limit, clash, VerdictExact, RefusalLeast, OneTreeOfRows}
 use Rattle.agreement.proofs.VerdictStages.{notWhole, whole-passes, whole-faults, form-passes, form-faults, tree-passes, tree-faults, limit-passes, limit-faults}
 use Rattle.agreement.proofs.UsageExact.{usage-passes, usage-faults}
 
@@ -35,11 +35,11 @@ module _ (rows : List ℤ) where
       each-more (p .0) (each-more (p .1) (each-more (p .2) (each-more (p .3) (each-more (usage-passes rows p .1 (h .4)) each-none))))
 
   -- a refusal whose number is known
-  numbered : (k : ℕ) (f : Refusal) → f .0 ≡ k → Refused rows k (f .1) → Refused rows (f .0) (f .1)
-  numbered k f e h = subst (λ (j : ℕ). Refused rows j (f .1)) (sym e) h
+  numbered : (k : ℕ) (f : Refusal) → f .0 ≡ k → RefusedWith rows k (f .1) → RefusedWith rows (f .0) (f .1)
+  numbered k f e h = subst (λ (j : ℕ). RefusedWith rows j (f .1)) (sym e) h
 
-  to-refused : (f : Refusal) → First rows f (numbersFault ∷ rowStages) → Refused rows (f .0) (f .1)
-  to-refused f (here e) = let h = whole-faults rows f .0 e in subst (λ (g : Refusal). Refused rows (g .0) (g .1)) (sym (h .1)) (not-whole (h .0))
+  to-refused : (f : Refusal) → First rows f (numbersFault ∷ rowStages) → RefusedWith rows (f .0) (f .1)
+  to-refused f (here e) = let h = whole-faults rows f .0 e in subst (λ (g : Refusal). RefusedWith rows (g .0) (g .1)) (sym (h .1)) (not-whole (h .0))
   to-refused f (later a (here e)) = let h = form-faults rows f .0 e in numbered 4 f (h .0) (not-formed (whole-passes rows .0 a) (h .1))
   to-refused f (later a (later b (here e))) =
       let h = tree-faults rows f .0 e in numbered 5 f (h .0) (not-placed (whole-passes rows .0 a) (form-passes rows .0 b) (h .1))
@@ -50,7 +50,7 @@ module _ (rows : List ℤ) where
       let h = usage-faults rows (a, b, c, d) (f .0) (f .1) .0 e in
       clash (whole-passes rows .0 a) (form-passes rows .0 b) (tree-passes rows .0 c) (limit-passes rows .0 d) h
 
-  from-refused : {number place : ℕ} → Refused rows number place → First rows (number, place) (numbersFault ∷ rowStages)
+  from-refused : {number place : ℕ} → RefusedWith rows number place → First rows (number, place) (numbersFault ∷ rowStages)
   from-refused (not-whole h) = here (whole-faults rows (notWhole rows) .1 (h, refl))
   from-refused (not-formed {r} w h) = later (whole-passes rows .1 w) (here (form-faults rows (4, r) .1 (refl, h)))
   from-refused (not-placed {r} w f h) = later (whole-passes rows .1 w) (later (form-passes rows .1 f) (here (tree-faults rows (5, r) .1 (refl, h))))

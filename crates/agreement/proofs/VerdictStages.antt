@@ -10,8 +10,10 @@ use lib.ListN.{length}
 use lib.Dec.{leb, eqb}
 use Rattle.meaning.specs.Basics.{ifElse, Lowest}
 use Rattle.meaning.specs.Limits.{maxRows}
-use Rattle.meaning.specs.Rows.{rowCount, declarations}
-use Rattle.meaning.specs.TableBytes.{Refusal, numbersFault}
+use Rattle.meaning.specs.Refusals.{Refusal}
+use Rattle.meaning.specs.Rows.{rowCount}
+use Rattle.meaning.specs.TableBytes.{numbersFault}
+use Rattle.meaning.specs.Declarations.{declarations}
 use Rattle.meaning.specs.Verdict.{formFault, treeFault, limitFault}
 use Rattle.meaning.specs.Faults.{WellFormed, WellPlaced, WithinLimits}
 use Rattle.meaning.specs.StageClaims.{Finds, FormStage, TreeStage, LimitStage}

@@ -8,12 +8,13 @@ use native.Mathlib.Omega.{arith}
 use native.Mathlib.Decide.{ℕ-discrete}
 use lib.ListN.{length, getD}
 use lib.Dec.{eqb, T, eqb→eq}
-use Rattle.meaning.specs.Rows.{ifElse}
-use Rattle.meaning.specs.Tree.{Action, stop, skip, sequence, parallel, assign, receive, send, conditional, loop, alternation, Process, node, Members, empty, also, actionOf, membersIn, rowsIn, rowsBeneath}
+use Rattle.meaning.specs.Basics.{ifElse}
+use Rattle.meaning.specs.Tree.{Action, stop, skip, sequence, parallel, assign, input, output, conditional, loop, alternation, Process, node, Processes, empty, also, actionOf, processesIn, rowsIn, rowsBeneath}
 use Rattle.meaning.specs.Settle.{byStep, mode}
 use Rattle.meaning.specs.State.{State, Program, processAt, whole}
-use Rattle.meaning.specs.Intent.{Sheet, Intent, waits, moves, inputsFrom, outputsTo, selects, intent}
-use Rattle.meaning.specs.Ready.{allIdle, live, intentAt}
+use Rattle.meaning.specs.Readings.{Sheet}
+use Rattle.meaning.specs.Intent.{Intent, waits, moves, inputsFrom, outputsTo, selects, intent}
+use Rattle.meaning.specs.Ready.{allIdle, isLive, intentAt}
 use Rattle.meaning.specs.Step.{Live}
 use Rattle.agreement.proofs.Again.{Out, Idle}
 use Rattle.agreement.proofs.Commute.{Legal, own, At, AtM, here, under, first, later}
@@ -24,11 +25,11 @@ use Rattle.agreement.proofs.Proper.{Proper, proper}
 -- ---- rows and processes
 
 mutual
-  pub sub-at : (p : Process) (r : ℕ) → List·Memᴰ r (rowsIn p) → (k : Action) × ((ms : Members) × Sub k r ms p)
+  pub sub-at : (p : Process) (r : ℕ) → List·Memᴰ r (rowsIn p) → (k : Action) × ((ms : Processes) × Sub k r ms p)
   sub-at (node k q ms) r (List·Memᴰ·head e) = (k, (ms, rw e self))
   sub-at (node k q ms) r (List·Memᴰ·tail m) = let (j, (ns, h)) = subM-at ms r m in (j, (ns, inside h))
 
-  subM-at : (ps : Members) (r : ℕ) → List·Memᴰ r (rowsBeneath ps) → (k : Action) × ((ms : Members) × SubM k r ms ps)
+  subM-at : (ps : Processes) (r : ℕ) → List·Memᴰ r (rowsBeneath ps) → (k : Action) × ((ms : Processes) × SubM k r ms ps)
   subM-at empty r m = absurd (List·Memᴰ·not-nil m)
   subM-at (also p ps) r m =
       ⊎-elim (λ (h : List·Memᴰ r (rowsIn p)). let (k, (ms, q)) = sub-at p r h in (k, (ms, front q)))
@@ -44,8 +45,8 @@ in-or-out r (x ∷ l) = go (ℕ-discrete r x) (in-or-out r l)
     go (no e) (inr o) = inr (λ m. elim m [ List·Memᴰ·head q ↦ e q | List·Memᴰ·tail n ↦ o n ])
 
 -- the process at the frontier
-abbrev Frontier : ℕ → List ℕ → (Action → Members → Type 0) → Type 0
-Frontier b s F = (k : Action) × ((ms : Members) × (F k ms × (getD s b 0 ≡ 1) × Idle (rowsBeneath ms) s))
+abbrev Frontier : ℕ → List ℕ → (Action → Processes → Type 0) → Type 0
+Frontier b s F = (k : Action) × ((ms : Processes) × (F k ms × (getD s b 0 ≡ 1) × Idle (rowsBeneath ms) s))
 
 module _ {b x v : ℕ} {s : List ℕ} where
   mutual
@@ -53,7 +54,7 @@ module _ {b x v : ℕ} {s : List ℕ} where
     at-sub (here {k} {r} {ms} e h m i l) = (k, (ms, (rw (← e) self, rw (← e) h, i)))
     at-sub (under h m) = let (k, (ms, (q, e, i))) = atM-sub m in (k, (ms, (inside q, e, i)))
 
-    atM-sub : {ps : Members} → AtM b x v s ps → Frontier b s (λ k ms. SubM k b ms ps)
+    atM-sub : {ps : Processes} → AtM b x v s ps → Frontier b s (λ k ms. SubM k b ms ps)
     atM-sub (first h) = let (k, (ms, (q, e, i))) = at-sub h in (k, (ms, (front q, e, i)))
     atM-sub (later h) = let (k, (ms, (q, e, i))) = atM-sub h in (k, (ms, (back q, e, i)))
 
@@ -75,8 +76,8 @@ acts-by-step sheet skip s r e = absurd (omega arith)
 acts-by-step sheet sequence s r e = absurd (omega arith)
 acts-by-step sheet parallel s r e = absurd (omega arith)
 acts-by-step sheet (assign v a b) s r e = refl
-acts-by-step sheet (receive i) s r e = refl
-acts-by-step sheet (send c a b) s r e = refl
+acts-by-step sheet (input i) s r e = refl
+acts-by-step sheet (output c a b) s r e = refl
 acts-by-step sheet (conditional ts) s r e = refl
 acts-by-step sheet (loop a b) s r e = refl
 acts-by-step sheet (alternation bs) s r e = refl
@@ -106,26 +107,26 @@ module _ (P : Program) (n : ℕ) (F : Fit P n) (sheet : Sheet) where
   -- row r is at the frontier, and would do what its action does
   pub record Works (s : State) (r : ℕ) : Type 0 where
     pub action : Action
-    pub members : Members
-    pub sub : Sub action r members (whole P)
+    pub listed : Processes
+    pub sub : Sub action r listed (whole P)
     pub runs : getD (s .states) r 0 ≡ 1
-    pub idle : Idle (rowsBeneath members) (s .states)
+    pub idle : Idle (rowsBeneath listed) (s .states)
     pub by-step : mode action ≡ byStep
     pub does : intentAt P sheet s r ≡ intent sheet action r (s .store)
 
   -- a live row would do what its action does
-  live-does : (s : State) (r : ℕ) (k : Action) (ms : Members) → processAt P r ≡ node k r ms → getD (s .states) r 0 ≡ 1 → Idle (rowsBeneath ms) (s .states) → intentAt P sheet s r ≡ intent sheet k r (s .store)
-  unfolding intentAt live
+  live-does : (s : State) (r : ℕ) (k : Action) (ms : Processes) → processAt P r ≡ node k r ms → getD (s .states) r 0 ≡ 1 → Idle (rowsBeneath ms) (s .states) → intentAt P sheet s r ≡ intent sheet k r (s .store)
+  unfolding intentAt isLive
   live-does s r k ms e u i = rw (e, u, all-idle (rowsBeneath ms) (s .states) i)
 
   -- a row that would do something is live
-  acts-live : (s : State) (r : ℕ) → acts (intentAt P sheet s r) ≡ 1 → (getD (s .states) r 0 ≡ 1) × Idle (rowsBeneath (membersIn (processAt P r))) (s .states)
-  unfolding intentAt live
-  acts-live s r = go (eqb (getD (s .states) r 0) 1) (allIdle (rowsBeneath (membersIn (processAt P r))) (s .states)) refl refl
+  acts-live : (s : State) (r : ℕ) → acts (intentAt P sheet s r) ≡ 1 → (getD (s .states) r 0 ≡ 1) × Idle (rowsBeneath (processesIn (processAt P r))) (s .states)
+  unfolding intentAt isLive
+  acts-live s r = go (eqb (getD (s .states) r 0) 1) (allIdle (rowsBeneath (processesIn (processAt P r))) (s .states)) refl refl
     where
-      go : (t u : Bool) → eqb (getD (s .states) r 0) 1 ≡ t → allIdle (rowsBeneath (membersIn (processAt P r))) (s .states) ≡ u
-          → acts (ifElse (t && u) (intent sheet (actionOf (processAt P r)) r (s .store)) waits) ≡ 1 → (getD (s .states) r 0 ≡ 1) × Idle (rowsBeneath (membersIn (processAt P r))) (s .states)
-      go true true e f h = (eqb-is (getD (s .states) r 0) 1 e, idle-all (rowsBeneath (membersIn (processAt P r))) (s .states) f)
+      go : (t u : Bool) → eqb (getD (s .states) r 0) 1 ≡ t → allIdle (rowsBeneath (processesIn (processAt P r))) (s .states) ≡ u
+          → acts (ifElse (t && u) (intent sheet (actionOf (processAt P r)) r (s .store)) waits) ≡ 1 → (getD (s .states) r 0 ≡ 1) × Idle (rowsBeneath (processesIn (processAt P r))) (s .states)
+      go true true e f h = (eqb-is (getD (s .states) r 0) 1 e, idle-all (rowsBeneath (processesIn (processAt P r))) (s .states) f)
       go true false e f h = absurd (omega arith)
       go false u e f h = absurd (omega arith)
 
@@ -135,12 +136,12 @@ module _ (P : Program) (n : ℕ) (F : Fit P n) (sheet : Sheet) where
       u : getD (s .states) r 0 ≡ 1
       u = acts-live s r h .0
 
-      found : (k : Action) (ms : Members) → Sub k r ms (whole P) → Works s r
+      found : (k : Action) (ms : Processes) → Sub k r ms (whole P) → Works s r
       found k ms q =
           let e = F .placed k r ms q in
           let f : Idle (rowsBeneath ms) (s .states) = rw e at (acts-live s r h .1) in
           let d = live-does s r k ms e u f in
-          record { action = k; members = ms; sub = q; runs = u; idle = f; by-step = acts-by-step sheet k s r (sym (ap acts d) ∙ h); does = d }
+          record { action = k; listed = ms; sub = q; runs = u; idle = f; by-step = acts-by-step sheet k s r (sym (ap acts d) ∙ h); does = d }
 
       go : List·Memᴰ r (rowsIn (whole P)) ⊎ Out r (rowsIn (whole P)) → Works s r
       go (inl m) = let (k, (ms, q)) = sub-at (whole P) r m in found k ms q
@@ -150,33 +151,33 @@ module _ (P : Program) (n : ℕ) (F : Fit P n) (sheet : Sheet) where
   pub live-works : (s : State) (r : ℕ) (a : Action) → Inv s → Live P s r a → mode a ≡ byStep → (W : Works s r) × (W .action ≡ a)
   live-works s r a i (Live.live {q = q₀} {ms = ms₀} e u h) b = go (in-or-out r (rowsIn (whole P)))
     where
-      found : (k : Action) (ms : Members) → Sub k r ms (whole P) → (W : Works s r) × (W .action ≡ a)
+      found : (k : Action) (ms : Processes) → Sub k r ms (whole P) → (W : Works s r) × (W .action ≡ a)
       found k ms q =
           let p = F .placed k r ms q in
           let z : node k r ms ≡ node a q₀ ms₀ = sym p ∙ e in
           let ka : k ≡ a = ap actionOf z in
-          let f : Idle (rowsBeneath ms) (s .states) = λ y m. h y (subst (λ (x : Members). List·Memᴰ y (rowsBeneath x)) (ap membersIn z) m) in
-          (record { action = k; members = ms; sub = q; runs = u; idle = f; by-step = ap mode ka ∙ b; does = live-does s r k ms p u f }, ka)
+          let f : Idle (rowsBeneath ms) (s .states) = λ y m. h y (subst (λ (x : Processes). List·Memᴰ y (rowsBeneath x)) (ap processesIn z) m) in
+          (record { action = k; listed = ms; sub = q; runs = u; idle = f; by-step = ap mode ka ∙ b; does = live-does s r k ms p u f }, ka)
 
       go : List·Memᴰ r (rowsIn (whole P)) ⊎ Out r (rowsIn (whole P)) → (W : Works s r) × (W .action ≡ a)
       go (inl m) = let (k, (ms, q)) = sub-at (whole P) r m in found k ms q
       go (inr o) = absurd (omega (arith, u, i .outside r o))
 
   -- it may make the changes that are its own
-  pub works-at : (s : State) (r x v : ℕ) → Inv s → (W : Works s r) → Legal x v r (W .members) → At r x v (s .states) (whole P)
-  works-at s r x v i W l = frontier (s .states) (W .action) r (W .members) x v (W .runs) (W .by-step) (W .idle) l (whole P) (W .sub) (i .good)
+  pub works-at : (s : State) (r x v : ℕ) → Inv s → (W : Works s r) → Legal x v r (W .listed) → At r x v (s .states) (whole P)
+  works-at s r x v i W l = frontier (s .states) (W .action) r (W .listed) x v (W .runs) (W .by-step) (W .idle) l (whole P) (W .sub) (i .good)
 
   -- it does what is its own to do
-  pub works-proper : (s : State) (r : ℕ) (W : Works s r) {w : Intent} → intentAt P sheet s r ≡ w → Proper (F .source) (F .sink) (W .action) (W .members) r w
+  pub works-proper : (s : State) (r : ℕ) (W : Works s r) {w : Intent} → intentAt P sheet s r ≡ w → Proper (F .source) (F .sink) (W .action) (W .listed) r w
   works-proper s r W h =
-      rw (← h, W .does) (proper (F .source) (F .sink) sheet (s .store) r (W .members) (W .action) (F .hosts (W .action) r (W .members) (W .sub)) (F .starts (W .action) r (W .members) (W .sub)))
+      rw (← h, W .does) (proper (F .source) (F .sink) sheet (s .store) r (W .listed) (W .action) (F .hosts (W .action) r (W .listed) (W .sub)) (F .starts (W .action) r (W .listed) (W .sub)))
 
   -- two such rows stand in two members of a PAR, and touch nothing in common
   pub works-apart : (s : State) (a b : ℕ) → Inv s → (A : Works s a) (B : Works s b) → a ≢ b → Apt (A .action) (B .action)
   works-apart s a b i A B ne =
       let h = apart a a 2 b b 2 (s .states) ne (whole P) (i .good) (works-at s a a 2 i A (own 0 refl refl)) (works-at s b b 2 i B (own 0 refl refl)) in
       let q = F .apart a b h in
-      rw (F .placed (A .action) a (A .members) (A .sub), F .placed (B .action) b (B .members) (B .sub)) at q
+      rw (F .placed (A .action) a (A .listed) (A .sub), F .placed (B .action) b (B .listed) (B .sub)) at q
 
   -- a row at the frontier would do what its action does
   pub frontier-does : (s : State) (r x v : ℕ) → At r x v (s .states) (whole P) → intentAt P sheet s r ≡ intent sheet (actionOf (processAt P r)) r (s .store)

@@ -5,16 +5,17 @@ use mathlib.Core.Option.{Option, none, some}
 use mathlib.Core.List.{List, [], _∷_, _++_, List·Memᴰ, Memᴰ·append-left, Memᴰ·append-right, Memᴰ·cast, List·Memᴰ·append-cases, List·Memᴰ·not-nil}
 use Prim.Native.Nat.{ℕ}
 use lib.Seq.{set-comm, getD-set-other}
-use Rattle.meaning.specs.Tree.{Receive, AltOption, Action, stop, skip, sequence, parallel, assign, receive, send, conditional, loop, alternation}
-use Rattle.meaning.specs.State.{Message, Store, Write, writeCell, writePlace, writeOutput, write, writeAll}
+use Rattle.meaning.specs.Tree.{ChannelInput, AltOption, Action, stop, skip, sequence, parallel, assign, input, output, conditional, loop, alternation}
+use Rattle.meaning.specs.State.{Store, Write, writeCell, writePlace, writeOutput, write, writeAll}
 use Rattle.meaning.specs.Usage.{standsIn, standsInGuards, changesBy, usesBy, ofGuard, ofGuards, changes, uses}
+use Rattle.meaning.specs.Values.{Message}
 use Rattle.agreement.proofs.Fit.{Apt}
 use Rattle.agreement.proofs.Near.{Near, near-then, near-same}
 use Rattle.agreement.proofs.Proper.{Owned}
 
 -- ---- what is changed is used
 
-guard-used : (o : Option Receive) (a : ℕ) → List·Memᴰ a (ofGuard changesBy o) → List·Memᴰ a (ofGuard usesBy o)
+guard-used : (o : Option ChannelInput) (a : ℕ) → List·Memᴰ a (ofGuard changesBy o) → List·Memᴰ a (ofGuard usesBy o)
 guard-used none a h = h
 guard-used (some i) a h = Memᴰ·append-left (standsIn (i .subscript) ++ standsIn (i .target .subscript)) h
 
@@ -30,8 +31,8 @@ changed-used skip a h = h
 changed-used sequence a h = h
 changed-used parallel a h = h
 changed-used (assign v e f) a h = Memᴰ·append-left (standsIn e ++ standsIn f) h
-changed-used (receive i) a h = Memᴰ·append-left (standsIn (i .subscript) ++ standsIn (i .target .subscript)) h
-changed-used (send c e f) a h = absurd (List·Memᴰ·not-nil h)
+changed-used (input i) a h = Memᴰ·append-left (standsIn (i .subscript) ++ standsIn (i .target .subscript)) h
+changed-used (output c e f) a h = absurd (List·Memᴰ·not-nil h)
 changed-used (conditional ts) a h = absurd (List·Memᴰ·not-nil h)
 changed-used (loop e b) a h = absurd (List·Memᴰ·not-nil h)
 changed-used (alternation bs) a h = Memᴰ·append-right (standsInGuards bs) (guards-used bs a h)

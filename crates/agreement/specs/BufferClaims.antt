@@ -6,14 +6,15 @@ use mathlib.Core.Option.{none, some}
 use mathlib.Core.List.{List, []}
 use Prim.Native.Nat.{ℕ, _+_, _<_, _≤_}
 use lib.IntN.{ℤ, pos}
-use lib.ListN.{length, getD}
+use lib.ListN.{length, getD, getElem?}
 use Rattle.meaning.specs.declared.Outcome.{Outcome}
 use Rattle.meaning.specs.declared.Answer.the-variants.{Ran}
-use Rattle.meaning.specs.Limits.{maxRows, maxCells, maxPorts, maxCapacity}
-use Rattle.meaning.specs.Rows.{rowCount, declarations}
-use Rattle.meaning.specs.Declarations.{sumBelow, hasRole, portsAt, capacityAt, totalCells, totalPorts}
-use Rattle.meaning.specs.State.{Message, State}
-use Rattle.meaning.specs.Intent.{Sheet, entry}
+use Rattle.meaning.specs.Limits.{maxRows, maxCells, maxHostChannels, maxCapacity}
+use Rattle.meaning.specs.Rows.{rowCount}
+use Rattle.meaning.specs.Declarations.{declarations, sumBelow, hasRole, hostChannelsAt, capacityAt, totalCells, hostChannels}
+use Rattle.meaning.specs.Values.{Message}
+use Rattle.meaning.specs.State.{State}
+use Rattle.meaning.specs.Readings.{Sheet}
 use Rattle.meaning.specs.Buffers.{Buffers, tooShort, encode}
 use Rattle.meaning.specs.Decode.{decode}
 use Rattle.meaning.specs.PrintedForms.{Each}
@@ -26,9 +27,9 @@ pub record LongEnough (b : Buffers) : Type 0 where
   pub cells : maxCells ≤ length (b .cells)
   pub marks : maxCells ≤ length (b .marks)
   pub states : maxRows ≤ length (b .states)
-  pub places : maxPorts ≤ length (b .places)
+  pub places : maxHostChannels ≤ length (b .places)
   pub numbers : maxCapacity ≤ length (b .numbers)
-  pub counts : maxPorts ≤ length (b .counts)
+  pub counts : maxHostChannels ≤ length (b .counts)
 
 abbrev pub TooShortExactly : Type 0
 TooShortExactly = (b : Buffers) → (tooShort b ≡ false) ↔ LongEnough b
@@ -43,9 +44,9 @@ IsNumber m = (z : ℤ) × (m ≡ some z)
 pub record AsDeclared (rows : List ℤ) (s : State) : Type 0 where
   pub states : length (s .states) ≡ rowCount rows
   pub cells : length (s .store .cells) ≡ totalCells rows
-  pub places : length (s .store .places) ≡ totalPorts 1 rows
-  pub outputs : length (s .store .outputs) ≡ totalPorts 2 rows
-  pub numbers : (port : ℕ) → Each IsNumber (getD (s .store .outputs) port [])
+  pub places : length (s .store .places) ≡ hostChannels 1 rows
+  pub outputs : length (s .store .outputs) ≡ hostChannels 2 rows
+  pub numbers : (channel : ℕ) → Each IsNumber (getD (s .store .outputs) channel [])
 
 abbrev pub ReachedAsDeclared : Type 0
 ReachedAsDeclared = (rows : List ℤ) (sheet : Sheet) (s : State) → check rows ≡ none → Reached rows sheet s → AsDeclared rows s
@@ -54,11 +55,11 @@ ReachedAsDeclared = (rows : List ℤ) (sheet : Sheet) (s : State) → check rows
 
 -- position i of a list holds v
 abbrev pub HoldsAt : {A : Type 0} → List A → ℕ → A → Type 0
-HoldsAt l i v = entry l i ≡ some v
+HoldsAt l i v = getElem? l i ≡ some v
 
 -- "what is past the limit is untouched", and the buffer is as long as it was
 pub record UntouchedPast {A : Type 0} (limit : ℕ) (before after : List A) : Type 0 where
-  pub past-limit : (i : ℕ) → limit ≤ i → entry after i ≡ entry before i
+  pub past-limit : (i : ℕ) → limit ≤ i → getElem? after i ≡ getElem? before i
   pub as-long : length after ≡ length before
 
 module _ (rows : List ℤ) (r : ℕ) where
@@ -68,15 +69,15 @@ module _ (rows : List ℤ) (r : ℕ) where
 
   -- its number among those channels, "in row order"
   abbrev pub outputNumber : ℕ
-  outputNumber = sumBelow (portsAt 2 rows) r
+  outputNumber = sumBelow (hostChannelsAt 2 rows) r
 
   -- "A strip follows the one before it by capacity": the sum of the capacities that rows before it declare
   abbrev pub stripBegins : ℕ
   stripBegins = sumBelow (capacityAt rows) r
 
   -- "An output channel's list is what its host writes passed"
-  abbrev pub listOf : State → List Message
-  listOf s = getD (s .store .outputs) outputNumber []
+  abbrev pub listIn : State → List Message
+  listIn s = getD (s .store .outputs) outputNumber []
 
 -- "A run leaves cells, set marks, row states, places in the readings, and each output channel's strip and count, all in row order.
 -- ... Unset cells and unused places hold 0": the buffers `after` a run that lent them as they were `before`
@@ -87,20 +88,20 @@ pub record BuffersHold (rows : List ℤ) (s : State) (before after : Buffers) : 
   pub row-state : (r n : ℕ) → HoldsAt (s .states) r n → HoldsAt (after .states) r n
   pub unused-state : (r : ℕ) → rowCount rows ≤ r → r < maxRows → HoldsAt (after .states) r 0
   pub place : (c n : ℕ) → HoldsAt (s .store .places) c n → HoldsAt (after .places) c n
-  pub unused-place : (c : ℕ) → totalPorts 1 rows ≤ c → c < maxPorts → HoldsAt (after .places) c 0
+  pub unused-place : (c : ℕ) → hostChannels 1 rows ≤ c → c < maxHostChannels → HoldsAt (after .places) c 0
   -- "the strip holds that list, and the count is its length"
-  pub strip : (r : ℕ) → ToHost rows r → (i : ℕ) (z : ℤ) → HoldsAt (listOf rows r s) i (some z) → HoldsAt (after .numbers) (stripBegins rows r + i) z
-  pub unused-in-strip : (r : ℕ) → ToHost rows r → (i : ℕ) → length (listOf rows r s) ≤ i → i < capacityAt rows r
+  pub strip : (r : ℕ) → ToHost rows r → (i : ℕ) (z : ℤ) → HoldsAt (listIn rows r s) i (some z) → HoldsAt (after .numbers) (stripBegins rows r + i) z
+  pub unused-in-strip : (r : ℕ) → ToHost rows r → (i : ℕ) → length (listIn rows r s) ≤ i → i < capacityAt rows r
       → HoldsAt (after .numbers) (stripBegins rows r + i) (pos 0)
   pub unused-number : (i : ℕ) → stripBegins rows (declarations rows) ≤ i → i < maxCapacity → HoldsAt (after .numbers) i (pos 0)
-  pub count : (r : ℕ) → ToHost rows r → HoldsAt (after .counts) (outputNumber rows r) (length (listOf rows r s))
-  pub unused-count : (c : ℕ) → totalPorts 2 rows ≤ c → c < maxPorts → HoldsAt (after .counts) c 0
+  pub count : (r : ℕ) → ToHost rows r → HoldsAt (after .counts) (outputNumber rows r) (length (listIn rows r s))
+  pub unused-count : (c : ℕ) → hostChannels 2 rows ≤ c → c < maxHostChannels → HoldsAt (after .counts) c 0
   pub cells-past : UntouchedPast maxCells (before .cells) (after .cells)
   pub marks-past : UntouchedPast maxCells (before .marks) (after .marks)
   pub states-past : UntouchedPast maxRows (before .states) (after .states)
-  pub places-past : UntouchedPast maxPorts (before .places) (after .places)
+  pub places-past : UntouchedPast maxHostChannels (before .places) (after .places)
   pub numbers-past : UntouchedPast maxCapacity (before .numbers) (after .numbers)
-  pub counts-past : UntouchedPast maxPorts (before .counts) (after .counts)
+  pub counts-past : UntouchedPast maxHostChannels (before .counts) (after .counts)
 
 -- what `encode` leaves of a reached state holds it so, and nothing else does
 abbrev pub EncodeHolds : Type 0

@@ -11,7 +11,8 @@ use Rattle.meaning.specs.declared.Outcome.{Outcome}
 use Rattle.meaning.specs.declared.Outcome.the-variants.{Spent}
 use Rattle.meaning.specs.declared.Answer.the-variants.{Refused, Ran}
 use Rattle.meaning.specs.Limits.{maxBudget, maxCells}
-use Rattle.meaning.specs.TableBytes.{Refusal, bytesFault, rowsOf}
+use Rattle.meaning.specs.Refusals.{Refusal}
+use Rattle.meaning.specs.TableBytes.{bytesFault, rowsOf}
 use Rattle.meaning.specs.State.{State, program}
 use Rattle.meaning.specs.Labels.{Label}
 use Rattle.meaning.specs.Sheet.{sheetFault, readings}
@@ -29,14 +30,14 @@ abbrev pub taskOfBytes : List ℕ → List ℕ → List ℕ → ℕ → Task
 taskOfBytes table sheet choices budget = record { rows = rowsOf table; sheet = sheet; choices = choices; budget = budget }
 
 -- "A refusal changes no buffer lent to us"
-abbrev pub Untouched : (Buffers → Reply) → Type 0
-Untouched call = (b : Buffers) (number place : ℕ) → call b .answer ≡ Refused number place → call b .buffers ≡ b
+abbrev pub LeavesBuffers : (Buffers → Reply) → Type 0
+LeavesBuffers call = (b : Buffers) (number place : ℕ) → call b .answer ≡ Refused number place → call b .buffers ≡ b
 
 abbrev pub RefusedUntouched : Type 0
-RefusedUntouched = (t : Task) → Untouched (reply t)
+RefusedUntouched = (t : Task) → LeavesBuffers (reply t)
 
 abbrev pub RefusedUntouchedBytes : Type 0
-RefusedUntouchedBytes = (table sheet choices : List ℕ) (budget : ℕ) → Untouched (replyToBytes table sheet choices budget)
+RefusedUntouchedBytes = (table sheet choices : List ℕ) (budget : ℕ) → LeavesBuffers (replyToBytes table sheet choices budget)
 
 -- "a lent buffer is too short": refused by 1, whatever else is at fault, faulty bytes included
 abbrev pub RefusesShort : (Buffers → Reply) → Type 0

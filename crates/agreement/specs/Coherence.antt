@@ -8,15 +8,13 @@ use lib.IntN.{ℤ}
 use lib.ListN.{length, getD}
 use Rattle.meaning.specs.Rows.{rowCount}
 use Rattle.meaning.specs.Declarations.{sinkAt}
-use Rattle.meaning.specs.Tree.{Expr, IfChoice, AltOption, Action, sequence, parallel, conditional, loop, alternation, Process, node, Members, also, rowsIn, rowsBeneath}
-use Rattle.meaning.specs.Settle.{stateOf, anyOf}
+use Rattle.meaning.specs.Tree.{Expr, IfChoice, AltOption, Action, sequence, parallel, conditional, loop, alternation, Process, node, Processes, also, rowsIn, rowsBeneath}
 use Rattle.meaning.specs.SettlingRules.{Among, All, Inside}
-use Rattle.meaning.specs.State.{State, program, whole}
-use Rattle.meaning.specs.Intent.{Sheet}
-use Rattle.meaning.specs.Run.{isStopped}
-use Rattle.meaning.specs.Order.{OrderOf}
+use Rattle.meaning.specs.State.{State, stateOf, anyOf, program, whole}
+use Rattle.meaning.specs.Labels.{Label}
+use Rattle.meaning.specs.Readings.{Sheet}
+use Rattle.meaning.specs.Order.{isStopped, OrderOf}
 use Rattle.meaning.specs.Answers.{check}
-use Rattle.meaning.specs.Ready.{Label}
 use mathlib.Core.Option.{none}
 
 -- the states of a row
@@ -26,10 +24,10 @@ pub data RowState : ℕ → Type 0 where
   ended : RowState 2
   stopped : (reason : ℕ) → RowState (10 + reason)
 
--- one member stands before another
-pub data Before (p q : Process) : Members → Type 0 where
-  first : {ms : Members} → Among q ms → Before p q (also p ms)
-  later : {o : Process} {ms : Members} → Before p q ms → Before p q (also o ms)
+-- one process stands before another
+pub data Before (p q : Process) : Processes → Type 0 where
+  before-first : {ms : Processes} → Among q ms → Before p q (also p ms)
+  before-later : {o : Process} {ms : Processes} → Before p q ms → Before p q (also o ms)
 
 module _ (s : List ℕ) where
   -- all these rows are idle
@@ -40,30 +38,30 @@ module _ (s : List ℕ) where
   abbrev pub NoneAtWork : List ℕ → Type 0
   NoneAtWork rs = (x : ℕ) → List·Memᴰ x rs → (getD s x 0 ≡ 0) ⊎ (getD s x 0 ≡ 2)
 
-  -- members that have ended, then at most one that is running or stopped, then idle ones: before one that is not idle all have ended
-  abbrev pub OneByOne : Members → Type 0
+  -- processes that have ended, then at most one that is running or stopped, then idle ones: before one that is not idle all have ended
+  abbrev pub OneByOne : Processes → Type 0
   OneByOne ms = (p q : Process) → Before p q ms → stateOf s q ≢ 0 → stateOf s p ≡ 2
 
   -- at most one is not idle
-  abbrev pub AtMostOne : Members → Type 0
+  abbrev pub AtMostOne : Processes → Type 0
   AtMostOne ms = (p q : Process) → Among p ms → Among q ms → stateOf s p ≢ 0 → stateOf s q ≢ 0 → p ≡ q
 
   -- the row states of a process and of all that stands in it
   pub record CoherentRows (whole : Process) : Type 0 where
     pub known-states : (x : ℕ) → RowState (getD s x 0)
-    pub beneath-idle : (a : Action) (r : ℕ) (ms : Members) → Inside whole (node a r ms) → getD s r 0 ≡ 0 → AllIdle (rowsBeneath ms)
-    pub beneath-ended : (a : Action) (r : ℕ) (ms : Members) → Inside whole (node a r ms) → getD s r 0 ≡ 2 → NoneAtWork (rowsBeneath ms)
-    pub beneath-stopped : (a : Action) (r : ℕ) (ms : Members) → Inside whole (node a r ms) → (reason : ℕ) → getD s r 0 ≡ 10 + reason → AllIdle (rowsBeneath ms)
+    pub beneath-idle : (a : Action) (r : ℕ) (ms : Processes) → Inside whole (node a r ms) → getD s r 0 ≡ 0 → AllIdle (rowsBeneath ms)
+    pub beneath-ended : (a : Action) (r : ℕ) (ms : Processes) → Inside whole (node a r ms) → getD s r 0 ≡ 2 → NoneAtWork (rowsBeneath ms)
+    pub beneath-stopped : (a : Action) (r : ℕ) (ms : Processes) → Inside whole (node a r ms) → (reason : ℕ) → getD s r 0 ≡ 10 + reason → AllIdle (rowsBeneath ms)
     -- a SEQ, and one that has ended
-    pub in-sequence : (r : ℕ) (ms : Members) → Inside whole (node sequence r ms) → OneByOne ms
-    pub ended-sequence : (r : ℕ) (ms : Members) → Inside whole (node sequence r ms) → getD s r 0 ≡ 2 → All 2 s ms
+    pub in-sequence : (r : ℕ) (ms : Processes) → Inside whole (node sequence r ms) → OneByOne ms
+    pub ended-sequence : (r : ℕ) (ms : Processes) → Inside whole (node sequence r ms) → getD s r 0 ≡ 2 → All 2 s ms
     -- a PAR that has ended
-    pub ended-parallel : (r : ℕ) (ms : Members) → Inside whole (node parallel r ms) → getD s r 0 ≡ 2 → All 2 s ms
+    pub ended-parallel : (r : ℕ) (ms : Processes) → Inside whole (node parallel r ms) → getD s r 0 ≡ 2 → All 2 s ms
     -- an IF, an ALT, a WHILE, and a WHILE that has ended
-    pub in-conditional : (ts : List IfChoice) (r : ℕ) (ms : Members) → Inside whole (node (conditional ts) r ms) → AtMostOne ms
-    pub in-alternation : (bs : List AltOption) (r : ℕ) (ms : Members) → Inside whole (node (alternation bs) r ms) → AtMostOne ms
-    pub in-loop : (e : Expr) (b r : ℕ) (ms : Members) → Inside whole (node (loop e b) r ms) → AtMostOne ms
-    pub ended-loop : (e : Expr) (b r : ℕ) (ms : Members) → Inside whole (node (loop e b) r ms) → getD s r 0 ≡ 2 → AllIdle (rowsBeneath ms)
+    pub in-conditional : (ts : List IfChoice) (r : ℕ) (ms : Processes) → Inside whole (node (conditional ts) r ms) → AtMostOne ms
+    pub in-alternation : (bs : List AltOption) (r : ℕ) (ms : Processes) → Inside whole (node (alternation bs) r ms) → AtMostOne ms
+    pub in-loop : (e : Expr) (b r : ℕ) (ms : Processes) → Inside whole (node (loop e b) r ms) → AtMostOne ms
+    pub ended-loop : (e : Expr) (b r : ℕ) (ms : Processes) → Inside whole (node (loop e b) r ms) → getD s r 0 ≡ 2 → AllIdle (rowsBeneath ms)
     -- rows that are no process of the whole, such as those of guards
     pub no-process : (x : ℕ) → ¬ List·Memᴰ x (rowsIn whole) → getD s x 0 ≡ 0
 
@@ -74,7 +72,7 @@ pub record Coherent (rows : List ℤ) (sheet : Sheet) (s : State) : Type 0 where
   -- no channel has given more than its values
   pub places-left : (c : ℕ) → getD (s .store .places) c 0 ≤ length (getD sheet c [])
   -- no list is longer than the capacity of its channel, which row r declares
-  pub room-kept : (r : ℕ) → sinkAt rows r .host ≡ true → length (getD (s .store .outputs) (sinkAt rows r .port) []) ≤ sinkAt rows r .capacity
+  pub room-kept : (r : ℕ) → sinkAt rows r .host ≡ true → length (getD (s .store .outputs) (sinkAt rows r .number) []) ≤ sinkAt rows r .capacity
 
 -- every state that an order of an accepted table reaches is coherent
 abbrev pub OrdersCoherent : Type 0
@@ -85,13 +83,13 @@ abbrev pub EndedOrBroken : Type 0
 EndedOrBroken = (rows : List ℤ) → check rows ≡ none → (sheet : Sheet) (l : List Label) (s : State) → OrderOf rows sheet l s
     → getD (s .states) (program rows .root) 0 ≡ 2 → anyOf isStopped (s .states) ≡ false
 
--- in such a state all beneath a process is idle where its members are
-abbrev pub MembersTell : Type 0
-MembersTell = (rows : List ℤ) → check rows ≡ none → (sheet : Sheet) (l : List Label) (s : State) → OrderOf rows sheet l s
-    → (a : Action) (r : ℕ) (ms : Members) → Inside (whole (program rows)) (node a r ms) → All 0 (s .states) ms → AllIdle (s .states) (rowsBeneath ms)
+-- in such a state all beneath a process is idle where the processes directly beneath it are
+abbrev pub ProcessesTell : Type 0
+ProcessesTell = (rows : List ℤ) → check rows ≡ none → (sheet : Sheet) (l : List Label) (s : State) → OrderOf rows sheet l s
+    → (a : Action) (r : ℕ) (ms : Processes) → Inside (whole (program rows)) (node a r ms) → All 0 (s .states) ms → AllIdle (s .states) (rowsBeneath ms)
 
 -- "when a WHILE's body ends, every row beneath the WHILE becomes idle": in no such state has the body of a running WHILE ended
 abbrev pub WhileReset : Type 0
 WhileReset = (rows : List ℤ) → check rows ≡ none → (sheet : Sheet) (l : List Label) (s : State) → OrderOf rows sheet l s
-    → (e : Expr) (b r : ℕ) (ms : Members) → Inside (whole (program rows)) (node (loop e b) r ms) → getD (s .states) r 0 ≡ 1
+    → (e : Expr) (b r : ℕ) (ms : Processes) → Inside (whole (program rows)) (node (loop e b) r ms) → getD (s .states) r 0 ≡ 1
     → (body : Process) → Among body ms → stateOf (s .states) body ≢ 2

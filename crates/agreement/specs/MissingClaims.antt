@@ -12,76 +12,78 @@ use Rattle.meaning.specs.declared.Value.the-variants.{Number, Missing}
 use Rattle.meaning.specs.declared.Index.the-variants.{At, Fails}
 use Rattle.meaning.specs.Limits.{maxCells}
 use Rattle.meaning.specs.Declarations.{Variable, Channel, sumBelow, cellsAt, variables}
-use Rattle.meaning.specs.Tree.{Expr, element, monadic, dyadic, Receive, IfChoice, AltOption, Action, assign, receive, send, conditional, loop, alternation}
-use Rattle.meaning.specs.Values.{decides, value, index}
-use Rattle.meaning.specs.State.{Message, State, Program, program, Effect}
-use Rattle.meaning.specs.Intent.{Sheet, intent}
-use Rattle.meaning.specs.Ready.{Label, own, pass, take, takeFrom, ready, after}
+use Rattle.meaning.specs.Tree.{Expr, element, monadic, dyadic, ChannelInput, IfChoice, AltOption, Action, assign, input, output, conditional, loop, alternation}
+use Rattle.meaning.specs.Values.{Message, decides, value, index}
+use Rattle.meaning.specs.State.{State, Program, program, Effect}
+use Rattle.meaning.specs.Labels.{Label, own, pass, takeOption, takeWithOutput}
+use Rattle.meaning.specs.Readings.{Sheet}
+use Rattle.meaning.specs.Intent.{intent}
+use Rattle.meaning.specs.Ready.{ready, after}
 use Rattle.meaning.specs.Order.{OrderOf}
-use Rattle.meaning.specs.Run.{Result, go}
+use Rattle.meaning.specs.Run.{RunResult, go}
 use Rattle.meaning.specs.Buffers.{Buffers, sized, mark, numberIn, encode, decoded}
 use Rattle.meaning.specs.Answers.{check}
-use Rattle.meaning.specs.Printing.{Line, line, var, runLines, valueBytes}
-use Rattle.meaning.specs.Step.{channelOf, Holds, Refuted, Complete, AllComplete, Lacks, Inner, Host, Sends, Live, becomes, effect, Allows, Leaves, Step}
+use Rattle.meaning.specs.Printing.{Line, line, varWord, runLines, valueBytes}
+use Rattle.meaning.specs.Step.{channelElement, Holds, Refuted, Complete, AllComplete, Lacks, InnerInput, HostInput, InnerOutput, Live, becomes, effect, Allows, Leaves, Step}
 use Rattle.agreement.specs.Statements.{Reached}
 
 -- a cell of a state: none where it is unset
-abbrev pub cellOf : State → ℕ → Message
-cellOf s a = getD (s .store .cells) a none
+abbrev pub cellAt : State → ℕ → Message
+cellAt s a = getD (s .store .cells) a none
 
 module _ (P : Program) (sheet : Sheet) (s : State) where
   -- the step of a label hands a message to a cell: a rule for each way
   pub data Delivers : Label → ℕ → Message → Type 0 where
     by-assignment : {r a : ℕ} {v : Variable} {e f : Expr} {z : ℤ} → Live P s r (assign v e f)
         → index (s .store .cells) (v .first) (v .size) e ≡ At a → value (s .store .cells) f ≡ Number z → Delivers (own r) a (some z)
-    by-communication : {r o d a : ℕ} {i : Receive} {c : Channel} {e f : Expr} {m : Message} → Live P s r (receive i) → Live P s o (send c e f)
-        → Inner (s .store) i d a → Sends (s .store) c e f d m → Delivers (pass r o) a m
-    by-reading : {r a n : ℕ} {i : Receive} {v : Message} → Live P s r (receive i) → Host sheet (s .store) i a v n → Delivers (own r) a v
-    by-option-reading : {r a n : ℕ} {bs : List AltOption} {b : AltOption} {i : Receive} {v : Message} → Live P s r (alternation bs)
+    by-communication : {r o d a : ℕ} {i : ChannelInput} {c : Channel} {e f : Expr} {m : Message} → Live P s r (input i) → Live P s o (output c e f)
+        → InnerInput (s .store) i d a → InnerOutput (s .store) c e f d m → Delivers (pass r o) a m
+    by-reading : {r a n : ℕ} {i : ChannelInput} {v : Message} → Live P s r (input i) → HostInput sheet (s .store) i a v n → Delivers (own r) a v
+    by-option-reading : {r a n : ℕ} {bs : List AltOption} {b : AltOption} {i : ChannelInput} {v : Message} → Live P s r (alternation bs)
         → AllComplete (s .store .cells) bs → List·Memᴰ b bs → Holds (s .store .cells) (b .guard .boolean) → b .guard .input ≡ some i
-        → Host sheet (s .store) i a v n → Delivers (take r (b .row)) a v
-    by-option-communication : {r o d a : ℕ} {bs : List AltOption} {b : AltOption} {i : Receive} {c : Channel} {e f : Expr} {m : Message}
-        → Live P s r (alternation bs) → AllComplete (s .store .cells) bs → List·Memᴰ b bs → Live P s o (send c e f)
-        → Holds (s .store .cells) (b .guard .boolean) → b .guard .input ≡ some i → Inner (s .store) i d a → Sends (s .store) c e f d m
-        → Delivers (takeFrom r (b .row) o) a m
+        → HostInput sheet (s .store) i a v n → Delivers (takeOption r (b .row)) a v
+    by-option-communication : {r o d a : ℕ} {bs : List AltOption} {b : AltOption} {i : ChannelInput} {c : Channel} {e f : Expr} {m : Message}
+        → Live P s r (alternation bs) → AllComplete (s .store .cells) bs → List·Memᴰ b bs → Live P s o (output c e f)
+        → Holds (s .store .cells) (b .guard .boolean) → b .guard .input ≡ some i → InnerInput (s .store) i d a → InnerOutput (s .store) c e f d m
+        → Delivers (takeWithOutput r (b .row) o) a m
 
   -- the step of a label takes an absent reading from the host for a cell
   pub data ReadsAbsent : Label → ℕ → Type 0 where
-    input-absent : {r a n : ℕ} {i : Receive} → Live P s r (receive i) → Host sheet (s .store) i a none n → ReadsAbsent (own r) a
-    option-absent : {r a n : ℕ} {bs : List AltOption} {b : AltOption} {i : Receive} → Live P s r (alternation bs)
+    input-absent : {r a n : ℕ} {i : ChannelInput} → Live P s r (input i) → HostInput sheet (s .store) i a none n → ReadsAbsent (own r) a
+    option-absent : {r a n : ℕ} {bs : List AltOption} {b : AltOption} {i : ChannelInput} → Live P s r (alternation bs)
         → AllComplete (s .store .cells) bs → List·Memᴰ b bs → Holds (s .store .cells) (b .guard .boolean) → b .guard .input ≡ some i
-        → Host sheet (s .store) i a none n → ReadsAbsent (take r (b .row)) a
+        → HostInput sheet (s .store) i a none n → ReadsAbsent (takeOption r (b .row)) a
 
 -- a step leaves every cell as it was, but for one to which it hands a message: that cell holds the message
 abbrev pub SetOnly : Type 0
 SetOnly = (P : Program) (sheet : Sheet) (s : State) (x : Label) (t : State) → Step P sheet s x t → (a : ℕ)
-    → (cellOf t a ≡ cellOf s a) ⊎ ((m : Message) × Delivers P sheet s x a m × (cellOf t a ≡ m))
+    → (cellAt t a ≡ cellAt s a) ⊎ ((m : Message) × Delivers P sheet s x a m × (cellAt t a ≡ m))
 
 -- a cell that holds a number after a step held it before, or the step assigned or input that number
 abbrev pub SetByNumber : Type 0
 SetByNumber = (P : Program) (sheet : Sheet) (s : State) (x : Label) (t : State) → Step P sheet s x t → (a : ℕ) (z : ℤ)
-    → cellOf t a ≡ some z → (cellOf s a ≡ some z) ⊎ Delivers P sheet s x a (some z)
+    → cellAt t a ≡ some z → (cellAt s a ≡ some z) ⊎ Delivers P sheet s x a (some z)
 
 -- a cell that is unset after a step was unset before, or the step took an absent reading for it
 abbrev pub OnlyAbsentUnsets : Type 0
 OnlyAbsentUnsets = (P : Program) (sheet : Sheet) (s : State) (x : Label) (t : State) → Step P sheet s x t → (a : ℕ)
-    → cellOf t a ≡ none → (cellOf s a ≡ none) ⊎ ReadsAbsent P sheet s x a
+    → cellAt t a ≡ none → (cellAt s a ≡ none) ⊎ ReadsAbsent P sheet s x a
 
 -- a step that hands a message to a cell leaves that message in it
 abbrev pub DeliveredHolds : Type 0
 DeliveredHolds = (rows : List ℤ) (sheet : Sheet) (s : State) (x : Label) (t : State) → Step (program rows) sheet s x t → (a : ℕ) (m : Message)
-    → Delivers (program rows) sheet s x a m → a < length (s .store .cells) → cellOf t a ≡ m
+    → Delivers (program rows) sheet s x a m → a < length (s .store .cells) → cellAt t a ≡ m
 
 -- "An empty field is an absent reading: the input takes place and makes its target unset"
 abbrev pub AbsentUnsets : Type 0
 AbsentUnsets = (rows : List ℤ) (sheet : Sheet) (s : State) (x : Label) (a : ℕ) → ReadsAbsent (program rows) sheet s x a
     → ((e : Effect) × Allows (program rows) sheet s x e)
     × (check rows ≡ none → Reached rows sheet s → (t : State) × Step (program rows) sheet s x t)
-    × ((t : State) → Step (program rows) sheet s x t → cellOf t a ≡ none)
+    × ((t : State) → Step (program rows) sheet s x t → cellAt t a ≡ none)
 
 -- a number that a cell holds after an order of steps was handed to it by one of them, in the state that the steps before it left
 abbrev pub SetInOrder : Type 0
-SetInOrder = (rows : List ℤ) (sheet : Sheet) (l : List Label) (s : State) → OrderOf rows sheet l s → (a : ℕ) (z : ℤ) → cellOf s a ≡ some z
+SetInOrder = (rows : List ℤ) (sheet : Sheet) (l : List Label) (s : State) → OrderOf rows sheet l s → (a : ℕ) (z : ℤ) → cellAt s a ≡ some z
     → (before : List Label) × ((x : Label) × ((later : List Label) × ((u : State)
     × ((l ≡ before ++ (x ∷ later)) × OrderOf rows sheet before u × Delivers (program rows) sheet u x a (some z)))))
 
@@ -104,8 +106,8 @@ UnsetSubscript = (cells : List Message) (first n : ℕ) (e : Expr) → (index ce
 abbrev pub OfRow : ℕ → Label → Type 0
 OfRow r (own q) = q ≡ r
 OfRow r (pass i o) = (i ≡ r) ⊎ (o ≡ r)
-OfRow r (take q j) = q ≡ r
-OfRow r (takeFrom q j o) = (q ≡ r) ⊎ (o ≡ r)
+OfRow r (takeOption q j) = q ≡ r
+OfRow r (takeWithOutput q j o) = (q ≡ r) ⊎ (o ≡ r)
 
 -- an action lacks a value for one reason
 abbrev pub OneReason : Type 0
@@ -128,9 +130,9 @@ LackingOnlyStops = (rows : List ℤ) (sheet : Sheet) (s : State) (r reason : ℕ
     → OnlyStops rows sheet s r reason
 
 -- an input needs an unset cell: for its channel's subscript, then for its target's
-pub data InputNeedsUnset (cells : List Message) (i : Receive) : Type 0 where
+pub data InputNeedsUnset (cells : List Message) (i : ChannelInput) : Type 0 where
   in-channel : NeedsUnset cells (i .subscript) → InputNeedsUnset cells i
-  in-target : {e : ℕ} → channelOf cells i ≡ At e → NeedsUnset cells (i .target .subscript) → InputNeedsUnset cells i
+  in-target : {e : ℕ} → channelElement cells i ≡ At e → NeedsUnset cells (i .target .subscript) → InputNeedsUnset cells i
 
 -- so do the tests of an IF: the first that is not false
 pub data TestNeedsUnset (cells : List Message) : List IfChoice → Type 0 where
@@ -140,7 +142,7 @@ pub data TestNeedsUnset (cells : List Message) : List IfChoice → Type 0 where
 -- and the options of an ALT: the first that lacks a value
 pub data OptionNeedsUnset (cells : List Message) : List AltOption → Type 0 where
   in-boolean : {b : AltOption} {l : List AltOption} → NeedsUnset cells (b .guard .boolean) → OptionNeedsUnset cells (b ∷ l)
-  in-input : {b : AltOption} {l : List AltOption} {i : Receive} → Holds cells (b .guard .boolean) → b .guard .input ≡ some i → InputNeedsUnset cells i
+  in-guard-input : {b : AltOption} {l : List AltOption} {i : ChannelInput} → Holds cells (b .guard .boolean) → b .guard .input ≡ some i → InputNeedsUnset cells i
       → OptionNeedsUnset cells (b ∷ l)
   in-later-option : {b : AltOption} {l : List AltOption} → Complete cells b → OptionNeedsUnset cells l → OptionNeedsUnset cells (b ∷ l)
 
@@ -148,9 +150,9 @@ pub data OptionNeedsUnset (cells : List Message) : List AltOption → Type 0 whe
 pub data ActionNeedsUnset (cells : List Message) : Action → Type 0 where
   assign-to : {v : Variable} {e f : Expr} → NeedsUnset cells e → ActionNeedsUnset cells (assign v e f)
   assign-from : {v : Variable} {e f : Expr} {a : ℕ} → index cells (v .first) (v .size) e ≡ At a → NeedsUnset cells f → ActionNeedsUnset cells (assign v e f)
-  in-receive : {i : Receive} → InputNeedsUnset cells i → ActionNeedsUnset cells (receive i)
-  send-to : {c : Channel} {e f : Expr} → NeedsUnset cells e → ActionNeedsUnset cells (send c e f)
-  send-from : {c : Channel} {e f : Expr} {a : ℕ} → index cells (c .first) (c .size) e ≡ At a → NeedsUnset cells f → ActionNeedsUnset cells (send c e f)
+  in-input : {i : ChannelInput} → InputNeedsUnset cells i → ActionNeedsUnset cells (input i)
+  output-to : {c : Channel} {e f : Expr} → NeedsUnset cells e → ActionNeedsUnset cells (output c e f)
+  output-from : {c : Channel} {e f : Expr} {a : ℕ} → index cells (c .first) (c .size) e ≡ At a → NeedsUnset cells f → ActionNeedsUnset cells (output c e f)
   in-while : {e : Expr} {b : ℕ} → NeedsUnset cells e → ActionNeedsUnset cells (loop e b)
   in-if : {ts : List IfChoice} → TestNeedsUnset cells ts → ActionNeedsUnset cells (conditional ts)
   in-alt : {bs : List AltOption} → OptionNeedsUnset cells bs → ActionNeedsUnset cells (alternation bs)
@@ -166,7 +168,7 @@ UnsetStops = (rows : List ℤ) (sheet : Sheet) (s : State) (r : ℕ) (a : Action
 -- cell by cell, the lent buffers hold the mark of the cell and its number
 abbrev pub EncodedCells : Type 0
 EncodedCells = (rows : List ℤ) (s : State) (b : Buffers) (i : ℕ) → i < maxCells
-    → (getD (encode rows s b .marks) i 0 ≡ mark (cellOf s i)) × (getD (encode rows s b .cells) i (pos 0) ≡ numberIn (cellOf s i))
+    → (getD (encode rows s b .marks) i 0 ≡ mark (cellAt s i)) × (getD (encode rows s b .cells) i (pos 0) ≡ numberIn (cellAt s i))
 
 -- the lent buffers stand for the cells: filled up with unset ones to the limit; and just these, at their number
 abbrev pub EncodedDecodes : Type 0
@@ -209,13 +211,13 @@ cellNumber rows v i = sumBelow (cellsAt rows) v + i
 
 -- each printed line of a variable is of one of its cells, with that cell's value; its field is empty exactly if the cell's mark in the lent buffers is 0
 abbrev pub VariableLines : Type 0
-VariableLines = (rows : List ℤ) (r : Result) (l : Line) → List·Memᴰ l (runLines rows r) → l .what ≡ var
+VariableLines = (rows : List ℤ) (r : RunResult) (l : Line) → List·Memᴰ l (runLines rows r) → l .what ≡ varWord
     → let a = cellNumber rows (l .name) (l .at) in
     (l .at < cellsAt rows (l .name))
-    × (l .value ≡ cellOf (r .state) a)
+    × (l .value ≡ cellAt (r .state) a)
     × ((b : Buffers) → a < maxCells → (valueBytes (l .value) ≡ []) ↔ (getD (encode rows (r .state) b .marks) a 0 ≡ 0))
 
 -- and each cell of a variable has its line
 abbrev pub CellsPrinted : Type 0
-CellsPrinted = (rows : List ℤ) (r : Result) (v i : ℕ) → List·Memᴰ v (variables rows) → i < cellsAt rows v → cellNumber rows v i < length (r .state .store .cells)
-    → List·Memᴰ (line var v i (cellOf (r .state) (cellNumber rows v i))) (runLines rows r)
+CellsPrinted = (rows : List ℤ) (r : RunResult) (v i : ℕ) → List·Memᴰ v (variables rows) → i < cellsAt rows v → cellNumber rows v i < length (r .state .store .cells)
+    → List·Memᴰ (line varWord v i (cellAt (r .state) (cellNumber rows v i))) (runLines rows r)

@@ -7,7 +7,7 @@ use Prim.Native.Nat.{ℕ, _≤_}
 use lib.IntN.{ℤ}
 use lib.ListN.{length}
 use Rattle.meaning.specs.State.{State, program}
-use Rattle.meaning.specs.Ready.{Label}
+use Rattle.meaning.specs.Labels.{Label}
 use Rattle.meaning.specs.Step.{Step}
 use Rattle.meaning.specs.Order.{OrderOf, RestOf}
 use Rattle.meaning.specs.Sheet.{sheetFault, readings}

@@ -7,8 +7,9 @@ use Prim.Native.Nat.{ℕ, _≤_, _<_, _+_}
 use lib.IntN.{ℤ}
 use Rattle.meaning.specs.declared.Answer.the-variants.{Refused}
 use Rattle.meaning.specs.Limits.{maxRows, maxLines}
-use Rattle.meaning.specs.Rows.{rowCount, kindAt, declarations}
+use Rattle.meaning.specs.Rows.{rowCount, kindAt}
 use Rattle.meaning.specs.TableBytes.{rowsOf}
+use Rattle.meaning.specs.Declarations.{declarations}
 use Rattle.meaning.specs.Buffers.{Buffers}
 use Rattle.meaning.specs.Answers.{Task, check, checkBytes, reply, replyToBytes}
 
@@ -24,9 +25,9 @@ module _ (rows : List ℤ) where
     -- 3, "1,024" and "whole rows, 1,024 at most"
     rows-not-whole : {count : ℕ} → count ≤ maxRows → TableRefusal 3 count
     -- 4, "lowest row at fault"
-    misformed-row : {r : ℕ} → RowWithin r → TableRefusal 4 r
+    wrong-form : {r : ℕ} → RowWithin r → TableRefusal 4 r
     -- 5, "lowest row at fault, or the count of rows if there is no root"
-    misplaced-row : {r : ℕ} → r ≤ rowCount rows → rowCount rows ≤ maxRows → TableRefusal 5 r
+    wrong-place : {r : ℕ} → r ≤ rowCount rows → rowCount rows ≤ maxRows → TableRefusal 5 r
     -- 6, "declaration that passes a limit"
     passing-declaration : {r : ℕ} → r < declarations rows → RowWithin r → TableRefusal 6 r
     -- 7, 8, 9, "lowest PAR with a clash of that sort"
@@ -38,7 +39,7 @@ module _ (rows : List ℤ) where
     short-buffer : OneOfEleven 1 0
     of-table : {number place : ℕ} → TableRefusal number place → OneOfEleven number place
     -- 10, "line, 0 if too long": one line of channels, at most 128 of values, and the one after
-    misread-line : {line : ℕ} → line ≤ maxLines + 2 → OneOfEleven 10 line
+    wrong-line : {line : ℕ} → line ≤ maxLines + 2 → OneOfEleven 10 line
     -- 11, "place 0"
     budget-above : OneOfEleven 11 0
 

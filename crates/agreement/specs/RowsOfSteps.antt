@@ -4,19 +4,20 @@ use mathlib.Core.Option.{Option, none, some}
 use mathlib.Core.List.{List, [], _∷_}
 use Prim.Native.Nat.{ℕ}
 use lib.Dec.{eqb}
-use Rattle.meaning.specs.Rows.{ifElse}
-use Rattle.meaning.specs.Tree.{AltOption, Action, stop, skip, sequence, parallel, assign, receive, send, conditional, loop, alternation}
+use Rattle.meaning.specs.Basics.{ifElse}
+use Rattle.meaning.specs.Tree.{AltOption, Action, stop, skip, sequence, parallel, assign, input, output, conditional, loop, alternation}
+use Rattle.meaning.specs.Labels.{Label, own, pass, takeOption, takeWithOutput}
 use Rattle.meaning.specs.Intent.{Offer}
-use Rattle.meaning.specs.Ready.{Label, own, pass, take, takeFrom, optionRow}
+use Rattle.meaning.specs.Ready.{optionRow}
 
 -- the rows of a step
 pub data RowOf : Label → ℕ → Type 0 where
-  its : {r : ℕ} → RowOf (own r) r
-  receiver : {i o : ℕ} → RowOf (pass i o) i
-  sender : {i o : ℕ} → RowOf (pass i o) o
-  chooser : {r j : ℕ} → RowOf (take r j) r
-  selector : {r j o : ℕ} → RowOf (takeFrom r j o) r
-  giver : {r j o : ℕ} → RowOf (takeFrom r j o) o
+  of-own : {r : ℕ} → RowOf (own r) r
+  of-input : {i o : ℕ} → RowOf (pass i o) i
+  of-output : {i o : ℕ} → RowOf (pass i o) o
+  of-alt : {r j : ℕ} → RowOf (takeOption r j) r
+  of-alt-input : {r j o : ℕ} → RowOf (takeWithOutput r j o) r
+  of-alt-output : {r j o : ℕ} → RowOf (takeWithOutput r j o) o
 
 -- a row is none of a step's
 abbrev pub NoneOf : Label → ℕ → Type 0
@@ -34,8 +35,8 @@ optionRows skip = []
 optionRows sequence = []
 optionRows parallel = []
 optionRows (assign v e f) = []
-optionRows (receive i) = []
-optionRows (send c e f) = []
+optionRows (input i) = []
+optionRows (output c e f) = []
 optionRows (conditional ts) = []
 optionRows (loop e b) = []
 optionRows (alternation bs) = rowsOfOptions bs

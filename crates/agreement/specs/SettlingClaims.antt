@@ -9,7 +9,7 @@ use lib.IntN.{ℤ}
 use lib.ListN.{length}
 use Rattle.meaning.specs.Tree.{Process, rowsIn}
 use Rattle.meaning.specs.Settle.{settle, start, settled}
-use Rattle.meaning.specs.SettlingRules.{Settling, rest, then, Final}
+use Rattle.meaning.specs.SettlingRules.{Settling, no-change, next-change, Final}
 use Rattle.meaning.specs.State.{State, Program, program, whole, changeStates, writeAll, Effect}
 use Rattle.meaning.specs.Labels.{Label}
 use Rattle.meaning.specs.Readings.{Sheet}
@@ -21,8 +21,8 @@ use Rattle.meaning.specs.Answers.{check}
 module _ (whole : Process) where
   -- how many changes the rules made
   abbrev pub changesIn : {s t : List ℕ} → Settling whole s t → ℕ
-  changesIn rest = 0
-  changesIn (then h k) = suc (changesIn k)
+  changesIn no-change = 0
+  changesIn (next-change h k) = suc (changesIn k)
 
   -- u is the one normal form of s
   pub record NormalForm (s u : List ℕ) : Type 0 where

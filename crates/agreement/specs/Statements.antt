@@ -15,9 +15,9 @@ use Rattle.meaning.specs.Limits.{maxBudget}
 use Rattle.meaning.specs.Rows.{rowCount, kindAt}
 use Rattle.meaning.specs.Declarations.{Channel}
 use Rattle.meaning.specs.TableBytes.{bytesFault, rowsOf}
-use Rattle.meaning.specs.Tree.{Expr, Receive, AltOption, receive, send, alternation}
-use Rattle.meaning.specs.Values.{index}
-use Rattle.meaning.specs.State.{Message, State, Program, program, Effect}
+use Rattle.meaning.specs.Tree.{Expr, ChannelInput, AltOption, input, output, alternation}
+use Rattle.meaning.specs.Values.{Message, index}
+use Rattle.meaning.specs.State.{State, Program, program, Effect}
 use Rattle.meaning.specs.Labels.{Label, orderRow, Ascending}
 use Rattle.meaning.specs.Readings.{Sheet}
 use Rattle.meaning.specs.Ready.{ready, after}
@@ -25,9 +25,9 @@ use Rattle.meaning.specs.Run.{run}
 use Rattle.meaning.specs.Sheet.{sheetFault, readings}
 use Rattle.meaning.specs.Buffers.{Buffers, tooShort, encode}
 use Rattle.meaning.specs.Answers.{check, Reply, reply, replyToBytes}
-use Rattle.meaning.specs.Step.{channelOf, Live, Allows, Step}
+use Rattle.meaning.specs.Step.{channelElement, Live, Allows, Step}
 use Rattle.meaning.specs.Order.{ReadyList, OrderOf, ChosenOf, RestOf, outcomeOf}
-use Rattle.meaning.specs.Accepted.{Accepted}
+use Rattle.meaning.specs.Accepted.{BothAccepted}
 
 -- a state that some order of the table on the readings comes to
 abbrev pub Reached : List ℤ → Sheet → State → Type 0
@@ -58,7 +58,7 @@ AfterIsStep = (rows : List ℤ) → check rows ≡ none → (sheet : Sheet) (s :
 
 -- "Ready steps are ordered by row": of an accepted table no two have one row
 abbrev pub RowsAscend : Type 0
-RowsAscend = (rows : List ℤ) (sheet : Sheet) → Accepted rows sheet → (s : State) → Reached rows sheet s
+RowsAscend = (rows : List ℤ) (sheet : Sheet) → BothAccepted rows sheet → (s : State) → Reached rows sheet s
     → Ascending 0 (map orderRow (ready (program rows) sheet s))
 
 -- so the machine's list is the list of the ready steps, and no other list is
@@ -68,17 +68,17 @@ ReadyListed = (rows : List ℤ) → check rows ≡ none → (sheet : Sheet) (s :
 
 -- row r could input from element e: an input, or an ALT with such a guard
 pub data InputsAt (P : Program) (s : State) (e : ℕ) : ℕ → Type 0 where
-  by-input : {r : ℕ} {i : Receive} → Live P s r (receive i) → channelOf (s .store .cells) i ≡ At e → InputsAt P s e r
-  by-guard : {r : ℕ} {bs : List AltOption} {b : AltOption} {i : Receive} → Live P s r (alternation bs) → List·Memᴰ b bs → b .guard .input ≡ some i
-      → channelOf (s .store .cells) i ≡ At e → InputsAt P s e r
+  by-input : {r : ℕ} {i : ChannelInput} → Live P s r (input i) → channelElement (s .store .cells) i ≡ At e → InputsAt P s e r
+  by-guard : {r : ℕ} {bs : List AltOption} {b : AltOption} {i : ChannelInput} → Live P s r (alternation bs) → List·Memᴰ b bs → b .guard .input ≡ some i
+      → channelElement (s .store .cells) i ≡ At e → InputsAt P s e r
 
 -- row r could output to element e
 pub data OutputsAt (P : Program) (s : State) (e : ℕ) : ℕ → Type 0 where
-  by-output : {r : ℕ} {c : Channel} {f g : Expr} → Live P s r (send c f g) → index (s .store .cells) (c .first) (c .size) f ≡ At e → OutputsAt P s e r
+  by-output : {r : ℕ} {c : Channel} {f g : Expr} → Live P s r (output c f g) → index (s .store .cells) (c .first) (c .size) f ≡ At e → OutputsAt P s e r
 
 -- each channel element has at most one live input and at most one live output; tables with ALT too
 abbrev pub OnePerElement : Type 0
-OnePerElement = (rows : List ℤ) (sheet : Sheet) → Accepted rows sheet → (s : State) → Reached rows sheet s → (e r q : ℕ)
+OnePerElement = (rows : List ℤ) (sheet : Sheet) → BothAccepted rows sheet → (s : State) → Reached rows sheet s → (e r q : ℕ)
     → (InputsAt (program rows) s e r → InputsAt (program rows) s e q → r ≡ q)
     × (OutputsAt (program rows) s e r → OutputsAt (program rows) s e q → r ≡ q)
 
@@ -98,7 +98,7 @@ RunTakesOrder = (rows : List ℤ) → check rows ≡ none → (sheet : Sheet) (c
 
 -- "Every step so allowed can be chosen": every order is the order of the run with some 16-bit choices and its length as budget
 abbrev pub EveryOrderChosen : Type 0
-EveryOrderChosen = (rows : List ℤ) (sheet : Sheet) → Accepted rows sheet → (l : List Label) (s : State) → OrderOf rows sheet l s
+EveryOrderChosen = (rows : List ℤ) (sheet : Sheet) → BothAccepted rows sheet → (l : List Label) (s : State) → OrderOf rows sheet l s
     → (choices : List ℕ) × ((c : ℕ) → List·Memᴰ c choices → c < 65536)
     × ChosenOf rows sheet choices l s
     × (run rows sheet choices (length l) .state ≡ s) × (run rows sheet choices (length l) .steps ≡ length l)
@@ -111,14 +111,14 @@ NoAlt rows = (r : ℕ) → r < rowCount rows → kindAt rows r ≢ 34
 
 -- the one-step diamond: two different steps of a state can each be followed by the other, to one state
 abbrev pub OneStepDiamond : Type 0
-OneStepDiamond = (rows : List ℤ) (sheet : Sheet) → Accepted rows sheet → NoAlt rows → (s : State) → Reached rows sheet s
+OneStepDiamond = (rows : List ℤ) (sheet : Sheet) → BothAccepted rows sheet → NoAlt rows → (s : State) → Reached rows sheet s
     → (x y : Label) (t u : State) → x ≢ y → StepOf rows sheet s x t → StepOf rows sheet s y u
     → (v : State) × StepOf rows sheet t y v × StepOf rows sheet u x v
 
 -- each host output channel's list only grows, at its end
 abbrev pub ListsGrow : Type 0
 ListsGrow = (rows : List ℤ) (sheet : Sheet) (s t : State) (x : Label) → StepOf rows sheet s x t
-    → (port : ℕ) → (more : List Message) × (getD (t .store .outputs) port [] ≡ getD (s .store .outputs) port [] ++ more)
+    → (channel : ℕ) → (more : List Message) × (getD (t .store .outputs) channel [] ≡ getD (s .store .outputs) channel [] ++ more)
 
 -- if one order comes to rest in s after n steps: no order is longer, and each at rest has exactly n steps and is in s: equal
 -- outcome, cells, set marks, row states, places in the readings and lists, since all of these are in the state

@@ -9,10 +9,10 @@ use lib.ListN.{getD}
 use Rattle.meaning.specs.Rows.{rowCount, kindAt}
 use Rattle.meaning.specs.Kinds.{processes}
 use Rattle.meaning.specs.References.{of-b, of-c, Refers, Beneath}
-use Rattle.meaning.specs.Tree.{membersIn, rowsIn, rowsBeneath}
+use Rattle.meaning.specs.Tree.{processesIn, rowsIn, rowsBeneath}
 use Rattle.meaning.specs.State.{State, program, processAt, whole}
-use Rattle.meaning.specs.Intent.{Sheet}
-use Rattle.meaning.specs.Ready.{Label}
+use Rattle.meaning.specs.Labels.{Label}
+use Rattle.meaning.specs.Readings.{Sheet}
 use Rattle.meaning.specs.Order.{OrderOf}
 use Rattle.meaning.specs.Answers.{check}
 use Rattle.agreement.specs.Coherence.{AllIdle}
@@ -35,7 +35,7 @@ module _ (rows : List ℤ) where
 -- the rows beneath the process at row r, in the tree, are the process rows beneath row r that are not of guards
 abbrev pub BeneathInTree : Type 0
 BeneathInTree = (rows : List ℤ) → check rows ≡ none → (r : ℕ) → r < rowCount rows → IsProcess rows r → (b : ℕ)
-    → List·Memᴰ b (rowsBeneath (membersIn (processAt (program rows) r))) ↔ (Beneath rows r b × IsProcess rows b × (¬ OfGuard rows b))
+    → List·Memᴰ b (rowsBeneath (processesIn (processAt (program rows) r))) ↔ (Beneath rows r b × IsProcess rows b × (¬ OfGuard rows b))
 
 -- the rows of the whole tree are the table's process rows that are not of guards
 abbrev pub RowsOfTree : Type 0
@@ -55,4 +55,4 @@ OtherRowsIdle = (rows : List ℤ) → check rows ≡ none → (sheet : Sheet) (l
 abbrev pub BeneathIdle : Type 0
 BeneathIdle = (rows : List ℤ) → check rows ≡ none → (sheet : Sheet) (l : List Label) (s : State) → OrderOf rows sheet l s
     → (r : ℕ) → r < rowCount rows → IsProcess rows r
-    → AllIdle (s .states) (rowsBeneath (membersIn (processAt (program rows) r))) ↔ ((b : ℕ) → Beneath rows r b → getD (s .states) b 0 ≡ 0)
+    → AllIdle (s .states) (rowsBeneath (processesIn (processAt (program rows) r))) ↔ ((b : ℕ) → Beneath rows r b → getD (s .states) b 0 ≡ 0)

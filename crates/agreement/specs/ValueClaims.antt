@@ -7,9 +7,8 @@ use lib.IntN.{ℤ, pos, negsuc, negℤ, natAbs, _+ℤ_, _-ℤ_, _*ℤ_}
 use lib.Signed.{_≤ℤ_, _<ℤ_}
 use Rattle.meaning.specs.declared.Value.{Value}
 use Rattle.meaning.specs.declared.Value.the-variants.{Number, Missing}
-use Rattle.meaning.specs.State.{Message}
 use Rattle.meaning.specs.Tree.{Expr, monadic, dyadic}
-use Rattle.meaning.specs.Values.{operate, monadicOf, value}
+use Rattle.meaning.specs.Values.{Message, operate, monadicOf, value}
 
 -- 32 signed bits hold z
 abbrev pub Fits : ℤ → Type 0
@@ -70,14 +69,14 @@ abbrev pub OperatorsExact : Type 0
 OperatorsExact = (x y : ℤ) → Operators x y
 
 -- the first operand settles it: "AND with a false first operand and OR with a true one don't look at the second"
-abbrev pub Settles : ℕ → ℤ → Type 0
-Settles op x = ((op ≡ 14) × (x ≡ pos 0)) ⊎ ((op ≡ 15) × (x ≢ pos 0))
+abbrev pub FirstDecides : ℕ → ℤ → Type 0
+FirstDecides op x = ((op ≡ 14) × (x ≡ pos 0)) ⊎ ((op ≡ 15) × (x ≢ pos 0))
 
 -- "Operands are taken left to right": the first that has no value gives its reason; one that is not looked at gives none
 pub record TakesOperands (cells : List Message) (op : ℕ) (e f : Expr) : Type 0 where
   pub first-missing : (k : ℕ) → value cells e ≡ Missing k → value cells (dyadic op e f) ≡ Missing k
-  pub settled-by-first : (x : ℤ) → value cells e ≡ Number x → Settles op x → Tells (value cells (dyadic op e f)) (x ≢ pos 0)
-  pub second-missing : (x : ℤ) (k : ℕ) → value cells e ≡ Number x → ¬ Settles op x → value cells f ≡ Missing k → value cells (dyadic op e f) ≡ Missing k
+  pub settled-by-first : (x : ℤ) → value cells e ≡ Number x → FirstDecides op x → Tells (value cells (dyadic op e f)) (x ≢ pos 0)
+  pub second-missing : (x : ℤ) (k : ℕ) → value cells e ≡ Number x → ¬ FirstDecides op x → value cells f ≡ Missing k → value cells (dyadic op e f) ≡ Missing k
   pub both-there : (x y : ℤ) → value cells e ≡ Number x → value cells f ≡ Number y → value cells (dyadic op e f) ≡ operate op x y
   pub operand-missing : (k : ℕ) → value cells e ≡ Missing k → value cells (monadic op e) ≡ Missing k
   pub operand-there : (x : ℤ) → value cells e ≡ Number x → value cells (monadic op e) ≡ monadicOf op x

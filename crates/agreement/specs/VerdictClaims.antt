@@ -8,8 +8,9 @@ use lib.IntN.{ℤ}
 use lib.ListN.{length}
 use Rattle.meaning.specs.Basics.{Lowest}
 use Rattle.meaning.specs.Limits.{maxRows}
-use Rattle.meaning.specs.Rows.{rowCount, declarations}
+use Rattle.meaning.specs.Rows.{rowCount}
 use Rattle.meaning.specs.TableBytes.{numbersFault}
+use Rattle.meaning.specs.Declarations.{declarations}
 use Rattle.meaning.specs.Verdict.{formFault, treeFault, limitFault}
 use Rattle.meaning.specs.References.{Beneath}
 use Rattle.meaning.specs.Faults.{WellFormed, WellPlaced, WithinLimits, Once}
@@ -47,12 +48,12 @@ module _ (rows : List ℤ) where
   LowestClash number r = Lowest (λ q. Clash rows q number) (rowCount rows) (some r) × ((q k : ℕ) → k < number → ¬ Clash rows q k)
 
   -- the refusals by number and place: each of the first stage with a fault, at the lowest place at fault
-  pub data Refused : ℕ → ℕ → Type 0 where
-    not-whole : ¬ WholeRows → Refused 3 (min (rowCount rows) maxRows)
-    not-formed : {r : ℕ} → WholeRows → LowestWrong (WellFormed rows) (rowCount rows) r → Refused 4 r
-    not-placed : {r : ℕ} → WholeRows → EachFormed → LowestWrong (WellPlaced rows) (suc (rowCount rows)) r → Refused 5 r
-    over-limit : {r : ℕ} → WholeRows → EachFormed → EachPlaced → LowestWrong (WithinLimits rows) (declarations rows) r → Refused 6 r
-    clash : {r number : ℕ} → WholeRows → EachFormed → EachPlaced → EachLimited → LowestClash number r → Refused number r
+  pub data RefusedWith : ℕ → ℕ → Type 0 where
+    not-whole : ¬ WholeRows → RefusedWith 3 (min (rowCount rows) maxRows)
+    not-formed : {r : ℕ} → WholeRows → LowestWrong (WellFormed rows) (rowCount rows) r → RefusedWith 4 r
+    not-placed : {r : ℕ} → WholeRows → EachFormed → LowestWrong (WellPlaced rows) (suc (rowCount rows)) r → RefusedWith 5 r
+    over-limit : {r : ℕ} → WholeRows → EachFormed → EachPlaced → LowestWrong (WithinLimits rows) (declarations rows) r → RefusedWith 6 r
+    clash : {r number : ℕ} → WholeRows → EachFormed → EachPlaced → EachLimited → LowestClash number r → RefusedWith number r
 
 -- of a table that the stages before it pass, the usage stage finds nothing exactly if there is no clash, and else the lowest
 abbrev pub UsagePasses : Type 0
@@ -70,7 +71,7 @@ VerdictExact = (rows : List ℤ) → (check rows ≡ none) ↔ (WholeRows rows �
 
 -- a table is refused with a number and a place exactly if the first stage with a fault gives them
 abbrev pub RefusalLeast : Type 0
-RefusalLeast = (rows : List ℤ) (number place : ℕ) → (check rows ≡ some (number, place)) ↔ Refused rows number place
+RefusalLeast = (rows : List ℤ) (number place : ℕ) → (check rows ≡ some (number, place)) ↔ RefusedWith rows number place
 
 -- the rows of an accepted table from the root on are the nodes of one tree: every later row is beneath the root, and one field of one
 -- row refers to it

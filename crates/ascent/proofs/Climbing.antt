@@ -10,13 +10,13 @@ use lib.ListN.{getD, set}
 use borrow.Author.Tests.{ne-eqb}
 use Rattle.meaning.specs.Basics.{isSome}
 use Rattle.meaning.specs.Rows.{rowCount}
-use Rattle.meaning.specs.Tree.{Process, partAt, rowOf}
-use Rattle.meaning.specs.Settle.{stateOf, isEnded}
-use Rattle.meaning.specs.State.{program}
-use Rattle.machine.specs.Upward.{memberRows, parentOf, goesOnAt, upward, changeUp, endUp}
+use Rattle.meaning.specs.Tree.{Process, contentAt, rowOf}
+use Rattle.meaning.specs.Settle.{isEnded}
+use Rattle.meaning.specs.State.{stateOf, program}
+use Rattle.machine.specs.Upward.{processRows, parentOf, goesOnAt, upward, changeUp, endUp}
 use Rattle.machine.proofs.Upwards.{parent-below, upward-enough, up-rests, up-goes}
 use Rattle.notes.specs.Marks.{rowNote}
-use Rattle.settling.specs.Members.{alone, settleAny}
+use Rattle.settling.specs.Members.{onlyProcess, settleAny}
 use Rattle.settling.specs.States.{runs, entered}
 use Rattle.settling.proofs.Entering.{settle-rests}
 use Rattle.settling.proofs.Roots.{root-settled}
@@ -67,10 +67,10 @@ rests (suc zero) f r s = absurd (f refl)
 rests (suc (suc n)) f r s = (refl, refl)
 
 -- the process of a row that is not running does not settle by itself
-pub not-running : (rows : List ℤ) (r : ℕ) (s : List ℕ) {n : ℕ} → n ≡ getD s r 0 → (n ≡ 1 → ⊥) → s ≡ settleAny (partAt rows r .process) false s
-not-running rows r s e f = go (partAt rows r .process) (λ i. row-alone rows r i .0)
+pub not-running : (rows : List ℤ) (r : ℕ) (s : List ℕ) {n : ℕ} → n ≡ getD s r 0 → (n ≡ 1 → ⊥) → s ≡ settleAny (contentAt rows r .process) false s
+not-running rows r s e f = go (contentAt rows r .process) (λ i. row-alone rows r i .0)
   where
-    go : (o : Option Process) → (isSome o ≡ true → memberRows (alone o) ≡ r ∷ []) → s ≡ settleAny o false s
+    go : (o : Option Process) → (isSome o ≡ true → processRows (onlyProcess o) ≡ r ∷ []) → s ≡ settleAny o false s
     go none h = refl
     go (some p) h =
         let i : rowOf p ≡ r = ap (λ (l : List ℕ). getD l 0 0) (h refl) in
@@ -78,7 +78,7 @@ not-running rows r s e f = go (partAt rows r .process) (λ i. row-alone rows r i
         sym (settle-rests p false s a ∙ b)
 
 -- row r gets state n, its own process settles, and so on up
-pub change-goes-up : (rows : List ℤ) (r n : ℕ) (s : List ℕ) {t u w : List ℕ} → t ≡ set s r n → u ≡ settleAny (partAt rows r .process) false t → w ≡ upward (program rows) (suc r) r u → w ≡ changeUp (program rows) r n s
+pub change-goes-up : (rows : List ℤ) (r n : ℕ) (s : List ℕ) {t u w : List ℕ} → t ≡ set s r n → u ≡ settleAny (contentAt rows r .process) false t → w ≡ upward (program rows) (suc r) r u → w ≡ changeUp (program rows) r n s
 unfolding changeUp
 change-goes-up rows r n s {t} e i k = k ∙ ap (upward (program rows) (suc r) r) (root-settled rows r t i ∙ rw e)
 

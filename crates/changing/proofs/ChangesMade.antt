@@ -6,20 +6,20 @@ use lib.IntN.{ℤ}
 use lib.ListN.{getD}
 use borrow.Author.Tests.{ne-eqb}
 use Rattle.meaning.specs.Rows.{naturalAt}
-use Rattle.meaning.specs.Intent.{Sheet}
-use Rattle.evaluation.specs.Cells.{decoded}
+use Rattle.meaning.specs.Readings.{Sheet}
+use Rattle.meaning.specs.Buffers.{decoded}
 use Rattle.offers.specs.declared.Offer.{Offer}
 use Rattle.offers.specs.Offers.{guardOffered}
 use Rattle.offers.specs.Rows.{optionAt}
 use Rattle.intents.specs.declared.Does.{Does}
 use Rattle.stepping.specs.Acts.{workingDoes}
 use Rattle.changing.specs.declared.Change.{Change}
-use Rattle.changing.specs.Changes.{numberSent, meets, meetingOf, ownChangeBy, ownChange, optionChangeBy, optionChange, changeOf}
+use Rattle.changing.specs.Changes.{numberSent, communicates, meetingOf, ownChangeBy, ownChange, optionChangeBy, optionChange, changeOf}
 
 module _ (rows : List ℤ) (sheet : Sheet) (values : List ℤ) (marks places counts states waiting : List ℕ) where
   -- a communication, from the note of the element and what the row of the note would do
   pub meeting-made : (e a row state note r : ℕ) (d : Does) (x : ℤ) → note ≡ getD waiting e 0 → r ≡ note - 1 → d ≡ workingDoes rows sheet values marks places counts states r → x ≡ numberSent d
-      → meets note x a row state ≡ meetingOf rows sheet values marks places counts states waiting e a row state
+      → communicates note x a row state ≡ meetingOf rows sheet values marks places counts states waiting e a row state
   unfolding meetingOf
   meeting-made e a row state note r d x p q h g = rw (g, h, q, p)
 

@@ -6,26 +6,26 @@ use mathlib.Core.List.{List, [], _∷_}
 use Prim.Native.Nat.{ℕ, zero, suc, _+_, _≤_}
 use native.Mathlib.Omega.{arith}
 use lib.IntN.{ℤ, pos, negsuc, negℤ, _+ℤ_, _-ℤ_, _*ℤ_}
-use lib.ListN.{getD}
+use lib.ListN.{getD, getElem?}
 use lib.Signed.{ltZ, leZ, quotZ, remZ}
 use lib.Dec.{ltb, eqb}
 use Rattle.meaning.specs.declared.Value.{Value}
 use Rattle.meaning.specs.declared.Value.the-variants.{Number, Missing}
 use Rattle.meaning.specs.declared.Index.{Index}
 use Rattle.meaning.specs.declared.Index.the-variants.{At, Fails}
-use Rattle.meaning.specs.Basics.{ifElse, isSome, eqZ}
-use Rattle.meaning.specs.Tree.{Expr, literal, element, monadic, dyadic, noExpr, Receive, AltGuard, IfChoice, AltOption, Action, stop, skip, sequence, parallel, assign, receive, send, conditional, loop, alternation, actionOf}
-use Rattle.meaning.specs.Values.{fitted, isTrue, truth, quotient, remainder, operators, operate, monadicOf, decides, whenNumber, dyadicOf, inArray, cellValue, readCell, value, index}
-use Rattle.meaning.specs.State.{Message, program, processAt}
-use Rattle.meaning.specs.Intent.{Sheet, entry}
-use Rattle.evaluation.specs.Cells.{decoded}
+use Rattle.meaning.specs.Basics.{ifElse, eqZ, isSome}
+use Rattle.meaning.specs.Tree.{Expr, literal, element, monadic, dyadic, noExpr, ChannelInput, AltGuard, IfChoice, AltOption, Action, stop, skip, sequence, parallel, assign, input, output, conditional, loop, alternation, actionOf}
+use Rattle.meaning.specs.Values.{Message, fitted, isTrue, truth, quotient, remainder, operators, operate, monadicOf, decides, whenNumber, dyadicOf, inArray, cellValue, readCell, value, index}
+use Rattle.meaning.specs.State.{program, processAt}
+use Rattle.meaning.specs.Readings.{Sheet}
+use Rattle.meaning.specs.Buffers.{decoded}
 use Rattle.offers.specs.declared.Offer.{Offer}
 use Rattle.offers.specs.declared.Offer.the-variants.{Lacks, Nothing, Open, Reads as Read, Inputs}
 use Rattle.offers.specs.Offers.{received, readInto, guardedBy, inputOffered, guardInput, guardOffered}
 use Rattle.intents.specs.declared.Does.{Does}
 use Rattle.intents.specs.declared.Does.the-variants.{Waits, Stops, Assigns, Ends, Starts, Reads, Writes, InputsFrom, OutputsTo, Selects}
-use Rattle.intents.specs.Does.{assigned, tested, chosen, sent, inputDoes, unlessLacks, ifDoes, altDoes, doesOf}
-use Rattle.machine.specs.RowSteps.{liveByMembers}
+use Rattle.intents.specs.Does.{assigned, tested, chosenChoice, sent, inputDoes, unlessLacks, ifDoes, altDoes, doesOf}
+use Rattle.machine.specs.RowSteps.{liveByProcesses}
 use Rattle.stepping.specs.Acts.{workingDoes}
 
 -- ---- values
@@ -132,7 +132,7 @@ index-known cells first n e = array-known first n (value cells e) (value-known c
 module _ (sheet : Sheet) (cells : List Message) (places : List ℕ) where
   -- a reading is left for channel p
   abbrev pub Left : ℕ → Type 0
-  Left p = isSome (entry (getD sheet p []) (getD places p 0)) ≡ true
+  Left p = isSome (getElem? (getD sheet p []) (getD places p 0)) ≡ true
 
   abbrev pub OfferKnown : Offer → Type 0
   OfferKnown (Lacks k) = k ≤ 4
@@ -159,18 +159,18 @@ module _ (sheet : Sheet) (cells : List Message) (places : List ℕ) where
   received-known f k true (At e) (At a) h g = k a
   received-known f k false (At e) (At a) h g = tt
 
-  input-known : (i : Receive) → OfferKnown (inputOffered sheet cells places i)
+  input-known : (i : ChannelInput) → OfferKnown (inputOffered sheet cells places i)
   unfolding inputOffered
   input-known i =
       let c = i .channel in
       let v = i .target .name in
-      received-known (λ a. readInto (c .port) a (entry (getD sheet (c .port) []) (getD places (c .port) 0))) (λ a. go (c .port) a (entry (getD sheet (c .port) []) (getD places (c .port) 0)) refl) (c .host)
+      received-known (λ a. readInto (c .number) a (getElem? (getD sheet (c .number) []) (getD places (c .number) 0))) (λ a. go (c .number) a (getElem? (getD sheet (c .number) []) (getD places (c .number) 0)) refl) (c .host)
       (index cells (c .first) (c .size) (i .subscript))
       (index cells (v .first) (v .size) (i .target .subscript))
       (index-known cells (c .first) (c .size) (i .subscript))
       (index-known cells (v .first) (v .size) (i .target .subscript))
     where
-      go : (p a : ℕ) (m : Option Message) → entry (getD sheet p []) (getD places p 0) ≡ m → OfferKnown (readInto p a m)
+      go : (p a : ℕ) (m : Option Message) → getElem? (getD sheet p []) (getD places p 0) ≡ m → OfferKnown (readInto p a m)
       go p a none e = tt
       go p a (some m) e = rw e
 
@@ -186,7 +186,7 @@ module _ (sheet : Sheet) (cells : List Message) (places : List ℕ) where
   unfolding guardOffered
   guard-known g = guarded-known (value cells (g .boolean)) (guardInput sheet cells places (g .input)) (value-known cells (g .boolean)) (go (g .input))
     where
-      go : (i : Option Receive) → OfferKnown (guardInput sheet cells places i)
+      go : (i : Option ChannelInput) → OfferKnown (guardInput sheet cells places i)
       go none = tt
       go (some i) = input-known i
 
@@ -215,7 +215,7 @@ module _ (sheet : Sheet) (cells : List Message) (places : List ℕ) where
   inputs-known (Read a x m p) h = h
   inputs-known (Inputs e a) h = tt
 
-  chosen-known : (q : ℕ) (v : Value) (d : Does) → Known v → DoesKnown d → DoesKnown (chosen q v d)
+  chosen-known : (q : ℕ) (v : Value) (d : Does) → Known v → DoesKnown d → DoesKnown (chosenChoice q v d)
   chosen-known q (Missing k) d h g = h
   chosen-known q (Number x) d h g = either-does (isTrue x) (Starts q) d tt g
 
@@ -241,8 +241,8 @@ module _ (sheet : Sheet) (cells : List Message) (places : List ℕ) where
   does-known counts sequence = tt
   does-known counts parallel = tt
   does-known counts (assign v e f) = assigned-known (index cells (v .first) (v .size) e) (value cells f) (index-known cells (v .first) (v .size) e) (value-known cells f)
-  does-known counts (receive i) = inputs-known (inputOffered sheet cells places i) (input-known i)
-  does-known counts (send c e f) = sent-known (c .host) (c .port) (c .capacity) (getD counts (c .port) 0) (index cells (c .first) (c .size) e) (value cells f) (index-known cells (c .first) (c .size) e) (value-known cells f)
+  does-known counts (input i) = inputs-known (inputOffered sheet cells places i) (input-known i)
+  does-known counts (output c e f) = sent-known (c .host) (c .number) (c .capacity) (getD counts (c .number) 0) (index cells (c .first) (c .size) e) (value cells f) (index-known cells (c .first) (c .size) e) (value-known cells f)
   does-known counts (conditional ts) = tests-known ts
   does-known counts (loop e b) = tested-known b (value cells e) (value-known cells e)
   does-known counts (alternation bs) = options-known bs
@@ -252,7 +252,7 @@ pub working-known : (rows : List ℤ) (sheet : Sheet) (values : List ℤ) (marks
     → DoesKnown sheet (decoded values marks) places (workingDoes rows sheet values marks places counts states r)
 unfolding workingDoes
 working-known rows sheet values marks places counts states r =
-    either-does sheet (decoded values marks) places (liveByMembers (program rows) r states) (doesOf sheet (decoded values marks) places counts (actionOf (processAt (program rows) r))) Waits
+    either-does sheet (decoded values marks) places (liveByProcesses (program rows) r states) (doesOf sheet (decoded values marks) places counts (actionOf (processAt (program rows) r))) Waits
     (does-known sheet (decoded values marks) places counts (actionOf (processAt (program rows) r))) tt
 
 -- the reason of a row that would stop

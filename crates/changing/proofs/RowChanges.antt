@@ -8,22 +8,22 @@ use native.Mathlib.Omega.{arith}
 use lib.IntN.{ℤ}
 use lib.ListN.{set}
 use lib.Dec.{eqb}
-use borrow.Author.Tests.{ne-eqb, eqb-true, eqb-false}
 use Rattle.meaning.specs.Basics.{ifElse}
+use borrow.Author.Tests.{ne-eqb, eqb-true, eqb-false}
 use Rattle.meaning.specs.State.{Program, StateChange, changeStates}
 use Rattle.meaning.specs.Step as steps
 use Rattle.machine.specs.Held.{ChangesBelow}
 use Rattle.machine.specs.Upward.{changeUp, endUp, changesUp}
 use Rattle.notes.specs.Changes.{endNoted}
 use Rattle.changing.specs.declared.Change.{Change}
-use Rattle.changing.specs.Changes.{meets}
+use Rattle.changing.specs.Changes.{communicates}
 
 -- the changes, which row r makes
 abbrev pub madeBy : ℕ → Change → List StateChange
 madeBy r c = steps.becomes r (c .at) (c .next) ∷ ifElse (eqb (c .sender) 0) [] (steps.becomes (c .sender - 1) (c .sender - 1) 2 ∷ [])
 
 -- those of a communication
-pub both-made : (r row state o a : ℕ) (x : ℤ) → steps.becomes r row state ∷ steps.becomes o o 2 ∷ [] ≡ madeBy r (meets (o + 1) x a row state)
+pub both-made : (r row state o a : ℕ) (x : ℤ) → steps.becomes r row state ∷ steps.becomes o o 2 ∷ [] ≡ madeBy r (communicates (o + 1) x a row state)
 both-made r row state o a x =
     let less : o + 1 - 1 ≡ o = omega arith in
     rw (ne-eqb (o + 1) 0 (λ z. absurd (omega arith)), less)

@@ -13,27 +13,29 @@ use lib.Seq.{getD-append-seam}
 use borrow.Author.Tests.{ltb-true, eq-eqb, ne-eqb}
 use Rattle.meaning.specs.Rows.{rowCount, naturalAt}
 use Rattle.meaning.specs.Tree.{AltOption, actionOf}
+use Rattle.meaning.specs.Values.{Message}
 use Rattle.meaning.specs.Settle.{settle}
-use Rattle.meaning.specs.State.{Message, State, program, processAt, whole, Write, writeCell, writeOutput, StateChange, changeStates, Effect}
+use Rattle.meaning.specs.State.{State, program, processAt, whole, Write, writeCell, writeOutput, StateChange, changeStates, Effect}
+use Rattle.meaning.specs.Labels.{Label, own, pass, takeOption, takeWithOutput}
+use Rattle.meaning.specs.Readings.{Sheet}
 use Rattle.meaning.specs.Intent as meaning
-use Rattle.meaning.specs.Intent.{Sheet, openOffer, inputOffer, Intent, waits, moves, inputsFrom, outputsTo, selects, looks}
-use Rattle.meaning.specs.Ready.{Label, own, pass, take, takeFrom, effectOf, intentAt, after}
+use Rattle.meaning.specs.Intent.{openOffer, inputOffer, Intent, moves, inputsFrom, outputsTo, selects, optionsResult}
+use Rattle.meaning.specs.Ready.{effectOf, intentAt, after}
 use Rattle.meaning.specs.Step as steps
-use Rattle.meaning.specs.Buffers.{Buffers}
+use Rattle.meaning.specs.Buffers.{Buffers, cellOf, decoded}
 use Rattle.meaning.specs.Order.{OrderOf}
 use Rattle.meaning.specs.Answers.{check}
 use Rattle.agreement.proofs.Active.{offerAt, Active, acts-alone, takes-open, active}
-use Rattle.evaluation.specs.Cells.{cellOf, decoded}
 use Rattle.offers.specs.declared.Offer.{Offer}
 use Rattle.offers.specs.declared.Offer.the-variants.{Lacks, Nothing as Closed, Open, Reads as Read, Inputs}
 use Rattle.offers.specs.Offers.{guardOffered}
 use Rattle.offers.specs.Rows.{optionAt}
-use Rattle.offers.specs.Held.{KeptReadings, readWrites, lookedAs, offersIn}
+use Rattle.offers.specs.Held.{KeptReadings, readWrites, optionOffers, offersIn}
 use Rattle.intents.specs.declared.Does.{Does}
 use Rattle.intents.specs.declared.Does.the-variants.{Waits, Stops, Assigns, Ends, Starts, Reads, Writes, InputsFrom, OutputsTo, Selects}
 use Rattle.intents.specs.Stands.{optionsOf, standsFor}
-use Rattle.machine.specs.RowSteps.{altOf, ownStepBy, offerStep, optionStepBy, orElse, waitingAt, ownStep, optionStep, optionStepOf, stepAt}
-use Rattle.machine.specs.Held.{Holds, putCell, putPlace, putState, putOutput, putSettled, putWrites, putEffect, AllInRange, ChangesBelow}
+use Rattle.machine.specs.RowSteps.{altOf, ownStepBy, offerStep, optionStepBy, firstStep, waitingAt, ownStep, optionStep, optionStepOf, stepAt}
+use Rattle.machine.specs.Held.{HoldsState, putCell, putPlace, putState, putOutput, putSettled, putWrites, putEffect, AllInRange, ChangesBelow}
 use Rattle.machine.specs.Upward.{changeUp, endUp, changesUp}
 use Rattle.machine.proofs.Declared.{capacities-length}
 use Rattle.machine.proofs.StepEffects.{own-effect, pass-effect, take-effect, takeFrom-effect}
@@ -48,7 +50,7 @@ use Rattle.stepping.proofs.StepsNoted.{store-held, intent-noted, none-waits, wa
 use Rattle.changing.specs.declared.Data.{Data}
 use Rattle.changing.specs.declared.Data.the-variants.{Nothing, Cell, Reading, Output}
 use Rattle.changing.specs.declared.Change.{Change}
-use Rattle.changing.specs.Changes.{numberSent, becomes, meets, meetingOf, ownChangeBy, ownChange, optionChangeBy, optionChange, changeOf, putData, putChange, DataFits}
+use Rattle.changing.specs.Changes.{numberSent, rowBecomes, communicates, meetingOf, ownChangeBy, ownChange, optionChangeBy, optionChange, changeOf, putData, putChange, DataFits}
 use Rattle.changing.proofs.Reasons.{Left, OfferKnown, DoesKnown, guard-known, working-known}
 use Rattle.changing.proofs.StripStarts.{strip-small}
 use Rattle.changing.proofs.RowChanges.{madeBy, both-made, made-states, made-up, made-within, made-rows}
@@ -57,22 +59,22 @@ use Rattle.changing.proofs.RowChanges.{madeBy, both-made, made-states, 
 
 module _ (rows : List ℤ) (b : Buffers) where
   -- of one row
-  put-one : (r row state : ℕ) (ws : List Write) (d : Data) → putWrites rows ws b ≡ putData rows d b → putEffect rows (steps.effect (steps.becomes r row state ∷ []) ws) b ≡ putChange rows (becomes row state d) b
+  put-one : (r row state : ℕ) (ws : List Write) (d : Data) → putWrites rows ws b ≡ putData rows d b → putEffect rows (steps.effect (steps.becomes r row state ∷ []) ws) b ≡ putChange rows (rowBecomes row state d) b
   unfolding putEffect putChange
   put-one r row state ws d q = ap (λ (c : Buffers). putSettled rows false (putState row state c)) q
 
   -- of a row and of a sender that ends
-  put-both : (r row state o a : ℕ) (x : ℤ) → putEffect rows (steps.effect (steps.becomes r row state ∷ steps.becomes o o 2 ∷ []) (writeCell a (some x) ∷ [])) b ≡ putChange rows (meets (o + 1) x a row state) b
+  put-both : (r row state o a : ℕ) (x : ℤ) → putEffect rows (steps.effect (steps.becomes r row state ∷ steps.becomes o o 2 ∷ []) (writeCell a (some x) ∷ [])) b ≡ putChange rows (communicates (o + 1) x a row state) b
   unfolding putEffect putChange
   put-both r row state o a x =
       let less : o + 1 - 1 ≡ o = omega arith in
       rw (ne-eqb (o + 1) 0 (λ z. absurd (omega arith)), less)
 
-or-none : (y : Option Label) → orElse y none ≡ y
+or-none : (y : Option Label) → firstStep y none ≡ y
 or-none none = refl
 or-none (some x) = refl
 
-module _ (rows : List ℤ) (ok : check rows ≡ none) (sheet : Sheet) (l : List Label) (s : State) (o : OrderOf rows sheet l s) (b : Buffers) (h : Holds rows s b)
+module _ (rows : List ℤ) (ok : check rows ≡ none) (sheet : Sheet) (l : List Label) (s : State) (o : OrderOf rows sheet l s) (b : Buffers) (h : HoldsState rows s b)
     (readings : List ℤ) (given : List ℕ) (lines : ℕ) (K : KeptReadings rows sheet readings given lines) (few : lines ≤ 128)
     (acts waiting owners : List ℕ) (N : Noted rows sheet (b .cells) (b .marks) (b .places) (b .counts) (b .states) (rowCount rows) acts waiting) (w : length waiting ≡ 256) where
   abbrev W : ℕ → Intent
@@ -146,7 +148,7 @@ module _ (rows : List ℤ) (ok : check rows ≡ none) (sheet : Sheet) (l : List 
       go (yes k) = waiting-is rows ok sheet l s o b h acts waiting owners N w e k ∙ ap rowNote q
       go (no k) = absurd (Option·none-ne-some i (sym (none-waits rows ok sheet l s o b h e (omega arith)) ∙ q))
 
-  meeting-is : (e a row state i : ℕ) → waiter e ≡ some i → meets (i + 1) (numberSent (does i)) a row state ≡ meetingOf rows sheet (b .cells) (b .marks) (b .places) (b .counts) (b .states) waiting e a row state
+  meeting-is : (e a row state i : ℕ) → waiter e ≡ some i → communicates (i + 1) (numberSent (does i)) a row state ≡ meetingOf rows sheet (b .cells) (b .marks) (b .places) (b .counts) (b .states) waiting e a row state
   unfolding meetingOf
   meeting-is e a row state i q =
       let less : i + 1 - 1 ≡ i = omega arith in
@@ -154,7 +156,7 @@ module _ (rows : List ℤ) (ok : check rows ≡ none) (sheet : Sheet) (l : List 
 
   -- ---- the step of a row by itself
 
-  moved : (j row state : ℕ) (ws : List Write) (d : Data) → W j ≡ moves row state ws → putWrites rows ws b ≡ putData rows d b → DataFits rows d b → Done (becomes row state d) (own j)
+  moved : (j row state : ℕ) (ws : List Write) (d : Data) → W j ≡ moves row state ws → putWrites rows ws b ≡ putData rows d b → DataFits rows d b → Done (rowBecomes row state d) (own j)
   moved j row state ws d q p f = record { effect = _; is-effect = own-effect W j row state ws q; put = put-one rows b j row state ws d p; fits = f; row = j; changes-are = refl }
 
   abbrev ownBy : ℕ → Does → Change
@@ -163,7 +165,7 @@ module _ (rows : List ℤ) (ok : check rows ≡ none) (sheet : Sheet) (l : List 
   input-done : (j e a : ℕ) (x : Label) → W j ≡ inputsFrom e a → (i : Option ℕ) → waiter e ≡ i → Option·map (pass j) i ≡ some x → Done (ownBy j (InputsFrom e a)) x
   input-done j e a x q none p g = absurd (Option·none-ne-some x g)
   input-done j e a x q (some i) p g =
-      let c = meets (i + 1) (numberSent (does i)) a j 2 in
+      let c = communicates (i + 1) (numberSent (does i)) a j 2 in
       subst (λ (y : Change). Done y x) (meeting-is e a j 2 i p) (subst (Done c) (Option·some-injective (pass j i) x g) (record {
         effect = _;
         is-effect = pass-effect W j i e a (some (numberSent (does i))) q (sender-outputs e i p);
@@ -194,30 +196,30 @@ module _ (rows : List ℤ) (ok : check rows ≡ none) (sheet : Sheet) (l : List 
   abbrev optionBy : ℕ → Offer → Change
   optionBy j = optionChangeBy rows sheet (b .cells) (b .marks) (b .places) (b .counts) (b .states) waiting j (naturalAt rows j 1)
 
-  opened : (r j i q : ℕ) (ws : List Write) (os : List meaning.Offer) (d : Data) → W r ≡ selects os → offerAt j os ≡ some (openOffer i q ws) → putWrites rows ws b ≡ putData rows d b → DataFits rows d b → Done (becomes q 1 d) (take r j)
+  opened : (r j i q : ℕ) (ws : List Write) (os : List meaning.Offer) (d : Data) → W r ≡ selects os → offerAt j os ≡ some (openOffer i q ws) → putWrites rows ws b ≡ putData rows d b → DataFits rows d b → Done (rowBecomes q 1 d) (takeOption r j)
   opened r j i q ws os d p g e f = record { effect = _; is-effect = take-effect W r j i q ws os p g; put = put-one rows b r q 1 ws d e; fits = f; row = r; changes-are = refl }
 
   offer-done : (r j : ℕ) (x : Label) (os : List meaning.Offer) → W r ≡ selects os → (f : Offer) → OfferKnown sheet (decoded (b .cells) (b .marks)) (b .places) f
-      → offerAt j os ≡ offerAt j (offersIn (lookedAs (s .store) (optionAt rows j) f)) → offerStep waiter r j (offerAt j os) ≡ some x → Done (optionBy j f) x
+      → offerAt j os ≡ offerAt j (offersIn (optionOffers (s .store) (optionAt rows j) f)) → offerStep waiter r j (offerAt j os) ≡ some x → Done (optionBy j f) x
   offer-done r j x os q (Lacks n) k e g = absurd (Option·none-ne-some x (sym (ap (offerStep waiter r j) e) ∙ g))
   offer-done r j x os q Closed k e g = absurd (Option·none-ne-some x (sym (ap (offerStep waiter r j) e) ∙ g))
   offer-done r j x os q Open k e g =
       let p : offerAt j os ≡ some (openOffer j (naturalAt rows j 1) []) = e ∙ rw (eq-eqb j j refl) in
-      subst (Done (optionBy j Open)) (Option·some-injective (take r j) x (sym (ap (offerStep waiter r j) p) ∙ g)) (opened r j j (naturalAt rows j 1) [] os Nothing q p refl tt)
+      subst (Done (optionBy j Open)) (Option·some-injective (takeOption r j) x (sym (ap (offerStep waiter r j) p) ∙ g)) (opened r j j (naturalAt rows j 1) [] os Nothing q p refl tt)
   offer-done r j x os q (Read a z m n) k e g =
       let ws = readWrites (s .store) a z m n in
       let p : offerAt j os ≡ some (openOffer j (naturalAt rows j 1) (readWrites (s .store) a z m n)) = e ∙ rw (eq-eqb j j refl) in
-      subst (Done (optionBy j (Read a z m n))) (Option·some-injective (take r j) x (sym (ap (offerStep waiter r j) p) ∙ g))
+      subst (Done (optionBy j (Read a z m n))) (Option·some-injective (takeOption r j) x (sym (ap (offerStep waiter r j) p) ∙ g))
       (opened r j j (naturalAt rows j 1) ws os (Reading a z m n) q p (read-put a z m n) (read-fits a z m n (writes-in rows sheet s (takes-open q p)) k))
   offer-done r j x os q (Inputs n a) k e g =
       let p : offerAt j os ≡ some (inputOffer j (naturalAt rows j 1) n a) = e ∙ rw (eq-eqb j j refl) in
       go p (waiter n) refl (sym (ap (offerStep waiter r j) p) ∙ g)
     where
-      go : offerAt j os ≡ some (inputOffer j (naturalAt rows j 1) n a) → (i : Option ℕ) → waiter n ≡ i → Option·map (takeFrom r j) i ≡ some x → Done (optionBy j (Inputs n a)) x
+      go : offerAt j os ≡ some (inputOffer j (naturalAt rows j 1) n a) → (i : Option ℕ) → waiter n ≡ i → Option·map (takeWithOutput r j) i ≡ some x → Done (optionBy j (Inputs n a)) x
       go p none v t = absurd (Option·none-ne-some x t)
       go p (some i) v t =
-          let c = meets (i + 1) (numberSent (does i)) a (naturalAt rows j 1) 1 in
-          subst (λ (y : Change). Done y x) (meeting-is n a (naturalAt rows j 1) 1 i v) (subst (Done c) (Option·some-injective (takeFrom r j i) x t) (record {
+          let c = communicates (i + 1) (numberSent (does i)) a (naturalAt rows j 1) 1 in
+          subst (λ (y : Change). Done y x) (meeting-is n a (naturalAt rows j 1) 1 i v) (subst (Done c) (Option·some-injective (takeWithOutput r j i) x t) (record {
             effect = _;
             is-effect = takeFrom-effect W r j i j (naturalAt rows j 1) n a (some (numberSent (does i))) os q p (sender-outputs n i v);
             put = put-both rows b r (naturalAt rows j 1) 1 i a (numberSent (does i));
@@ -240,7 +242,7 @@ module _ (rows : List ℤ) (ok : check rows ≡ none) (sheet : Sheet) (l : List 
   option-done r j x q (OutputsTo f z) e v g = absurd (Option·none-ne-some x g)
   option-done r j x q Selects e v g =
       let f = guardOffered sheet (decoded (b .cells) (b .marks)) (b .places) (optionAt rows j .guard) in
-      offer-done r j x (offersIn (looks sheet (options r) (s .store))) v f (guard-known sheet (decoded (b .cells) (b .marks)) (b .places) (optionAt rows j .guard))
+      offer-done r j x (offersIn (optionsResult sheet (options r) (s .store))) v f (guard-known sheet (decoded (b .cells) (b .marks)) (b .places) (optionAt rows j .guard))
       (offer-noted rows ok sheet l s o b h acts waiting owners N w r j q e) g
 
   -- ---- the step that a row orders
@@ -255,13 +257,13 @@ module _ (rows : List ℤ) (ok : check rows ≡ none) (sheet : Sheet) (l : List 
 
       go : (a : Option ℕ) → altOf (program rows) j ≡ a → Done (changeOf rows sheet (b .cells) (b .marks) (b .places) (b .counts) (b .states) owners waiting j) x
       go none q =
-          let e : orElse (ownStepBy waiter j (W j)) none ≡ some x = subst (λ (a : Option ℕ). orElse (ownStepBy waiter j (W j)) (optionStepOf (program rows) sheet s j a) ≡ some x) q g in
+          let e : firstStep (ownStepBy waiter j (W j)) none ≡ some x = subst (λ (a : Option ℕ). firstStep (ownStepBy waiter j (W j)) (optionStepOf (program rows) sheet s j a) ≡ some x) q g in
           rw (n ∙ ap rowNote q) (own-done j x (does j) (stands j) (working-known rows sheet (b .cells) (b .marks) (b .places) (b .counts) (b .states) j)
           (ap (ownStepBy waiter j) (sym (stands j)) ∙ sym (or-none (ownStepBy waiter j (W j))) ∙ e))
       go (some r) q =
           let p = no-own-step rows sheet s j (no-process rows j (option-kind rows r j (alt-is (program rows) r j q))) in
           let e : optionStepBy waiter r j (W r) ≡ some x =
-          subst (λ (a : Option ℕ). optionStepOf (program rows) sheet s j a ≡ some x) q (subst (λ (y : Option Label). orElse y (optionStepOf (program rows) sheet s j (altOf (program rows) j)) ≡ some x) p g)
+          subst (λ (a : Option ℕ). optionStepOf (program rows) sheet s j a ≡ some x) q (subst (λ (y : Option Label). firstStep y (optionStepOf (program rows) sheet s j (altOf (program rows) j)) ≡ some x) p g)
           in
           rw (n ∙ ap rowNote q, ne-eqb (r + 1) 0 (λ z. absurd (omega arith))) (option-done r j x q (does r) refl (stands r) (ap (optionStepBy waiter r j) (sym (stands r)) ∙ e))
 
@@ -285,7 +287,7 @@ module _ (rows : List ℤ) (ok : check rows ≡ none) (sheet : Sheet) (l : List 
 
   module _ (j : ℕ) (x : Label) (n : getD owners j 0 ≡ rowNote (altOf (program rows) j)) (g : stepAt (program rows) sheet s j ≡ some x) where
     -- after the change the arrays hold the state that the step leaves
-    pub change-held : Holds rows (after (program rows) sheet x s) (putChange rows (changeOf rows sheet (b .cells) (b .marks) (b .places) (b .counts) (b .states) owners waiting j) b)
+    pub change-held : HoldsState rows (after (program rows) sheet x s) (putChange rows (changeOf rows sheet (b .cells) (b .marks) (b .places) (b .counts) (b .states) owners waiting j) b)
     change-held =
         let D = step-done j x n g in
         let (e, q, H) = row-step-held rows ok sheet l s o b h j x g in

@@ -10,8 +10,7 @@ use lib.IntN.{ℤ}
 use lib.ListN.{length, getD}
 use lib.Seq.{take-all}
 use Rattle.meaning.specs.Basics.{ifElse}
-use Rattle.meaning.specs.Rows.{declarations}
-use Rattle.meaning.specs.Declarations.{sumBelow, hasRole, portsAt, capacityAt, totalPorts}
+use Rattle.meaning.specs.Declarations.{declarations, sumBelow, hasRole, hostChannelsAt, capacityAt, hostChannels}
 use Rattle.meaning.specs.Buffers.{capacities}
 use Rattle.meaning.specs.Answers.{check}
 use Rattle.machine.specs.Held.{sumOf, stripStart}
@@ -30,20 +29,20 @@ sum-none f = refl
 
 module _ (rows : List ℤ) where
   -- at the channel that is the p-th
-  pub start-here : (left p r n : ℕ) → n ≡ portsAt 2 rows r → left < n → left + sumBelow (portsAt 2 rows) r ≡ p → stripStart rows p ≡ sumBelow (capacityAt rows) r
-  unfolding portsAt
+  pub start-here : (left p r n : ℕ) → n ≡ hostChannelsAt 2 rows r → left < n → left + sumBelow (hostChannelsAt 2 rows) r ≡ p → stripStart rows p ≡ sumBelow (capacityAt rows) r
+  unfolding hostChannelsAt
   start-here left p r n e l h = go (hasRole 2 rows r) refl
     where
       go : (t : Bool) → hasRole 2 rows r ≡ t → stripStart rows p ≡ sumBelow (capacityAt rows) r
       go true q =
           let one : n ≡ 1 = e ∙ ap (λ (t : Bool). ifElse t 1 0) q in
-          let same : sumBelow (portsAt 2 rows) r ≡ p = omega arith in
+          let same : sumBelow (hostChannelsAt 2 rows) r ≡ p = omega arith in
           subst (λ (k : ℕ). stripStart rows k ≡ sumBelow (capacityAt rows) r) same (strip-start rows r q)
       go false q = let zero : n ≡ 0 = e ∙ ap (λ (t : Bool). ifElse t 1 0) q in absurd (omega arith)
 
   -- past the last channel
-  pub start-past : (p : ℕ) → sumBelow (portsAt 2 rows) (declarations rows) ≤ p → stripStart rows p ≡ sumBelow (capacityAt rows) (declarations rows)
-  unfolding stripStart totalPorts
+  pub start-past : (p : ℕ) → sumBelow (hostChannelsAt 2 rows) (declarations rows) ≤ p → stripStart rows p ≡ sumBelow (capacityAt rows) (declarations rows)
+  unfolding stripStart hostChannels
   start-past p l = let n = capacities-length rows in ap sumOf (take-all p (capacities rows) (omega arith)) ∙ capacities-sum rows
 
   module _ (ok : check rows ≡ none) where

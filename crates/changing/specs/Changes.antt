@@ -8,9 +8,8 @@ use lib.ListN.{getD}
 use lib.Dec.{eqb}
 use Rattle.meaning.specs.Basics.{ifElse}
 use Rattle.meaning.specs.Rows.{naturalAt}
-use Rattle.meaning.specs.Intent.{Sheet}
-use Rattle.meaning.specs.Buffers.{Buffers}
-use Rattle.evaluation.specs.Cells.{cellOf, decoded}
+use Rattle.meaning.specs.Readings.{Sheet}
+use Rattle.meaning.specs.Buffers.{Buffers, cellOf, decoded}
 use Rattle.offers.specs.declared.Offer.{Offer}
 use Rattle.offers.specs.declared.Offer.the-variants.{Lacks, Nothing as Closed, Open, Reads as Read, Inputs}
 use Rattle.offers.specs.Offers.{guardOffered}
@@ -38,40 +37,40 @@ numberSent (OutputsTo e x) = x
 numberSent Selects = pos 0
 
 -- row `row` gets a state, and the data changes; no other row ends
-abbrev pub becomes : ℕ → ℕ → Data → Change
-becomes row state d = record { at = row; next = state; sender = 0; written = d }
+abbrev pub rowBecomes : ℕ → ℕ → Data → Change
+rowBecomes row state d = record { at = row; next = state; sender = 0; written = d }
 
 -- a number passes from the sender of a note to a cell, row `row` gets a state, and the sender ends
-abbrev pub meets : ℕ → ℤ → ℕ → ℕ → ℕ → Change
-meets note x a row state = record { at = row; next = state; sender = note; written = Cell a x 1 }
+abbrev pub communicates : ℕ → ℤ → ℕ → ℕ → ℕ → Change
+communicates note x a row state = record { at = row; next = state; sender = note; written = Cell a x 1 }
 
 module _ (rows : List ℤ) (sheet : Sheet) (values : List ℤ) (marks places counts states waiting : List ℕ) where
   -- a communication on element e
   unfoldable pub meetingOf : ℕ → ℕ → ℕ → ℕ → Change
-  meetingOf e a row state = meets (getD waiting e 0) (numberSent (workingDoes rows sheet values marks places counts states (getD waiting e 0 - 1))) a row state
+  meetingOf e a row state = communicates (getD waiting e 0) (numberSent (workingDoes rows sheet values marks places counts states (getD waiting e 0 - 1))) a row state
 
   -- the step of row j by itself, by what the row would do; where it has none it stays as it is
   abbrev pub ownChangeBy : ℕ → Does → Change
-  ownChangeBy j Waits = becomes j 1 Nothing
-  ownChangeBy j (Stops k) = becomes j (10 + k) Nothing
-  ownChangeBy j (Assigns a x) = becomes j 2 (Cell a x 1)
-  ownChangeBy j Ends = becomes j 2 Nothing
-  ownChangeBy j (Starts q) = becomes q 1 Nothing
-  ownChangeBy j (Reads a x m p) = becomes j 2 (Reading a x m p)
-  ownChangeBy j (Writes p x) = becomes j 2 (Output p x)
+  ownChangeBy j Waits = rowBecomes j 1 Nothing
+  ownChangeBy j (Stops k) = rowBecomes j (10 + k) Nothing
+  ownChangeBy j (Assigns a x) = rowBecomes j 2 (Cell a x 1)
+  ownChangeBy j Ends = rowBecomes j 2 Nothing
+  ownChangeBy j (Starts q) = rowBecomes q 1 Nothing
+  ownChangeBy j (Reads a x m p) = rowBecomes j 2 (Reading a x m p)
+  ownChangeBy j (Writes p x) = rowBecomes j 2 (Output p x)
   ownChangeBy j (InputsFrom e a) = meetingOf e a j 2
-  ownChangeBy j (OutputsTo e x) = becomes j 1 Nothing
-  ownChangeBy j Selects = becomes j 1 Nothing
+  ownChangeBy j (OutputsTo e x) = rowBecomes j 1 Nothing
+  ownChangeBy j Selects = rowBecomes j 1 Nothing
 
   unfoldable pub ownChange : ℕ → Change
   ownChange j = ownChangeBy j (workingDoes rows sheet values marks places counts states j)
 
   -- the step of an ALT with its option of row j, by what the option offers: process q starts
   abbrev pub optionChangeBy : ℕ → ℕ → Offer → Change
-  optionChangeBy j q (Lacks k) = becomes j 0 Nothing
-  optionChangeBy j q Closed = becomes j 0 Nothing
-  optionChangeBy j q Open = becomes q 1 Nothing
-  optionChangeBy j q (Read a x m p) = becomes q 1 (Reading a x m p)
+  optionChangeBy j q (Lacks k) = rowBecomes j 0 Nothing
+  optionChangeBy j q Closed = rowBecomes j 0 Nothing
+  optionChangeBy j q Open = rowBecomes q 1 Nothing
+  optionChangeBy j q (Read a x m p) = rowBecomes q 1 (Reading a x m p)
   optionChangeBy j q (Inputs e a) = meetingOf e a q 1
 
   unfoldable pub optionChange : ℕ → Change

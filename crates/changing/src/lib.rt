@@ -3,12 +3,12 @@ ghost use mathlib.Core.Path.{_≡_};
 ghost use mathlib.Core.Option.{none};
 ghost use Prim.Native.Nat.{_-_, _<_};
 ghost use Rattle.meaning.specs.Rows.{rowCount};
-ghost use Rattle.meaning.specs.Intent.{Sheet};
+ghost use Rattle.meaning.specs.Readings.{Sheet};
 ghost use Rattle.meaning.specs.Answers.{check};
-ghost use Rattle.layout.specs.Names.{Named};
+ghost use Rattle.base_layout.specs.Names.{Named};
 ghost use Rattle.offers.specs.Held.{KeptReadings};
 ghost use Rattle.machine.specs.Held.{stripStart};
-ghost use Rattle.changing.specs.Changes.{numberSent, becomes, meetingOf, ownChange, optionChange, changeOf};
+ghost use Rattle.changing.specs.Changes.{numberSent, rowBecomes, meetingOf, ownChange, optionChange, changeOf};
 use intents::Does;
 use offers::Offer;
 use stepping::acting::working_does;
@@ -62,7 +62,7 @@ fn row_of(note: u16) -> usize
 
 // Row `at` gets state `next`, and the data changes; no other row ends.
 fn becomes(at: usize, next: u8, written: Data) -> Change
-    ensures { λ c. ⌜ c ≡ becomes at next written ⌝ }
+    ensures { λ c. ⌜ c ≡ rowBecomes at next written ⌝ }
 {
     Change {
         at,
@@ -197,7 +197,7 @@ fn option_change<'a>(
     requires row { ⌜ j < rowCount (now rows) ⌝ }
     ensures { λ c. ⌜ ((sheet : Sheet) → KeptReadings (now (rows .entry)) sheet (now (readings .entry)) (now (given .entry)) lines → c ≡ optionChange (now (rows .entry)) sheet (now (values .entry)) (now (marks .entry)) (now (places .entry)) (now (counts .entry)) (now (states .entry)) (now (waiting .entry)) j) ⌝ }
 {
-    let process = layout::nodes::natural(rows, j, 1) as usize;
+    let process = base_layout::nodes::natural(rows, j, 1) as usize;
     let o = offers::option_offer(
         rows,
         names,
@@ -292,16 +292,16 @@ pub fn strip_start(rows: &[i32], p: usize) -> usize
     requires { ⌜ check (now rows) ≡ none ⌝ }
     ensures { λ n. ⌜ n ≡ stripStart (now (rows .entry)) p ⌝ }
 {
-    let d = rows::declarations(rows);
+    let d = base_rows::declarations(rows);
     let mut left = p;
     let mut start: usize = 0;
     let mut r = 0;
     while r < d {
-        let n = rows::ports_at(2, rows, d, r) as usize;
+        let n = base_rows::host_channels_at(2, rows, d, r) as usize;
         if left < n {
             return start;
         }
-        let capacity = rows::capacity_at(rows, d, r) as usize;
+        let capacity = base_rows::capacity_at(rows, d, r) as usize;
         left -= n;
         start += capacity;
         r += 1;

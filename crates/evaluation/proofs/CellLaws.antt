@@ -12,12 +12,11 @@ use Rattle.meaning.specs.declared.Value.{Value}
 use Rattle.meaning.specs.declared.Value.the-variants.{Number, Missing}
 use Rattle.meaning.specs.declared.Index.{Index}
 use Rattle.meaning.specs.declared.Index.the-variants.{At, Fails}
-use Rattle.meaning.specs.State.{Message}
-use Rattle.meaning.specs.Buffers.{mark, numberIn}
+use Rattle.meaning.specs.Buffers.{mark, numberIn, cellOf, decoded}
 use Rattle.meaning.specs.Tree.{Expr, literal, element, monadic, dyadic, noExpr}
-use Rattle.meaning.specs.Values.{cellValue, readCell, inArray, whenNumber, monadicOf, dyadicOf, value}
+use Rattle.meaning.specs.Values.{Message, monadicOf, whenNumber, dyadicOf, inArray, cellValue, readCell, value}
 use Rattle.evaluation.specs.declared.store.State.{State}
-use Rattle.evaluation.specs.Cells.{cellOf, decoded, cellsOf, withCell, withPlace}
+use Rattle.evaluation.specs.Cells.{stateCells, withCell, withPlace}
 
 -- a change of number i and mark i changes cell i alone
 pub decoded-set : (xs : List ℤ) (ms : List ℕ) (i : ℕ) (x : ℤ) (m : ℕ) → decoded (set xs i x) (set ms i m) ≡ set (decoded xs ms) i (cellOf x m)
@@ -36,7 +35,7 @@ pub decoded-held : (xs : List ℤ) (ms : List ℕ) (i : ℕ) (c : Message) → d
 decoded-held xs ms i c = decoded-set xs ms i (numberIn c) (mark c) ∙ ap (set (decoded xs ms) i) (decoded-as-held c)
 
 -- the cells of a state that was changed
-pub cells-with : (s : State) (i : ℕ) (c : Message) → cellsOf (withCell s i c) ≡ set (cellsOf s) i c
+pub cells-with : (s : State) (i : ℕ) (c : Message) → stateCells (withCell s i c) ≡ set (stateCells s) i c
 cells-with s i c = decoded-held (s .values) (s .marks) i c
 
 -- past the last cell nothing changes

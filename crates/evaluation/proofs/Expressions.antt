@@ -7,16 +7,17 @@ use lib.IntN.{ℤ}
 use lib.Dec.{eqb}
 use borrow.Author.Tests.{ne-eqb}
 use Rattle.meaning.specs.declared.Node.{Node}
-use Rattle.meaning.specs.Rows.{ifElse, rowCount, fieldAt, naturalAt, kindAt}
+use Rattle.meaning.specs.Basics.{ifElse}
+use Rattle.meaning.specs.Rows.{rowCount, fieldAt, naturalAt, kindAt}
 use Rattle.meaning.specs.Declarations.{variableAt}
-use Rattle.meaning.specs.Tree.{Expr, literal, element, monadic, dyadic, noExpr, Part, partOf, partAt}
-use Rattle.layout.specs.Operands.{operandAt}
-use Rattle.layout.proofs.RowNodes.{nodeOf}
-use Rattle.layout.proofs.Parts.{higherPart, part-of-kind, operand-part}
+use Rattle.meaning.specs.Tree.{Expr, literal, element, monadic, dyadic, noExpr, Content, contentOf, contentAt}
+use Rattle.base_layout.specs.Operands.{operandAt}
+use Rattle.base_layout.proofs.RowNodes.{nodeOf}
+use Rattle.base_layout.proofs.Parts.{higherContent, part-of-kind, operand-part}
 
-module _ (rows : List ℤ) (r : ℕ) (at : ℕ → Part) where
+module _ (rows : List ℤ) (r : ℕ) (at : ℕ → Content) where
   abbrev exprOf : Node → Expr
-  exprOf n = partOf rows r at n .expr
+  exprOf n = contentOf rows r at n .expr
 
   either : (t : Bool) (m n : Node) → exprOf m ≡ noExpr → exprOf n ≡ noExpr → exprOf (ifElse t m n) ≡ noExpr
   either true m n p q = p
@@ -45,22 +46,22 @@ module _ (rows : List ℤ) (r : ℕ) (at : ℕ → Part) where
 module _ (rows : List ℤ) (r : ℕ) (h : r < rowCount rows) where
   -- the expression of an operand
   abbrev pub operandExpr : ℕ → Expr
-  operandExpr j = partAt rows (operandAt rows r j) .expr
+  operandExpr j = contentAt rows (operandAt rows r j) .expr
 
-  by-kind : (k : ℕ) → kindAt rows r ≡ k → partAt rows r .expr ≡ partOf rows r (higherPart rows r) (nodeOf k (fieldAt rows r 1) (naturalAt rows r 1) (naturalAt rows r 2) (naturalAt rows r 3)) .expr
-  by-kind k e = ap (λ (p : Part). p .expr) (part-of-kind rows r k h e)
+  by-kind : (k : ℕ) → kindAt rows r ≡ k → contentAt rows r .expr ≡ contentOf rows r (higherContent rows r) (nodeOf k (fieldAt rows r 1) (naturalAt rows r 1) (naturalAt rows r 2) (naturalAt rows r 3)) .expr
+  by-kind k e = ap (λ (p : Content). p .expr) (part-of-kind rows r k h e)
 
-  pub literal-expr : kindAt rows r ≡ 10 → partAt rows r .expr ≡ literal (fieldAt rows r 1)
+  pub literal-expr : kindAt rows r ≡ 10 → contentAt rows r .expr ≡ literal (fieldAt rows r 1)
   literal-expr e = by-kind 10 e
 
-  pub element-expr : kindAt rows r ≡ 11 → partAt rows r .expr ≡ element (variableAt rows (naturalAt rows r 1)) (operandExpr 2)
-  element-expr e = by-kind 11 e ∙ ap (λ (p : Part). element (variableAt rows (naturalAt rows r 1)) (p .expr)) (operand-part rows r 2)
+  pub element-expr : kindAt rows r ≡ 11 → contentAt rows r .expr ≡ element (variableAt rows (naturalAt rows r 1)) (operandExpr 2)
+  element-expr e = by-kind 11 e ∙ ap (λ (p : Content). element (variableAt rows (naturalAt rows r 1)) (p .expr)) (operand-part rows r 2)
 
-  pub monadic-expr : kindAt rows r ≡ 12 → partAt rows r .expr ≡ monadic (naturalAt rows r 1) (operandExpr 2)
-  monadic-expr e = by-kind 12 e ∙ ap (λ (p : Part). monadic (naturalAt rows r 1) (p .expr)) (operand-part rows r 2)
+  pub monadic-expr : kindAt rows r ≡ 12 → contentAt rows r .expr ≡ monadic (naturalAt rows r 1) (operandExpr 2)
+  monadic-expr e = by-kind 12 e ∙ ap (λ (p : Content). monadic (naturalAt rows r 1) (p .expr)) (operand-part rows r 2)
 
-  pub dyadic-expr : kindAt rows r ≡ 13 → partAt rows r .expr ≡ dyadic (naturalAt rows r 1) (operandExpr 2) (operandExpr 3)
-  dyadic-expr e = by-kind 13 e ∙ ap₂ (λ (p q : Part). dyadic (naturalAt rows r 1) (p .expr) (q .expr)) (operand-part rows r 2) (operand-part rows r 3)
+  pub dyadic-expr : kindAt rows r ≡ 13 → contentAt rows r .expr ≡ dyadic (naturalAt rows r 1) (operandExpr 2) (operandExpr 3)
+  dyadic-expr e = by-kind 13 e ∙ ap₂ (λ (p q : Content). dyadic (naturalAt rows r 1) (p .expr) (q .expr)) (operand-part rows r 2) (operand-part rows r 3)
 
-  pub no-expr : (kindAt rows r ≡ 10 → ⊥) → (kindAt rows r ≡ 11 → ⊥) → (kindAt rows r ≡ 12 → ⊥) → (kindAt rows r ≡ 13 → ⊥) → partAt rows r .expr ≡ noExpr
-  no-expr p q s t = by-kind (kindAt rows r) refl ∙ other-kind rows r (higherPart rows r) (kindAt rows r) _ _ _ _ p q s t
+  pub no-expr : (kindAt rows r ≡ 10 → ⊥) → (kindAt rows r ≡ 11 → ⊥) → (kindAt rows r ≡ 12 → ⊥) → (kindAt rows r ≡ 13 → ⊥) → contentAt rows r .expr ≡ noExpr
+  no-expr p q s t = by-kind (kindAt rows r) refl ∙ other-kind rows r (higherContent rows r) (kindAt rows r) _ _ _ _ p q s t

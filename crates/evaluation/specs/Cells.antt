@@ -3,14 +3,14 @@ use mathlib.Core.List.{List}
 use Prim.Native.Nat.{ℕ, _+_}
 use lib.IntN.{pos}
 use lib.ListN.{getD, set, replicate}
-use Rattle.meaning.specs.State.{Message}
+use Rattle.meaning.specs.Values.{Message}
 use Rattle.meaning.specs.Buffers.{mark, numberIn}
-pub use Rattle.meaning.specs.Buffers.{cellOf, decoded}
+use Rattle.meaning.specs.Buffers.{decoded}
 use Rattle.evaluation.specs.declared.store.State.{State}
 
 -- the cells of a state
-abbrev pub cellsOf : State → List Message
-cellsOf s = decoded (s .values) (s .marks)
+abbrev pub stateCells : State → List Message
+stateCells s = decoded (s .values) (s .marks)
 
 -- "All cells are unset when a run begins"
 abbrev pub unsetState : State

@@ -2,15 +2,15 @@
 ghost use mathlib.Core.Path.{_≡_};
 ghost use mathlib.Core.Option.{none};
 ghost use lib.ListN.{getD};
-ghost use Rattle.meaning.specs.Tree.{partAt};
+ghost use Rattle.meaning.specs.Tree.{contentAt};
 ghost use Rattle.meaning.specs.Values.{isTrue, truth, operate, monadicOf, whenNumber, cellValue, readCell, inArray};
 ghost use Rattle.meaning.specs.Values as meaning;
-ghost use Rattle.evaluation.specs.Cells.{decoded};
-ghost use Rattle.layout.specs.Names.{Named, variableIn};
+ghost use Rattle.meaning.specs.Buffers.{decoded};
+ghost use Rattle.base_layout.specs.Names.{Named, variableIn};
 
 pub mod store; // store.rt: the cells, by value
 
-use layout::nodes;
+use base_layout::nodes;
 use meaning::Index;
 use meaning::Value;
 
@@ -44,8 +44,8 @@ pub fn cell_at<'a>(values: &'a [i32], marks: &'a [u8], i: Index) -> Value
 fn element<'a>(names: &[u16], values: &'a [i32], marks: &'a [u8], a: u32, i: Value) -> Value
     ensures { λ v. ⌜ v ≡ readCell (decoded (now (values .entry)) (now (marks .entry))) (inArray (variableIn (now (names .entry)) a .first) (variableIn (now (names .entry)) a .size) i) ⌝ }
 {
-    let v = layout::variable_at(names, a);
-    cell_at(values, marks, numbers::subscript(v.first, v.size, i))
+    let v = base_layout::variable_at(names, a);
+    cell_at(values, marks, base_numbers::subscript(v.first, v.size, i))
 }
 
 // A monadic operator on what may have a value.
@@ -53,7 +53,7 @@ pub fn monadic(op: u32, v: Value) -> Value
     ensures { λ r. ⌜ r ≡ whenNumber v (monadicOf op) ⌝ }
 {
     match v {
-        Value::Number(x) => numbers::monadic(op, x),
+        Value::Number(x) => base_numbers::monadic(op, x),
         Value::Missing(k) => Value::Missing(k),
     }
 }
@@ -63,7 +63,7 @@ pub fn dyadic(op: u32, x: i32, w: Value) -> Value
     ensures { λ r. ⌜ r ≡ whenNumber w (operate op x) ⌝ }
 {
     match w {
-        Value::Number(y) => numbers::dyadic(op, x, y),
+        Value::Number(y) => base_numbers::dyadic(op, x, y),
         Value::Missing(k) => Value::Missing(k),
     }
 }
@@ -72,7 +72,7 @@ pub fn dyadic(op: u32, x: i32, w: Value) -> Value
 pub fn decided(x: i32) -> Value
     ensures { λ r. ⌜ r ≡ truth (isTrue x) ⌝ }
 {
-    if numbers::is_true(x) {
+    if base_numbers::is_true(x) {
         return Value::Number(1);
     }
     Value::Number(0)
@@ -87,7 +87,7 @@ pub fn eval<'a>(
     r: usize,
 ) -> Value
     requires { ⌜ Named (now rows) (now names) ⌝ }
-    ensures { λ v. ⌜ v ≡ meaning.value (decoded (now (values .entry)) (now (marks .entry))) (partAt (now (rows .entry)) r .expr) ⌝ }
+    ensures { λ v. ⌜ v ≡ meaning.value (decoded (now (values .entry)) (now (marks .entry))) (contentAt (now (rows .entry)) r .expr) ⌝ }
 {
     if rows.len() / 4 <= r {
         return Value::Missing(0);
@@ -108,7 +108,7 @@ pub fn eval<'a>(
             match v {
                 Value::Missing(k) => Value::Missing(k),
                 Value::Number(x) => {
-                    if numbers::decides(op, x) {
+                    if base_numbers::decides(op, x) {
                         return decided(x);
                     }
                     dyadic(
@@ -134,7 +134,7 @@ pub fn index<'a>(
     r: usize,
 ) -> Index
     requires { ⌜ Named (now rows) (now names) ⌝ }
-    ensures { λ i. ⌜ i ≡ meaning.index (decoded (now (values .entry)) (now (marks .entry))) first size (partAt (now (rows .entry)) r .expr) ⌝ }
+    ensures { λ i. ⌜ i ≡ meaning.index (decoded (now (values .entry)) (now (marks .entry))) first size (contentAt (now (rows .entry)) r .expr) ⌝ }
 {
-    numbers::subscript(first, size, eval(rows, names, values, marks, r))
+    base_numbers::subscript(first, size, eval(rows, names, values, marks, r))
 }

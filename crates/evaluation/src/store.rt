@@ -3,7 +3,7 @@ ghost use mathlib.Core.Path.{_≡_};
 ghost use mathlib.Core.Option.{none, some};
 ghost use Prim.Native.Nat.{_<_};
 ghost use lib.ListN as lists;
-ghost use Rattle.evaluation.specs.Cells.{cellsOf, withCell, withPlace, unsetState};
+ghost use Rattle.evaluation.specs.Cells.{stateCells, withCell, withPlace, unsetState};
 
 // An unset cell has mark 0 and holds 0; a set one has mark 1. The place of a channel from the host is how many readings it has given.
 pub struct State {
@@ -15,7 +15,7 @@ pub struct State {
 // All cells are unset, and nothing has been read.
 pub fn fresh() -> State
     ensures stored { λ s. ⌜ s ≡ unsetState ⌝ }
-    ensures cells { λ s. ⌜ cellsOf s ≡ lists.replicate 256 none ⌝ }
+    ensures cells { λ s. ⌜ stateCells s ≡ lists.replicate 256 none ⌝ }
 {
     let values = [0i32; 256];
     let marks = [0u8; 256];
@@ -31,7 +31,7 @@ impl State {
     // The state with cell i set to x; past the last cell there is nothing to set.
     pub fn set(mut self, i: usize, x: i32) -> State
         ensures stored { λ s. ⌜ s ≡ withCell self i (some x) ⌝ }
-        ensures cells { λ s. ⌜ cellsOf s ≡ lists.set (cellsOf self) i (some x) ⌝ }
+        ensures cells { λ s. ⌜ stateCells s ≡ lists.set (stateCells self) i (some x) ⌝ }
     {
         if i < 256 {
             self.values[i] = x;
@@ -43,7 +43,7 @@ impl State {
     // The state with cell i unset.
     pub fn unset(mut self, i: usize) -> State
         ensures stored { λ s. ⌜ s ≡ withCell self i none ⌝ }
-        ensures cells { λ s. ⌜ cellsOf s ≡ lists.set (cellsOf self) i none ⌝ }
+        ensures cells { λ s. ⌜ stateCells s ≡ lists.set (stateCells self) i none ⌝ }
     {
         if 256 > i {
             self.values[i] = 0;

@@ -11,31 +11,32 @@ use Rattle.meaning.specs.declared.Value.{Value}
 use Rattle.meaning.specs.declared.Value.the-variants.{Number, Missing}
 use Rattle.meaning.specs.declared.Index.{Index}
 use Rattle.meaning.specs.declared.Index.the-variants.{At, Fails}
-use Rattle.meaning.specs.Rows.{ifElse}
+use Rattle.meaning.specs.Basics.{ifElse}
 use Rattle.meaning.specs.Declarations.{Channel}
-use Rattle.meaning.specs.Tree.{Expr, Receive, IfChoice, AltOption, Action, stop, skip, sequence, parallel, assign, receive, send, conditional, loop, alternation}
-use Rattle.meaning.specs.Values.{isTrue, value, index}
-use Rattle.meaning.specs.State.{Message, Store, writeOutput}
-use Rattle.meaning.specs.Intent.{Sheet, Intent, waits, moves, outputsTo, choosing, sending, tests, Reception, reception, inputting, Looked, fails, offers, looks, selects, selecting, assigning, testing, intent}
-use Rattle.evaluation.specs.Cells.{decoded}
+use Rattle.meaning.specs.Tree.{Expr, ChannelInput, IfChoice, AltOption, Action, stop, skip, sequence, parallel, assign, input, output, conditional, loop, alternation}
+use Rattle.meaning.specs.Values.{Message, isTrue, value, index}
+use Rattle.meaning.specs.State.{Store, writeOutput}
+use Rattle.meaning.specs.Readings.{Sheet}
+use Rattle.meaning.specs.Intent.{Intent, waits, moves, outputsTo, choosing, outputting, tests, InputResult, inputResult, inputting, OptionsResult, fails, offers, optionsResult, selects, selecting, assigning, testing, intent}
+use Rattle.meaning.specs.Buffers.{decoded}
 use Rattle.evaluation.proofs.CellLaws.{decoded-as-held}
 use Rattle.offers.specs.declared.Offer.{Offer}
 use Rattle.offers.specs.declared.Offer.the-variants.{Lacks, Nothing, Open, Reads as Read, Inputs}
 use Rattle.intents.specs.declared.Does.{Does}
 use Rattle.intents.specs.declared.Does.the-variants.{Waits, Stops, Ends, Starts, Writes, OutputsTo, Selects}
 use Rattle.offers.specs.Offers.{inputOffered, guardOffered}
-use Rattle.offers.specs.Held.{KeptReadings, Held, lookedAs, offersIn}
+use Rattle.offers.specs.Held.{KeptReadings, Held, optionOffers, offersIn}
 use Rattle.offers.proofs.OptionLaws.{both, looks-both}
 use Rattle.offers.proofs.OptionStands as stands
-use Rattle.intents.specs.Does.{assigned, tested, chosen, sent, inputDoes, unlessLacks, ifDoes, altDoes, doesOf}
+use Rattle.intents.specs.Does.{assigned, tested, chosenChoice, sent, inputDoes, unlessLacks, ifDoes, altDoes, doesOf}
 use Rattle.intents.specs.Stands.{optionsOf, standsFor}
 
 -- an ALT by what its options come to
-abbrev altAs : Looked → Does
+abbrev altAs : OptionsResult → Does
 altAs (fails k) = Stops k
 altAs (offers l) = Selects
 
-alt-both : (x : Store) (b : AltOption) (o : Offer) (m : Looked) → unlessLacks o (altAs m) ≡ altAs (both (lookedAs x b o) m)
+alt-both : (x : Store) (b : AltOption) (o : Offer) (m : OptionsResult) → unlessLacks o (altAs m) ≡ altAs (both (optionOffers x b o) m)
 alt-both x b (Lacks k) m = refl
 alt-both x b Nothing (fails k) = refl
 alt-both x b Nothing (offers l) = refl
@@ -56,12 +57,12 @@ module _ (sheet : Sheet) (x : Store) (values : List ℤ) (marks places counts : 
   same-index : (first n : ℕ) (e : Expr) → index (x .cells) first n e ≡ index cells first n e
   same-index first n e = stands.same-index sheet x values marks places counts held first n e
 
-  alt-is : (l : List AltOption) → altDoes sheet cells places l ≡ altAs (looks sheet l x)
+  alt-is : (l : List AltOption) → altDoes sheet cells places l ≡ altAs (optionsResult sheet l x)
   alt-is [] = refl
   alt-is (b ∷ l) =
       ap (unlessLacks (guardOffered sheet cells places (b .guard))) (alt-is l)
-      ∙ alt-both x b (guardOffered sheet cells places (b .guard)) (looks sheet l x)
-      ∙ ap (λ (m : Looked). altAs (both m (looks sheet l x))) (stands.option-stands sheet x values marks places counts held b)
+      ∙ alt-both x b (guardOffered sheet cells places (b .guard)) (optionsResult sheet l x)
+      ∙ ap (λ (m : OptionsResult). altAs (both m (optionsResult sheet l x))) (stands.option-stands sheet x values marks places counts held b)
       ∙ ap altAs (sym (looks-both sheet x b l))
 
   module _ (bs : List AltOption) (r : ℕ) where
@@ -81,7 +82,7 @@ module _ (sheet : Sheet) (x : Store) (values : List ℤ) (marks places counts : 
         go true = refl
         go false = refl
 
-    chosen-is : (q : ℕ) (v : Value) (d : Does) (w : Intent) → stand d ≡ w → stand (chosen q v d) ≡ choosing r q v w
+    chosen-is : (q : ℕ) (v : Value) (d : Does) (w : Intent) → stand d ≡ w → stand (chosenChoice q v d) ≡ choosing r q v w
     chosen-is q (Missing k) d w e = refl
     chosen-is q (Number z) d w e = go (isTrue z)
       where
@@ -93,25 +94,25 @@ module _ (sheet : Sheet) (x : Store) (values : List ℤ) (marks places counts : 
     tests-is [] = refl
     tests-is (t ∷ l) = rw (same (t .boolean)) (chosen-is (t .process) (value cells (t .boolean)) (ifDoes cells l) (tests sheet r l x) (tests-is l))
 
-    sent-is : (c : Channel) (i : Index) (v : Value) → stand (sent (c .host) (c .port) (c .capacity) (getD counts (c .port) 0) i v) ≡ sending r c (x .outputs) i v
+    sent-is : (c : Channel) (i : Index) (v : Value) → stand (sent (c .host) (c .number) (c .capacity) (getD counts (c .number) 0) i v) ≡ outputting r c (x .outputs) i v
     sent-is c (Fails k) v = refl
     sent-is c (At e) (Missing k) = refl
-    sent-is c (At e) (Number v) = rw (sym (held .counts (c .port))) (go (c .host) (ltb (length (getD (x .outputs) (c .port) [])) (c .capacity)))
+    sent-is c (At e) (Number v) = rw (sym (held .counts (c .number))) (go (c .host) (ltb (length (getD (x .outputs) (c .number) [])) (c .capacity)))
       where
-        go : (t u : Bool) → stand (ifElse t (ifElse u (Writes (c .port) v) Waits) (OutputsTo e v)) ≡ ifElse t (ifElse u (moves r 2 (writeOutput (c .port) (getD (x .outputs) (c .port) [] ++ (some v ∷ [])) ∷ [])) waits) (outputsTo e (some v))
+        go : (t u : Bool) → stand (ifElse t (ifElse u (Writes (c .number) v) Waits) (OutputsTo e v)) ≡ ifElse t (ifElse u (moves r 2 (writeOutput (c .number) (getD (x .outputs) (c .number) [] ++ (some v ∷ [])) ∷ [])) waits) (outputsTo e (some v))
         go true true = refl
         go true false = refl
         go false u = refl
 
-    input-is : (i : Receive) → stand (inputDoes (inputOffered sheet cells places i)) ≡ inputting r (reception sheet i x)
-    input-is = stands.reception-is sheet x values marks places counts held (λ (o : Offer) (q : Reception). stand (inputDoes o) ≡ inputting r q) (λ k. refl) refl (λ a p m. rw (decoded-as-held m)) (λ e a. refl)
+    input-is : (i : ChannelInput) → stand (inputDoes (inputOffered sheet cells places i)) ≡ inputting r (inputResult sheet i x)
+    input-is = stands.reception-is sheet x values marks places counts held (λ (o : Offer) (q : InputResult). stand (inputDoes o) ≡ inputting r q) (λ k. refl) refl (λ a p m. rw (decoded-as-held m)) (λ e a. refl)
 
-  selects-is : (r : ℕ) (bs : List AltOption) → standsFor sheet x bs r (altDoes sheet cells places bs) ≡ selecting r (looks sheet bs x)
-  selects-is r bs = rw (alt-is bs) (go (looks sheet bs x) refl)
+  selects-is : (r : ℕ) (bs : List AltOption) → standsFor sheet x bs r (altDoes sheet cells places bs) ≡ selecting r (optionsResult sheet bs x)
+  selects-is r bs = rw (alt-is bs) (go (optionsResult sheet bs x) refl)
     where
-      go : (m : Looked) → looks sheet bs x ≡ m → standsFor sheet x bs r (altAs m) ≡ selecting r m
+      go : (m : OptionsResult) → optionsResult sheet bs x ≡ m → standsFor sheet x bs r (altAs m) ≡ selecting r m
       go (fails k) e = refl
-      go (offers l) e = ap (λ (m : Looked). selects (offersIn m)) e
+      go (offers l) e = ap (λ (m : OptionsResult). selects (offersIn m)) e
 
   -- what the code finds stands for the intent
   pub action-stands : (k : Action) (r : ℕ) → standsFor sheet x (optionsOf k) r (doesOf sheet cells places counts k) ≡ intent sheet k r x
@@ -121,8 +122,8 @@ module _ (sheet : Sheet) (x : Store) (values : List ℤ) (marks places counts : 
   action-stands sequence r = refl
   action-stands parallel r = refl
   action-stands (assign v e f) r = rw (same-index (v .first) (v .size) e, same f) (assigned-is [] r (index cells (v .first) (v .size) e) (value cells f))
-  action-stands (receive i) r = input-is [] r i
-  action-stands (send c e f) r = rw (same-index (c .first) (c .size) e, same f) (sent-is [] r c (index cells (c .first) (c .size) e) (value cells f))
+  action-stands (input i) r = input-is [] r i
+  action-stands (output c e f) r = rw (same-index (c .first) (c .size) e, same f) (sent-is [] r c (index cells (c .first) (c .size) e) (value cells f))
   action-stands (conditional ts) r = tests-is [] r ts
   action-stands (loop e b) r = rw (same e) (tested-is [] r b (value cells e))
   action-stands (alternation bs) r = selects-is r bs

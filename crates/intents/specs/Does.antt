@@ -8,11 +8,10 @@ use Rattle.meaning.specs.declared.Value.{Value}
 use Rattle.meaning.specs.declared.Value.the-variants.{Number, Missing}
 use Rattle.meaning.specs.declared.Index.{Index}
 use Rattle.meaning.specs.declared.Index.the-variants.{At, Fails}
-use Rattle.meaning.specs.Rows.{ifElse}
-use Rattle.meaning.specs.Tree.{IfChoice, AltOption, Action, stop, skip, sequence, parallel, assign, receive, send, conditional, loop, alternation}
-use Rattle.meaning.specs.Values.{isTrue, value, index}
-use Rattle.meaning.specs.State.{Message}
-use Rattle.meaning.specs.Intent.{Sheet}
+use Rattle.meaning.specs.Basics.{ifElse}
+use Rattle.meaning.specs.Tree.{IfChoice, AltOption, Action, stop, skip, sequence, parallel, assign, input, output, conditional, loop, alternation}
+use Rattle.meaning.specs.Values.{Message, isTrue, value, index}
+use Rattle.meaning.specs.Readings.{Sheet}
 use Rattle.offers.specs.declared.Offer.{Offer}
 use Rattle.offers.specs.declared.Offer.the-variants.{Lacks, Nothing, Open, Reads as Read, Inputs}
 use Rattle.offers.specs.declared.Lack.{Lack}
@@ -33,9 +32,9 @@ tested body (Missing k) = Stops k
 tested body (Number x) = ifElse (isTrue x) (Starts body) Ends
 
 -- "its first true choice, tests looked at in order and none after it"
-abbrev pub chosen : ℕ → Value → Does → Does
-chosen process (Missing k) later = Stops k
-chosen process (Number x) later = ifElse (isTrue x) (Starts process) later
+abbrev pub chosenChoice : ℕ → Value → Does → Does
+chosenChoice process (Missing k) later = Stops k
+chosenChoice process (Number x) later = ifElse (isTrue x) (Starts process) later
 
 -- "output takes channel subscript, then expression"; to the host if of a capacity n are used and some is left
 abbrev pub sent : Bool → ℕ → ℕ → ℕ → Index → Value → Does
@@ -60,7 +59,7 @@ unlessLacks o d = stopsIf (lackOf o) d
 
 abbrev pub ifDoes : List Message → List IfChoice → Does
 ifDoes cells [] = Waits
-ifDoes cells (t ∷ l) = let later = ifDoes cells l in chosen (t .process) (value cells (t .boolean)) later
+ifDoes cells (t ∷ l) = let later = ifDoes cells l in chosenChoice (t .process) (value cells (t .boolean)) later
 
 module _ (sheet : Sheet) (cells : List Message) (places : List ℕ) where
   abbrev pub altDoes : List AltOption → Does
@@ -73,8 +72,8 @@ module _ (sheet : Sheet) (cells : List Message) (places : List ℕ) where
   doesOf counts sequence = Waits
   doesOf counts parallel = Waits
   doesOf counts (assign v e f) = assigned (index cells (v .first) (v .size) e) (value cells f)
-  doesOf counts (receive i) = inputDoes (inputOffered sheet cells places i)
-  doesOf counts (send c e f) = sent (c .host) (c .port) (c .capacity) (getD counts (c .port) 0) (index cells (c .first) (c .size) e) (value cells f)
+  doesOf counts (input i) = inputDoes (inputOffered sheet cells places i)
+  doesOf counts (output c e f) = sent (c .host) (c .number) (c .capacity) (getD counts (c .number) 0) (index cells (c .first) (c .size) e) (value cells f)
   doesOf counts (conditional ts) = ifDoes cells ts
   doesOf counts (loop e b) = tested b (value cells e)
   doesOf counts (alternation bs) = altDoes bs

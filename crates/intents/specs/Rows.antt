@@ -5,8 +5,7 @@ use lib.IntN.{ℤ}
 use lib.ListN.{getD}
 use Rattle.meaning.specs.Rows.{naturalAt}
 use Rattle.meaning.specs.Declarations.{variableAt, sinkAt}
-use Rattle.meaning.specs.Values.{value, index}
-use Rattle.meaning.specs.State.{Message}
+use Rattle.meaning.specs.Values.{Message, value, index}
 use Rattle.offers.specs.Rows.{operandExpr}
 use Rattle.intents.specs.declared.Does.{Does}
 use Rattle.intents.specs.Does.{assigned, sent, tested}
@@ -15,10 +14,10 @@ module _ (rows : List ℤ) where
   unfoldable pub assignmentAt : List Message → ℕ → Does
   assignmentAt cells r = let v = variableAt rows (naturalAt rows r 1) in assigned (index cells (v .first) (v .size) (operandExpr rows r 2)) (value cells (operandExpr rows r 3))
 
-  unfoldable pub outputAt : List Message → List ℕ → ℕ → Does
-  outputAt cells counts r =
+  unfoldable pub outputOfRow : List Message → List ℕ → ℕ → Does
+  outputOfRow cells counts r =
       let c = sinkAt rows (naturalAt rows r 1) in
-      sent (c .host) (c .port) (c .capacity) (getD counts (c .port) 0) (index cells (c .first) (c .size) (operandExpr rows r 2)) (value cells (operandExpr rows r 3))
+      sent (c .host) (c .number) (c .capacity) (getD counts (c .number) 0) (index cells (c .first) (c .size) (operandExpr rows r 2)) (value cells (operandExpr rows r 3))
 
   unfoldable pub whileAt : List Message → ℕ → Does
   whileAt cells r = tested (naturalAt rows r 2) (value cells (operandExpr rows r 1))

@@ -3,17 +3,18 @@ ghost use mathlib.Core.Path.{_≡_};
 ghost use Prim.Native.Nat.{_<_};
 ghost use lib.ListN.{getD};
 ghost use Rattle.meaning.specs.Rows.{rowCount};
-ghost use Rattle.meaning.specs.Tree.{partAt, actionOf};
+ghost use Rattle.meaning.specs.Tree.{contentAt, actionOf};
 ghost use Rattle.meaning.specs.State.{Store, program, processAt};
-ghost use Rattle.meaning.specs.Intent.{Sheet, intent};
-ghost use Rattle.layout.specs.Names.{Named};
-ghost use Rattle.evaluation.specs.Cells.{decoded};
-ghost use Rattle.intents.specs.Rows.{assignmentAt, outputAt, whileAt};
+ghost use Rattle.meaning.specs.Readings.{Sheet};
+ghost use Rattle.meaning.specs.Intent.{intent};
+ghost use Rattle.meaning.specs.Buffers.{decoded};
+ghost use Rattle.base_layout.specs.Names.{Named};
+ghost use Rattle.intents.specs.Rows.{assignmentAt, outputOfRow, whileAt};
 ghost use Rattle.intents.specs.Does.{inputDoes, assigned, sent, tested, ifDoes, altDoes, doesOf};
 ghost use Rattle.offers.specs.Held.{KeptReadings, Held};
 ghost use Rattle.intents.specs.Stands.{optionsOf, standsFor};
-use layout::nodes::natural;
-use layout::nodes::operand;
+use base_layout::nodes::natural;
+use base_layout::nodes::operand;
 use meaning::Index;
 use meaning::Value;
 use offers::Lack;
@@ -60,7 +61,7 @@ fn assignment<'a>(
     requires row { ⌜ r < rowCount (now rows) ⌝ }
     ensures { λ d. ⌜ d ≡ assignmentAt (now (rows .entry)) (decoded (now (values .entry)) (now (marks .entry))) r ⌝ }
 {
-    let target = layout::variable_at(names, natural(rows, r, 1));
+    let target = base_layout::variable_at(names, natural(rows, r, 1));
     let i = evaluation::index(
         rows,
         names,
@@ -121,9 +122,9 @@ fn output<'a>(
 ) -> Does
     requires named { ⌜ Named (now rows) (now names) ⌝ }
     requires row { ⌜ r < rowCount (now rows) ⌝ }
-    ensures { λ d. ⌜ d ≡ outputAt (now (rows .entry)) (decoded (now (values .entry)) (now (marks .entry))) (now (counts .entry)) r ⌝ }
+    ensures { λ d. ⌜ d ≡ outputOfRow (now (rows .entry)) (decoded (now (values .entry)) (now (marks .entry))) (now (counts .entry)) r ⌝ }
 {
-    let c = layout::sink_at(names, natural(rows, r, 1));
+    let c = base_layout::sink_at(names, natural(rows, r, 1));
     let e = evaluation::index(
         rows,
         names,
@@ -136,7 +137,7 @@ fn output<'a>(
     sent(
         counts,
         c.host,
-        c.port,
+        c.number,
         c.capacity,
         e,
         evaluation::eval(rows, names, values, marks, operand(rows, r, 3)),
@@ -150,7 +151,7 @@ fn tested(body: usize, v: Value) -> Does
     match v {
         Value::Missing(k) => Does::Stops(k),
         Value::Number(x) => {
-            if numbers::is_true(x) {
+            if base_numbers::is_true(x) {
                 return Does::Starts(body);
             }
             Does::Ends
@@ -185,7 +186,7 @@ fn choice<'a>(
     first: usize,
 ) -> Does
     requires { ⌜ Named (now rows) (now names) ⌝ }
-    ensures { λ d. ⌜ d ≡ ifDoes (decoded (now (values .entry)) (now (marks .entry))) (partAt (now (rows .entry)) first .tests) ⌝ }
+    ensures { λ d. ⌜ d ≡ ifDoes (decoded (now (values .entry)) (now (marks .entry))) (contentAt (now (rows .entry)) first .tests) ⌝ }
 {
     let mut t = first;
     while t < rows.len() / 4 {
@@ -195,7 +196,7 @@ fn choice<'a>(
         match evaluation::eval(rows, names, values, marks, operand(rows, t, 3)) {
             Value::Missing(k) => return Does::Stops(k),
             Value::Number(x) => {
-                if numbers::is_true(x) {
+                if base_numbers::is_true(x) {
                     return Does::Starts(natural(rows, t, 1) as usize);
                 }
             }
@@ -219,7 +220,7 @@ fn selection<'a>(
     first: usize,
 ) -> Does
     requires { ⌜ Named (now rows) (now names) ⌝ }
-    ensures { λ d. ⌜ ((sheet : Sheet) → KeptReadings (now (rows .entry)) sheet (now (readings .entry)) (now (given .entry)) lines → d ≡ altDoes sheet (decoded (now (values .entry)) (now (marks .entry))) (now (places .entry)) (partAt (now (rows .entry)) first .branches)) ⌝ }
+    ensures { λ d. ⌜ ((sheet : Sheet) → KeptReadings (now (rows .entry)) sheet (now (readings .entry)) (now (given .entry)) lines → d ≡ altDoes sheet (decoded (now (values .entry)) (now (marks .entry))) (now (places .entry)) (contentAt (now (rows .entry)) first .options)) ⌝ }
 {
     let mut t = first;
     while t < rows.len() / 4 {

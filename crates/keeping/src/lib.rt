@@ -1,13 +1,13 @@
 // What is kept of the rows from step to step, noted anew for the rows that a step affected.
 ghost use mathlib.Core.Path.{_≡_};
-ghost use Prim.Native.Nat.{_<_, _≤_};
+ghost use Prim.Native.Nat.{_≤_};
 ghost use lib.ListN.{length, getD};
 ghost use Rattle.meaning.specs.Rows.{rowCount};
-ghost use Rattle.meaning.specs.Intent.{Sheet};
-ghost use Rattle.layout.specs.Names.{Named};
+ghost use Rattle.meaning.specs.Readings.{Sheet};
+ghost use Rattle.base_layout.specs.Names.{Named};
 ghost use Rattle.offers.specs.Held.{KeptReadings};
 ghost use Rattle.stepping.specs.Acts.{sentCode, workingDoes};
-ghost use Rattle.noting.specs.Kept.{Single, Room, Kept, Stale};
+ghost use Rattle.noting.specs.Kept.{Single, NotesRoom, RowsNoted, Stale};
 
 mod affected; // affected.rt: what the affected rows would do is noted
 
@@ -47,8 +47,8 @@ pub fn note_again<'a>(
     count: usize,
 ) -> usize
     requires named { ⌜ Named (now rows) (now names) ⌝ }
-    requires room { ⌜ (rowCount (now rows) ≤ 1024) × Room (rowCount (now rows)) (now acts) (now sent) (now waiting) × (rowCount (now rows) ≤ length (now list)) ⌝ }
-    ensures { λ m. ⌜ ((sheet : Sheet) → KeptReadings (now (rows .entry)) sheet (now (readings .entry)) (now (given .entry)) lines → Single (rowCount (now (rows .entry))) (λ j. sentCode (workingDoes (now (rows .entry)) sheet (now (values .entry)) (now (marks .entry)) (now (places .entry)) (now (counts .entry)) (now (states .entry)) j)) → Stale (now (rows .entry)) sheet (now (values .entry)) (now (marks .entry)) (now (places .entry)) (now (counts .entry)) (now (states .entry)) (now (owners .entry)) (now (touched .entry)) (now (parents .entry)) (now (acts .entry)) (now (sent .entry)) (now (waiting .entry)) (now (list .entry)) count → Kept (now (rows .entry)) sheet (now (values .entry)) (now (marks .entry)) (now (places .entry)) (now (counts .entry)) (now (states .entry)) (now (owners .entry)) (now (acts .exit)) (now (sent .exit)) (now (waiting .exit)) (now (list .exit)) m) ⌝ }
+    requires room { ⌜ (rowCount (now rows) ≤ 1024) × NotesRoom (rowCount (now rows)) (now acts) (now sent) (now waiting) × (rowCount (now rows) ≤ length (now list)) ⌝ }
+    ensures { λ m. ⌜ ((sheet : Sheet) → KeptReadings (now (rows .entry)) sheet (now (readings .entry)) (now (given .entry)) lines → Single (rowCount (now (rows .entry))) (λ j. sentCode (workingDoes (now (rows .entry)) sheet (now (values .entry)) (now (marks .entry)) (now (places .entry)) (now (counts .entry)) (now (states .entry)) j)) → Stale (now (rows .entry)) sheet (now (values .entry)) (now (marks .entry)) (now (places .entry)) (now (counts .entry)) (now (states .entry)) (now (owners .entry)) (now (touched .entry)) (now (parents .entry)) (now (acts .entry)) (now (sent .entry)) (now (waiting .entry)) (now (list .entry)) count → RowsNoted (now (rows .entry)) sheet (now (values .entry)) (now (marks .entry)) (now (places .entry)) (now (counts .entry)) (now (states .entry)) (now (owners .entry)) (now (acts .exit)) (now (sent .exit)) (now (waiting .exit)) (now (list .exit)) m) ⌝ }
 {
     let last = entry_count(touched);
     if touched.len() <= last {

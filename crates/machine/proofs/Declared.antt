@@ -1,4 +1,4 @@
--- What declarations tell of a state's arrays: the lists of host channels and capacities, the bounds of cells and ports, and the limits of an accepted table.
+-- What declarations tell of a state's arrays: the lists of host channels and capacities, the bounds of cells and host channels, and the limits of an accepted table.
 use mathlib.Core.Path.{_≡_, refl, sym, ap, subst, _∙_}
 use mathlib.Core.Bool.{Bool, true, false, _&&_, _||_, false≢true}
 use mathlib.Core.Option.{none}
@@ -12,12 +12,11 @@ use borrow.Author.Tests.{ltb-true}
 use Rattle.meaning.specs.declared.Value.{Value}
 use Rattle.meaning.specs.declared.Value.the-variants.{Number, Missing}
 use Rattle.meaning.specs.declared.Index.the-variants.{At, Fails}
-use Rattle.meaning.specs.Rows.{ifElse, naturalAt, kindAt, declarations}
-use Rattle.meaning.specs.Basics.{allBelow}
-use Rattle.meaning.specs.Declarations.{Variable, Channel, noVariable, noChannel, sumBelow, isVariable, isChannel, hasRole, cellsAt, elementsAt, portsAt, capacityAt, variableAt, channelAt, sourceAt, sinkAt, totalCells, totalPorts, channels}
+use Rattle.meaning.specs.Rows.{naturalAt, kindAt}
+use Rattle.meaning.specs.Basics.{ifElse, allBelow}
+use Rattle.meaning.specs.Declarations.{declarations, Variable, Channel, noVariable, noChannel, sumBelow, isVariable, isChannel, hasRole, cellsAt, elementsAt, hostChannelsAt, capacityAt, variableAt, channelAt, sourceAt, sinkAt, totalCells, hostChannels, channels}
 use Rattle.meaning.specs.Tree.{Expr}
-use Rattle.meaning.specs.State.{Message}
-use Rattle.meaning.specs.Values.{inArray, value, index}
+use Rattle.meaning.specs.Values.{Message, inArray, value, index}
 use Rattle.meaning.specs.Buffers.{capacities}
 use Rattle.meaning.specs.Faults.{WithinLimits}
 use Rattle.meaning.specs.Answers.{check}
@@ -34,16 +33,16 @@ and-true false t e = absurd (false≢true e)
 module _ (rows : List ℤ) where
   -- ---- channels of a role
 
-  ports-are : (role r : ℕ) → portsAt role rows r ≡ ifElse (hasRole role rows r) 1 0
-  unfolding portsAt
-  ports-are role r = refl
+  host-channels-are : (role r : ℕ) → hostChannelsAt role rows r ≡ ifElse (hasRole role rows r) 1 0
+  unfolding hostChannelsAt
+  host-channels-are role r = refl
 
   -- as many as there are
-  pub channels-length : (role : ℕ) → length (channels rows role) ≡ totalPorts role rows
-  unfolding channels totalPorts
-  channels-length role = below-count (hasRole role rows) (portsAt role rows) (ports-are role) (declarations rows)
+  pub channels-length : (role : ℕ) → length (channels rows role) ≡ hostChannels role rows
+  unfolding channels hostChannels
+  channels-length role = below-count (hasRole role rows) (hostChannelsAt role rows) (host-channels-are role) (declarations rows)
 
-  pub capacities-length : length (capacities rows) ≡ totalPorts 2 rows
+  pub capacities-length : length (capacities rows) ≡ hostChannels 2 rows
   capacities-length = length-map (channels rows 2) (capacityAt rows) ∙ channels-length 2
 
   no-capacity : (r : ℕ) → hasRole 2 rows r ≡ false → capacityAt rows r ≡ 0
@@ -61,17 +60,17 @@ module _ (rows : List ℤ) where
       ltb-true r (declarations rows) (and-true (ltb r (declarations rows)) (eqb (kindAt rows r) 2) c .0)
 
   -- a channel's number is below the number of such channels
-  pub port-below : (role r : ℕ) → hasRole role rows r ≡ true → sumBelow (portsAt role rows) r < totalPorts role rows
-  unfolding totalPorts
+  pub port-below : (role r : ℕ) → hasRole role rows r ≡ true → sumBelow (hostChannelsAt role rows) r < hostChannels role rows
+  unfolding hostChannels
   port-below role r h =
-      let e : portsAt role rows r ≡ 1 = rw (ports-are role r, h) in
-      omega (arith, sum-past (portsAt role rows) r (declarations rows) (declared-below role r h))
+      let e : hostChannelsAt role rows r ≡ 1 = rw (host-channels-are role r, h) in
+      omega (arith, sum-past (hostChannelsAt role rows) r (declarations rows) (declared-below role r h))
 
   -- the capacity of the output channel that row r declares, and where its strip begins
-  pub capacity-at : (r : ℕ) → hasRole 2 rows r ≡ true → getD (capacities rows) (sumBelow (portsAt 2 rows) r) 0 ≡ capacityAt rows r
+  pub capacity-at : (r : ℕ) → hasRole 2 rows r ≡ true → getD (capacities rows) (sumBelow (hostChannelsAt 2 rows) r) 0 ≡ capacityAt rows r
   unfolding channels
   capacity-at r h =
-      let n = below-count (hasRole 2 rows) (portsAt 2 rows) (ports-are 2) r in
+      let n = below-count (hasRole 2 rows) (hostChannelsAt 2 rows) (host-channels-are 2) r in
       let (a, b) = below-place (hasRole 2 rows) r (declarations rows) (declarations rows) h (declared-below 2 r h) in
       let z : capacityAt rows (declarations rows) ≡ 0 = no-capacity (declarations rows) (past (hasRole 2 rows (declarations rows)) refl) in
       subst (λ (k : ℕ). getD (capacities rows) k 0 ≡ capacityAt rows r) n
@@ -82,15 +81,15 @@ module _ (rows : List ℤ) where
       past true e = absurd (omega (arith, declared-below 2 (declarations rows) e))
       past false e = refl
 
-  pub strip-start : (r : ℕ) → hasRole 2 rows r ≡ true → stripStart rows (sumBelow (portsAt 2 rows) r) ≡ sumBelow (capacityAt rows) r
+  pub strip-start : (r : ℕ) → hasRole 2 rows r ≡ true → stripStart rows (sumBelow (hostChannelsAt 2 rows) r) ≡ sumBelow (capacityAt rows) r
   unfolding stripStart channels
   strip-start r h =
-      let n = below-count (hasRole 2 rows) (portsAt 2 rows) (ports-are 2) r in
+      let n = below-count (hasRole 2 rows) (hostChannelsAt 2 rows) (host-channels-are 2) r in
       let d = declared-below 2 r h in
       rw (← n) (ap sumOf (take-map (capacityAt rows) (length (allBelow (hasRole 2 rows) r)) (allBelow (hasRole 2 rows) (declarations rows)) ∙ ap (map (capacityAt rows)) (below-first (hasRole 2 rows) r (declarations rows) (omega arith)))
       ∙ below-sum (hasRole 2 rows) (capacityAt rows) no-capacity r)
 
-  -- ---- cells and ports are in range
+  -- ---- cells and host channels are in range
 
   -- an element that a subscript means
   in-array : (first n a : ℕ) (v : Value) → inArray first n v ≡ At a → (i : ℕ) × (i < n) × (a ≡ first + i)
@@ -127,39 +126,39 @@ module _ (rows : List ℤ) where
   cell-below cells v a e k h = let (i, l, q) = in-array (v .first) (v .size) a (value cells e) h in rw q (k i l)
 
   -- the number of a host channel that an input or output names
-  host-role : (role r : ℕ) → channelAt role rows r .host ≡ true → (hasRole role rows r ≡ true) × (channelAt role rows r .port ≡ sumBelow (portsAt role rows) r) × (channelAt role rows r .capacity ≡ capacityAt rows r)
+  host-role : (role r : ℕ) → channelAt role rows r .host ≡ true → (hasRole role rows r ≡ true) × (channelAt role rows r .number ≡ sumBelow (hostChannelsAt role rows) r) × (channelAt role rows r .capacity ≡ capacityAt rows r)
   unfolding channelAt
   host-role role r = go (hasRole 0 rows r || hasRole role rows r)
     where
       c : Channel
-      c = record { first = sumBelow (elementsAt rows) r; size = elementsAt rows r; host = hasRole role rows r; port = sumBelow (portsAt role rows) r; capacity = capacityAt rows r }
+      c = record { first = sumBelow (elementsAt rows) r; size = elementsAt rows r; host = hasRole role rows r; number = sumBelow (hostChannelsAt role rows) r; capacity = capacityAt rows r }
 
-      go : (t : Bool) → ifElse t c noChannel .host ≡ true → (hasRole role rows r ≡ true) × (ifElse t c noChannel .port ≡ sumBelow (portsAt role rows) r) × (ifElse t c noChannel .capacity ≡ capacityAt rows r)
+      go : (t : Bool) → ifElse t c noChannel .host ≡ true → (hasRole role rows r ≡ true) × (ifElse t c noChannel .number ≡ sumBelow (hostChannelsAt role rows) r) × (ifElse t c noChannel .capacity ≡ capacityAt rows r)
       go true h = (h, refl, refl)
       go false h = absurd (false≢true h)
 
-  pub source-below : (r : ℕ) → sourceAt rows r .host ≡ true → sourceAt rows r .port < totalPorts 1 rows
+  pub source-below : (r : ℕ) → sourceAt rows r .host ≡ true → sourceAt rows r .number < hostChannels 1 rows
   unfolding sourceAt
   source-below r h = let (t, p, c) = host-role 1 r h in rw p (port-below 1 r t)
 
-  pub sink-below : (r : ℕ) → sinkAt rows r .host ≡ true → sinkAt rows r .port < totalPorts 2 rows
+  pub sink-below : (r : ℕ) → sinkAt rows r .host ≡ true → sinkAt rows r .number < hostChannels 2 rows
   unfolding sinkAt
   sink-below r h = let (t, p, c) = host-role 2 r h in rw p (port-below 2 r t)
 
   -- its capacity
-  pub sink-capacity : (r : ℕ) → sinkAt rows r .host ≡ true → getD (capacities rows) (sinkAt rows r .port) 0 ≡ sinkAt rows r .capacity
+  pub sink-capacity : (r : ℕ) → sinkAt rows r .host ≡ true → getD (capacities rows) (sinkAt rows r .number) 0 ≡ sinkAt rows r .capacity
   unfolding sinkAt
   sink-capacity r h = let (t, p, c) = host-role 2 r h in rw (p, c) (capacity-at r t)
 
   -- ---- an accepted table is within the limits
   pub room : check rows ≡ none → Room rows
-  unfolding totalCells totalPorts WithinLimits
+  unfolding totalCells hostChannels WithinLimits
   room ok =
       let w = accepted rows .0 ok .3 in
       record {
         cells = sum-bound (cellsAt rows) 256 (declarations rows) (λ r l. w r l .0);
-        places = sum-bound (portsAt 1 rows) 8 (declarations rows) (λ r l. w r l .2);
-        outputs = sum-bound (portsAt 2 rows) 8 (declarations rows) (λ r l. w r l .3);
+        places = sum-bound (hostChannelsAt 1 rows) 8 (declarations rows) (λ r l. w r l .2);
+        outputs = sum-bound (hostChannelsAt 2 rows) 8 (declarations rows) (λ r l. w r l .3);
         states = rows-limit rows ok;
         numbers = rw capacities-sum (sum-bound (capacityAt rows) 1024 (declarations rows) (λ r l. w r l .4));
       }

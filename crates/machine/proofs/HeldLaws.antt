@@ -6,13 +6,14 @@ use Prim.Native.Nat.{ℕ, suc, _+_, _<_, _≤_}
 use native.Mathlib.Omega.{arith}
 use lib.IntN.{ℤ, pos}
 use lib.ListN.{length, getD, set, take, replicate, length-append, length-map, List·getD-map}
-use Rattle.meaning.specs.Limits.{maxRows, maxCells, maxPorts, maxCapacity}
+use Rattle.meaning.specs.Limits.{maxRows, maxCells, maxHostChannels, maxCapacity}
 use Rattle.meaning.specs.Rows.{rowCount}
-use Rattle.meaning.specs.Declarations.{totalCells, totalPorts}
-use Rattle.meaning.specs.State.{Message, State, program, writeCell, writePlace, writeOutput}
+use Rattle.meaning.specs.Declarations.{totalCells, hostChannels}
+use Rattle.meaning.specs.Values.{Message}
+use Rattle.meaning.specs.State.{State, program, writeCell, writePlace, writeOutput}
 use Rattle.meaning.specs.Settle.{start}
 use Rattle.meaning.specs.Buffers.{Buffers, lent, mark, numberIn, capacities, strips, encode, cellOf}
-use Rattle.machine.specs.Held.{blank, Holds, sumOf, stripStart, withWrite, withState, putCell, putPlace, putState, putOutput, Lengths, Room}
+use Rattle.machine.specs.Held.{blank, HoldsState, sumOf, stripStart, withWrite, withState, putCell, putPlace, putState, putOutput, Lengths, Room}
 use Rattle.machine.proofs.LentLists.{lent-at, lent-length, lent-set, lent-defaults, map-set, map-replicate}
 use Rattle.machine.proofs.Strips.{strip-within, strips-length, strips-more, strips-empty}
 use Rattle.machine.proofs.Declared.{capacities-length}
@@ -27,7 +28,7 @@ cell-back (some x) = refl
 
 -- ---- the arrays
 
-module _ (rows : List ℤ) (s : State) (b : Buffers) (h : Holds rows s b) where
+module _ (rows : List ℤ) (s : State) (b : Buffers) (h : HoldsState rows s b) where
   cells-are : b .cells ≡ lent maxCells (pos 0) (map numberIn (s .store .cells)) (replicate maxCells (pos 0))
   unfolding encode blank
   cells-are = ap (λ (c : Buffers). c .cells) h
@@ -40,11 +41,11 @@ module _ (rows : List ℤ) (s : State) (b : Buffers) (h : Holds rows s b) where
   unfolding encode blank
   states-are = ap (λ (c : Buffers). c .states) h
 
-  places-are : b .places ≡ lent maxPorts 0 (s .store .places) (replicate maxPorts 0)
+  places-are : b .places ≡ lent maxHostChannels 0 (s .store .places) (replicate maxHostChannels 0)
   unfolding encode blank
   places-are = ap (λ (c : Buffers). c .places) h
 
-  counts-are : b .counts ≡ lent maxPorts 0 (map (λ (l : List Message). length l) (s .store .outputs)) (replicate maxPorts 0)
+  counts-are : b .counts ≡ lent maxHostChannels 0 (map (λ (l : List Message). length l) (s .store .outputs)) (replicate maxHostChannels 0)
   unfolding encode blank
   counts-are = ap (λ (c : Buffers). c .counts) h
 
@@ -62,7 +63,7 @@ module _ (rows : List ℤ) (s : State) (b : Buffers) (h : Holds rows s b) where
   pub states-long : length (b .states) ≡ maxRows
   states-long = rw states-are (lent-length maxRows 0 (s .states))
 
-module _ (rows : List ℤ) (R : Room rows) (s : State) (L : Lengths rows s) (b : Buffers) (h : Holds rows s b) where
+module _ (rows : List ℤ) (R : Room rows) (s : State) (L : Lengths rows s) (b : Buffers) (h : HoldsState rows s b) where
   cells-fit : length (map numberIn (s .store .cells)) ≤ maxCells
   cells-fit = omega (arith, length-map (s .store .cells) numberIn, L .cells, R .cells)
 
@@ -72,10 +73,10 @@ module _ (rows : List ℤ) (R : Room rows) (s : State) (L : Lengths rows s) (b :
   states-fit : length (s .states) ≤ maxRows
   states-fit = omega (arith, L .states, R .states)
 
-  places-fit : length (s .store .places) ≤ maxPorts
+  places-fit : length (s .store .places) ≤ maxHostChannels
   places-fit = omega (arith, L .places, R .places)
 
-  counts-fit : length (map (λ (l : List Message). length l) (s .store .outputs)) ≤ maxPorts
+  counts-fit : length (map (λ (l : List Message). length l) (s .store .outputs)) ≤ maxHostChannels
   counts-fit = omega (arith, length-map (s .store .outputs) (λ (l : List Message). length l), L .outputs, R .outputs)
 
   same-count : length (capacities rows) ≡ length (s .store .outputs)
@@ -98,12 +99,12 @@ module _ (rows : List ℤ) (R : Room rows) (s : State) (L : Lengths rows s) (b :
 
   -- the place of a channel from the host
   pub read-place : (p : ℕ) → getD (s .store .places) p 0 ≡ getD (b .places) p 0
-  read-place p = sym (ap (λ (l : List ℕ). getD l p 0) (places-are rows s b h) ∙ lent-at maxPorts p 0 (s .store .places) places-fit)
+  read-place p = sym (ap (λ (l : List ℕ). getD l p 0) (places-are rows s b h) ∙ lent-at maxHostChannels p 0 (s .store .places) places-fit)
 
   -- how many messages a channel to the host has been given
   pub read-count : (p : ℕ) → length (getD (s .store .outputs) p []) ≡ getD (b .counts) p 0
   read-count p =
-      sym (ap (λ (l : List ℕ). getD l p 0) (counts-are rows s b h) ∙ lent-at maxPorts p 0 (map (λ (l : List Message). length l) (s .store .outputs)) counts-fit ∙ List·getD-map (λ (l : List Message). length l) (s .store .outputs) p [])
+      sym (ap (λ (l : List ℕ). getD l p 0) (counts-are rows s b h) ∙ lent-at maxHostChannels p 0 (map (λ (l : List Message). length l) (s .store .outputs)) counts-fit ∙ List·getD-map (λ (l : List Message). length l) (s .store .outputs) p [])
 
   -- ---- writing
 
@@ -112,7 +113,7 @@ module _ (rows : List ℤ) (R : Room rows) (s : State) (L : Lengths rows s) (b :
   changed n i d a xs l old e k f = ap (λ (m : List _). set m i a) e ∙ lent-set n i d a xs old k f
 
   -- a cell
-  pub hold-cell : (a : ℕ) (m : Message) → a < totalCells rows → Holds rows (withWrite (writeCell a m) s) (putCell a m b)
+  pub hold-cell : (a : ℕ) (m : Message) → a < totalCells rows → HoldsState rows (withWrite (writeCell a m) s) (putCell a m b)
   unfolding encode blank
   hold-cell a m k =
       buffers-path (putCell a m b) (encode rows (withWrite (writeCell a m) s) blank)
@@ -123,16 +124,16 @@ module _ (rows : List ℤ) (R : Room rows) (s : State) (L : Lengths rows s) (b :
       (ap (λ (c : Buffers). c .states) h) (ap (λ (c : Buffers). c .places) h) (ap (λ (c : Buffers). c .numbers) h) (ap (λ (c : Buffers). c .counts) h)
 
   -- a place
-  pub hold-place : (p k : ℕ) → p < totalPorts 1 rows → Holds rows (withWrite (writePlace p k) s) (putPlace p k b)
+  pub hold-place : (p k : ℕ) → p < hostChannels 1 rows → HoldsState rows (withWrite (writePlace p k) s) (putPlace p k b)
   unfolding encode blank
   hold-place p k l =
       buffers-path (putPlace p k b) (encode rows (withWrite (writePlace p k) s) blank)
       (ap (λ (c : Buffers). c .cells) h) (ap (λ (c : Buffers). c .marks) h) (ap (λ (c : Buffers). c .states) h)
-      (changed maxPorts p 0 k (s .store .places) (b .places) (replicate maxPorts 0) (places-are rows s b h) (omega (arith, L .places)) places-fit)
+      (changed maxHostChannels p 0 k (s .store .places) (b .places) (replicate maxHostChannels 0) (places-are rows s b h) (omega (arith, L .places)) places-fit)
       (ap (λ (c : Buffers). c .numbers) h) (ap (λ (c : Buffers). c .counts) h)
 
   -- the state of a row
-  pub hold-state : (r v : ℕ) → r < rowCount rows → Holds rows (withState r v s) (putState r v b)
+  pub hold-state : (r v : ℕ) → r < rowCount rows → HoldsState rows (withState r v s) (putState r v b)
   unfolding encode blank
   hold-state r v l =
       buffers-path (putState r v b) (encode rows (withState r v s) blank)
@@ -141,8 +142,8 @@ module _ (rows : List ℤ) (R : Room rows) (s : State) (L : Lengths rows s) (b :
       (ap (λ (c : Buffers). c .places) h) (ap (λ (c : Buffers). c .numbers) h) (ap (λ (c : Buffers). c .counts) h)
 
   -- one more message for a channel to the host that has room
-  pub hold-output : (p : ℕ) (l : List Message) (m : Message) → p < totalPorts 2 rows → getD (s .store .outputs) p [] ≡ l → length l < getD (capacities rows) p 0
-      → Holds rows (withWrite (writeOutput p (l ++ (m ∷ []))) s) (putOutput rows p (length l) m b)
+  pub hold-output : (p : ℕ) (l : List Message) (m : Message) → p < hostChannels 2 rows → getD (s .store .outputs) p [] ≡ l → length l < getD (capacities rows) p 0
+      → HoldsState rows (withWrite (writeOutput p (l ++ (m ∷ []))) s) (putOutput rows p (length l) m b)
   unfolding encode blank stripStart
   hold-output p l m k e c =
       let n = strips-length (capacities rows) (s .store .outputs) same-count in
@@ -154,13 +155,13 @@ module _ (rows : List ℤ) (R : Room rows) (s : State) (L : Lengths rows s) (b :
       (changed maxCapacity (sumOf (take p (capacities rows)) + length l) (pos 0) (numberIn m) (strips (capacities rows) (s .store .outputs)) (b .numbers) (replicate maxCapacity (pos 0))
       (numbers-are rows s b h) (omega (arith, n, w)) (omega (arith, n, R .numbers))
       ∙ ap (λ (x : List ℤ). lent maxCapacity (pos 0) x (replicate maxCapacity (pos 0))) (sym (strips-more (capacities rows) (s .store .outputs) p l m same-count (omega (arith, L .outputs)) e c)))
-      (changed maxPorts p 0 (suc (length l)) counts (b .counts) (replicate maxPorts 0) (counts-are rows s b h) (omega (arith, length-map (s .store .outputs) (λ (x : List Message). length x), L .outputs)) counts-fit
-      ∙ ap (λ (x : List ℕ). lent maxPorts 0 x (replicate maxPorts 0)) (ap (set counts p) (sym one) ∙ sym (map-set (λ (x : List Message). length x) (s .store .outputs) p (l ++ (m ∷ [])))))
+      (changed maxHostChannels p 0 (suc (length l)) counts (b .counts) (replicate maxHostChannels 0) (counts-are rows s b h) (omega (arith, length-map (s .store .outputs) (λ (x : List Message). length x), L .outputs)) counts-fit
+      ∙ ap (λ (x : List ℕ). lent maxHostChannels 0 x (replicate maxHostChannels 0)) (ap (set counts p) (sym one) ∙ sym (map-set (λ (x : List Message). length x) (s .store .outputs) p (l ++ (m ∷ [])))))
 
 -- ---- the start
 
 -- at the start all arrays hold zeros, but for the row states
-pub hold-start : (rows : List ℤ) → Holds rows (start (program rows)) (record {
+pub hold-start : (rows : List ℤ) → HoldsState rows (start (program rows)) (record {
   cells = blank .cells;
   marks = blank .marks;
   states = lent maxRows 0 (start (program rows) .states) (blank .states);
@@ -170,11 +171,11 @@ pub hold-start : (rows : List ℤ) → Holds rows (start (program rows)) (record
 })
 unfolding encode blank start program
 hold-start rows =
-    let (q, e) = strips-empty (capacities rows) (totalPorts 2 rows) in
+    let (q, e) = strips-empty (capacities rows) (hostChannels 2 rows) in
     buffers-path _ (encode rows (start (program rows)) blank)
     (sym (ap (λ (l : List ℤ). lent maxCells (pos 0) l (replicate maxCells (pos 0))) (map-replicate numberIn (totalCells rows) none) ∙ lent-defaults maxCells (totalCells rows) (pos 0)))
     (sym (ap (λ (l : List ℕ). lent maxCells 0 l (replicate maxCells 0)) (map-replicate mark (totalCells rows) none) ∙ lent-defaults maxCells (totalCells rows) 0))
     refl
-    (sym (lent-defaults maxPorts (totalPorts 1 rows) 0))
+    (sym (lent-defaults maxHostChannels (hostChannels 1 rows) 0))
     (sym (ap (λ (l : List ℤ). lent maxCapacity (pos 0) l (replicate maxCapacity (pos 0))) e ∙ lent-defaults maxCapacity q (pos 0)))
-    (sym (ap (λ (l : List ℕ). lent maxPorts 0 l (replicate maxPorts 0)) (map-replicate (λ (x : List Message). length x) (totalPorts 2 rows) []) ∙ lent-defaults maxPorts (totalPorts 2 rows) 0))
+    (sym (ap (λ (l : List ℕ). lent maxHostChannels 0 l (replicate maxHostChannels 0)) (map-replicate (λ (x : List Message). length x) (hostChannels 2 rows) []) ∙ lent-defaults maxHostChannels (hostChannels 2 rows) 0))

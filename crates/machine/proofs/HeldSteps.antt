@@ -11,16 +11,17 @@ use lib.ListN.{length, getD, set, replicate, length-set, length-map}
 use lib.Seq.{getD-append-seam}
 use Rattle.meaning.specs.Limits.{maxRows}
 use Rattle.meaning.specs.Rows.{rowCount}
-use Rattle.meaning.specs.Tree.{Process, node, Members, empty, also, rowsIn, rowsBeneath}
+use Rattle.meaning.specs.Tree.{Process, node, Processes, empty, also, rowsIn, rowsBeneath}
+use Rattle.meaning.specs.Values.{Message}
 use Rattle.meaning.specs.Settle.{settle, start, settled}
-use Rattle.meaning.specs.State.{Message, State, program, whole, Write, writeCell, writePlace, writeOutput, writeAll, StateChange, changeStates, Effect}
+use Rattle.meaning.specs.State.{State, program, whole, Write, writeCell, writePlace, writeOutput, writeAll, StateChange, changeStates, Effect}
 use Rattle.meaning.specs.Buffers.{Buffers, lent, encode}
 use Rattle.meaning.specs.Answers.{check}
 use Rattle.agreement.proofs.Again.{Sound, SoundM}
 use Rattle.agreement.proofs.Frame.{see-local}
 use Rattle.agreement.proofs.Separate.{processes-length}
 use Rattle.agreement.proofs.TableFit.{fit}
-use Rattle.machine.specs.Held.{blank, Holds, withWrite, withState, withSettled, putWrite, putWrites, putChanges, putSettled, putEffect, InRange, AllInRange, ChangesBelow, Lengths, Room}
+use Rattle.machine.specs.Held.{blank, HoldsState, withWrite, withState, withSettled, putWrite, putWrites, putChanges, putSettled, putEffect, InRange, AllInRange, ChangesBelow, Lengths, Room}
 use Rattle.machine.proofs.LentLists.{lent-at, lent-set, lent-defaults}
 use Rattle.machine.proofs.Declared.{room}
 use Rattle.machine.proofs.HeldLaws.{buffers-path, read-count, hold-cell, hold-place, hold-state, hold-output, states-are}
@@ -32,7 +33,7 @@ mutual
   row-below (node k r ms) n x d (List·Memᴰ·head e) = rw e (d .0)
   row-below (node k r ms) n x d (List·Memᴰ·tail m) = rowM-below ms n x (d .2) m
 
-  rowM-below : (ms : Members) (n x : ℕ) → SoundM ms n → List·Memᴰ x (rowsBeneath ms) → x < n
+  rowM-below : (ms : Processes) (n x : ℕ) → SoundM ms n → List·Memᴰ x (rowsBeneath ms) → x < n
   rowM-below empty n x d m = absurd (List·Memᴰ·not-nil m)
   rowM-below (also p ms) n x d m = ⊎-elim (λ (h : List·Memᴰ x (rowsIn p)). row-below p n x (d .0) h) (λ (h : List·Memᴰ x (rowsBeneath ms)). rowM-below ms n x (d .1) h) (List·Memᴰ·append-cases (rowsIn p) m)
 
@@ -60,22 +61,22 @@ module _ (rows : List ℤ) (ok : check rows ≡ none) where
 
   -- ---- settling, changes, writes
 
-  pub hold-settled : (t : Bool) (s : State) → Lengths rows s → (b : Buffers) → Holds rows s b → Holds rows (withSettled rows t s) (putSettled rows t b)
+  pub hold-settled : (t : Bool) (s : State) → Lengths rows s → (b : Buffers) → HoldsState rows s b → HoldsState rows (withSettled rows t s) (putSettled rows t b)
   unfolding encode blank
   hold-settled t s L b h =
       buffers-path (putSettled rows t b) (encode rows (withSettled rows t s) blank) (ap (λ (c : Buffers). c .cells) h) (ap (λ (c : Buffers). c .marks) h)
       (ap (settle (whole (program rows)) t) (states-are rows s b h) ∙ settle-lent (whole (program rows)) (rowCount rows) maxRows (fit rows ok .sound) (R .states) t (s .states) (L .states))
       (ap (λ (c : Buffers). c .places) h) (ap (λ (c : Buffers). c .numbers) h) (ap (λ (c : Buffers). c .counts) h)
 
-  pub hold-changes : (cs : List StateChange) → ChangesBelow (rowCount rows) cs → (s : State) → Lengths rows s → (b : Buffers) → Holds rows s b
-      → Holds rows (record { states = changeStates cs (s .states); store = s .store }) (putChanges cs b)
+  pub hold-changes : (cs : List StateChange) → ChangesBelow (rowCount rows) cs → (s : State) → Lengths rows s → (b : Buffers) → HoldsState rows s b
+      → HoldsState rows (record { states = changeStates cs (s .states); store = s .store }) (putChanges cs b)
   hold-changes [] k s L b h = h
   hold-changes (c ∷ cs) k s L b h =
       let r = c .at in
       let v = c .become in
       hold-changes cs (k .1) (withState r v s) (lengths-state r v s L) _ (hold-state rows R s L b h r v (k .0))
 
-  pub hold-write : (w : Write) (s : State) → InRange rows (s .store) w → Lengths rows s → (b : Buffers) → Holds rows s b → Holds rows (withWrite w s) (putWrite rows w b)
+  pub hold-write : (w : Write) (s : State) → InRange rows (s .store) w → Lengths rows s → (b : Buffers) → HoldsState rows s b → HoldsState rows (withWrite w s) (putWrite rows w b)
   hold-write (writeCell a m) s k L b h = hold-cell rows R s L b h a m k
   hold-write (writePlace p n) s k L b h = hold-place rows R s L b h p n k
   hold-write (writeOutput p l) s (m, k, e, c) L b h =
@@ -83,8 +84,8 @@ module _ (rows : List ℤ) (ok : check rows ≡ none) where
       let last : getD l (length old) none ≡ m = ap (λ (x : List Message). getD x (length old) none) e ∙ getD-append-seam old m [] none in
       rw (← read-count rows R s L b h p, last, e) (hold-output rows R s L b h p old m k refl c)
 
-  pub hold-writes : (ws : List Write) (s : State) → AllInRange rows (s .store) ws → Lengths rows s → (b : Buffers) → Holds rows s b
-      → Holds rows (record { states = s .states; store = writeAll ws (s .store) }) (putWrites rows ws b) × Lengths rows (record { states = s .states; store = writeAll ws (s .store) })
+  pub hold-writes : (ws : List Write) (s : State) → AllInRange rows (s .store) ws → Lengths rows s → (b : Buffers) → HoldsState rows s b
+      → HoldsState rows (record { states = s .states; store = writeAll ws (s .store) }) (putWrites rows ws b) × Lengths rows (record { states = s .states; store = writeAll ws (s .store) })
   hold-writes [] s k L b h = (h, L)
   hold-writes (w ∷ ws) s k L b h = hold-writes ws (withWrite w s) (k .1) (lengths-write w s L) _ (hold-write w s (k .0) L b h)
 
@@ -93,8 +94,8 @@ module _ (rows : List ℤ) (ok : check rows ≡ none) where
   changes-length (c ∷ cs) s = changes-length cs (set s (c .at) (c .become)) ∙ length-set s (c .at) (c .become)
 
   -- ---- a step
-  pub hold-effect : (e : Effect) (s : State) → ChangesBelow (rowCount rows) (e .changes) → AllInRange rows (s .store) (e .writes) → Lengths rows s → (b : Buffers) → Holds rows s b
-      → Holds rows (settled (program rows) e s) (putEffect rows e b)
+  pub hold-effect : (e : Effect) (s : State) → ChangesBelow (rowCount rows) (e .changes) → AllInRange rows (s .store) (e .writes) → Lengths rows s → (b : Buffers) → HoldsState rows s b
+      → HoldsState rows (settled (program rows) e s) (putEffect rows e b)
   unfolding settled putEffect
   hold-effect e s c w L b h =
       let (g, M) = hold-writes (e .writes) s w L b h in

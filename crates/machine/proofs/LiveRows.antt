@@ -9,14 +9,16 @@ use native.Mathlib.Omega.{arith}
 use lib.IntN.{ℤ}
 use lib.ListN.{getD}
 use lib.Dec.{eqb}
+use Rattle.meaning.specs.Basics.{ifElse}
 use borrow.Author.Tests.{eqb-true}
-use Rattle.meaning.specs.Rows.{ifElse}
-use Rattle.meaning.specs.Tree.{Action, Process, node, Members, empty, also, rowOf, actionOf, membersIn, rowsIn, rowsBeneath}
-use Rattle.meaning.specs.Settle.{stateOf, statesOf, allOf}
+use Rattle.meaning.specs.Tree.{Action, Process, node, Processes, empty, also, rowOf, actionOf, processesIn, rowsIn, rowsBeneath}
+use Rattle.meaning.specs.Settle.{statesOf, allOf}
 use Rattle.meaning.specs.SettlingRules.{Among, All, Inside}
-use Rattle.meaning.specs.State.{State, program, processAt, whole}
-use Rattle.meaning.specs.Intent.{Sheet, waits, intent}
-use Rattle.meaning.specs.Ready.{Label, allIdle, live, intentAt}
+use Rattle.meaning.specs.State.{State, stateOf, program, processAt, whole}
+use Rattle.meaning.specs.Labels.{Label}
+use Rattle.meaning.specs.Readings.{Sheet}
+use Rattle.meaning.specs.Intent.{waits, intent}
+use Rattle.meaning.specs.Ready.{allIdle, isLive, intentAt}
 use Rattle.meaning.specs.Order.{OrderOf}
 use Rattle.meaning.specs.Answers.{check}
 use Rattle.agreement.proofs.Again.{Out, Idle}
@@ -26,18 +28,18 @@ use Rattle.agreement.proofs.Working.{in-or-out, sub-at, idle-all, all-idle}
 use Rattle.agreement.proofs.Separate.{table-inv}
 use Rattle.agreement.proofs.TableFit.{fit}
 use Rattle.agreement.proofs.OrdersCoherent.{members-tell}
-use Rattle.machine.specs.RowSteps.{liveByMembers}
+use Rattle.machine.specs.RowSteps.{liveByProcesses}
 
 -- ---- a process that stands in another, by the way down
 
 mutual
-  sub-inside : {k : Action} {r : ℕ} {ms : Members} (top p : Process) → Inside top p → Sub k r ms p → Inside top (node k r ms)
+  sub-inside : {k : Action} {r : ℕ} {ms : Processes} (top p : Process) → Inside top p → Sub k r ms p → Inside top (node k r ms)
   sub-inside top (node k r ms) i self = i
   sub-inside top (node j q ps) i (inside h) = subM-inside top ps (λ p a. Inside.beneath i a) h
 
-  subM-inside : {k : Action} {r : ℕ} {ms : Members} (top : Process) (ps : Members) → ((p : Process) → Among p ps → Inside top p) → SubM k r ms ps → Inside top (node k r ms)
-  subM-inside top (also p ps) i (front h) = sub-inside top p (i p Among.first) h
-  subM-inside top (also p ps) i (back h) = subM-inside top ps (λ q a. i q (Among.later a)) h
+  subM-inside : {k : Action} {r : ℕ} {ms : Processes} (top : Process) (ps : Processes) → ((p : Process) → Among p ps → Inside top p) → SubM k r ms ps → Inside top (node k r ms)
+  subM-inside top (also p ps) i (front h) = sub-inside top p (i p Among.among-first) h
+  subM-inside top (also p ps) i (back h) = subM-inside top ps (λ q a. i q (Among.among-later a)) h
 
 -- ---- tests of idle rows
 
@@ -45,11 +47,11 @@ pub both : (a b : Bool) → (a && b) ≡ true → (a ≡ true) × (b ≡ true)
 both true b e = (refl, e)
 both false b e = absurd (false≢true e)
 
-members-idle : (ms : Members) (s : List ℕ) → allOf (λ n. eqb n 0) (statesOf ms s) ≡ true → All 0 s ms
-members-idle empty s e = All.no-more
-members-idle (also p ms) s e = let (a, b) = both (eqb (stateOf s p) 0) (allOf (λ n. eqb n 0) (statesOf ms s)) e in All.and-then (eqb-true (stateOf s p) 0 a) (members-idle ms s b)
+members-idle : (ms : Processes) (s : List ℕ) → allOf (λ n. eqb n 0) (statesOf ms s) ≡ true → All 0 s ms
+members-idle empty s e = All.all-none
+members-idle (also p ms) s e = let (a, b) = both (eqb (stateOf s p) 0) (allOf (λ n. eqb n 0) (statesOf ms s)) e in All.all-more (eqb-true (stateOf s p) 0 a) (members-idle ms s b)
 
-idle-members : (ms : Members) (s : List ℕ) → Idle (rowsBeneath ms) s → allOf (λ n. eqb n 0) (statesOf ms s) ≡ true
+idle-members : (ms : Processes) (s : List ℕ) → Idle (rowsBeneath ms) s → allOf (λ n. eqb n 0) (statesOf ms s) ≡ true
 idle-members empty s h = refl
 idle-members (also p ms) s h =
     rw (h (rowOf p) (Memᴰ·append-left (rowsBeneath ms) (row-in p)), idle-members ms s (λ b m. h b (Memᴰ·append-right (rowsIn p) m)))
@@ -62,14 +64,14 @@ same-test false false f g = refl
 -- ---- what a row would do
 
 -- what a row would do, by whether it is live
-pub intent-is : (rows : List ℤ) (sheet : Sheet) (s : State) (r : ℕ) (t : Bool) → live (program rows) sheet r s ≡ t → intentAt (program rows) sheet s r ≡ ifElse t (intent sheet (actionOf (processAt (program rows) r)) r (s .store)) waits
+pub intent-is : (rows : List ℤ) (sheet : Sheet) (s : State) (r : ℕ) (t : Bool) → isLive (program rows) sheet r s ≡ t → intentAt (program rows) sheet s r ≡ ifElse t (intent sheet (actionOf (processAt (program rows) r)) r (s .store)) waits
 unfolding intentAt
 intent-is rows sheet s r t e = rw e
 
 -- a row whose action would do nothing waits, live or not: STOP, SKIP, SEQ and PAR
 pub intent-waits : (rows : List ℤ) (sheet : Sheet) (s : State) (r : ℕ) → intent sheet (actionOf (processAt (program rows) r)) r (s .store) ≡ waits → intentAt (program rows) sheet s r ≡ waits
 unfolding intentAt
-intent-waits rows sheet s r e = rw e (go (live (program rows) sheet r s))
+intent-waits rows sheet s r e = rw e (go (isLive (program rows) sheet r s))
   where
     go : (t : Bool) → ifElse t waits waits ≡ waits
     go true = refl
@@ -88,20 +90,20 @@ module _ (rows : List ℤ) (ok : check rows ≡ none) (sheet : Sheet) (l : List 
           rw (fit rows ok .placed k r ms h) (sub-inside (whole (program rows)) (whole (program rows)) Inside.itself h)
       go (inr n) = absurd (omega (arith, u, table-inv rows sheet (fit rows ok) l s o .outside r n))
 
-  beneath-told : (p : Process) → Inside (whole (program rows)) p → allIdle (rowsBeneath (membersIn p)) (s .states) ≡ allOf (λ n. eqb n 0) (statesOf (membersIn p) (s .states))
+  beneath-told : (p : Process) → Inside (whole (program rows)) p → allIdle (rowsBeneath (processesIn p)) (s .states) ≡ allOf (λ n. eqb n 0) (statesOf (processesIn p) (s .states))
   beneath-told (node a r ms) i =
       same-test (allIdle (rowsBeneath ms) (s .states)) (allOf (λ n. eqb n 0) (statesOf ms (s .states))) (λ e. idle-members ms (s .states) (idle-all (rowsBeneath ms) (s .states) e))
       (λ e. all-idle (rowsBeneath ms) (s .states) (members-tell rows ok sheet l s o a r ms i (members-idle ms (s .states) e)))
 
   -- a row is live exactly if it is running and its direct members are idle
-  pub live-by-members : (r : ℕ) → live (program rows) sheet r s ≡ liveByMembers (program rows) r (s .states)
-  unfolding live liveByMembers
+  pub live-by-members : (r : ℕ) → isLive (program rows) sheet r s ≡ liveByProcesses (program rows) r (s .states)
+  unfolding isLive liveByProcesses
   live-by-members r = go (eqb (getD (s .states) r 0) 1) refl
     where
-      go : (t : Bool) → eqb (getD (s .states) r 0) 1 ≡ t → (t && allIdle (rowsBeneath (membersIn (processAt (program rows) r))) (s .states)) ≡ (t && allOf (λ n. eqb n 0) (statesOf (membersIn (processAt (program rows) r)) (s .states)))
+      go : (t : Bool) → eqb (getD (s .states) r 0) 1 ≡ t → (t && allIdle (rowsBeneath (processesIn (processAt (program rows) r))) (s .states)) ≡ (t && allOf (λ n. eqb n 0) (statesOf (processesIn (processAt (program rows) r)) (s .states)))
       go true e = beneath-told (processAt (program rows) r) (running-inside r (eqb-true (getD (s .states) r 0) 1 e))
       go false e = refl
 
   -- so what it would do is told by them
-  pub intent-by-members : (r : ℕ) → intentAt (program rows) sheet s r ≡ ifElse (liveByMembers (program rows) r (s .states)) (intent sheet (actionOf (processAt (program rows) r)) r (s .store)) waits
-  intent-by-members r = intent-is rows sheet s r (liveByMembers (program rows) r (s .states)) (live-by-members r)
+  pub intent-by-members : (r : ℕ) → intentAt (program rows) sheet s r ≡ ifElse (liveByProcesses (program rows) r (s .states)) (intent sheet (actionOf (processAt (program rows) r)) r (s .store)) waits
+  intent-by-members r = intent-is rows sheet s r (liveByProcesses (program rows) r (s .states)) (live-by-members r)

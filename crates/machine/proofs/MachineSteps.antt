@@ -7,9 +7,11 @@ use Prim.Native.Nat.{ℕ}
 use lib.IntN.{ℤ}
 use Rattle.meaning.specs.Rows.{rowCount}
 use Rattle.meaning.specs.State.{State, program, whole, StateChange, Effect}
+use Rattle.meaning.specs.Labels.{Label}
+use Rattle.meaning.specs.Readings.{Sheet}
 use Rattle.meaning.specs.Settle.{start}
-use Rattle.meaning.specs.Intent.{Sheet, openOffer, inputOffer}
-use Rattle.meaning.specs.Ready.{Label, effectOf, intentAt, after}
+use Rattle.meaning.specs.Intent.{openOffer, inputOffer}
+use Rattle.meaning.specs.Ready.{effectOf, intentAt, after}
 use Rattle.meaning.specs.Buffers.{Buffers}
 use Rattle.meaning.specs.Order.{OrderOf}
 use Rattle.meaning.specs.Answers.{check}
@@ -20,7 +22,7 @@ use Rattle.agreement.proofs.Invariant.{partsOf, step-parts}
 use Rattle.agreement.proofs.Separate.{table-inv}
 use Rattle.agreement.proofs.TableFit.{fit}
 use Rattle.machine.specs.RowSteps.{stepAt}
-use Rattle.machine.specs.Held.{blank, Holds, putSettled, putEffect, AllInRange, ChangesBelow}
+use Rattle.machine.specs.Held.{blank, HoldsState, putSettled, putEffect, AllInRange, ChangesBelow}
 use Rattle.machine.proofs.RowReady.{step-ordered}
 use Rattle.machine.proofs.StepEffects.{active-effect, after-effect}
 use Rattle.machine.proofs.StateSizes.{lengths}
@@ -39,7 +41,7 @@ writes-in rows sheet s (takes-input {r} {j} {q} {i} {e} {a} {os} h g f) =
 
 module _ (rows : List ℤ) (ok : check rows ≡ none) where
   -- the start: the root starts and settles on arrays of zeros
-  pub start-held : Holds rows (start (program rows)) (putSettled rows true blank)
+  pub start-held : HoldsState rows (start (program rows)) (putSettled rows true blank)
   unfolding blank
   start-held = buffers-path _ _ refl refl (sym (start-states rows ok)) refl refl refl ∙ hold-start rows
 
@@ -53,11 +55,11 @@ module _ (rows : List ℤ) (ok : check rows ≡ none) where
     changes-below {e} A = each-below (e .changes) (s .states) (step-parts (program rows) (rowCount rows) (fit rows ok) sheet s (table-inv rows sheet (fit rows ok) l s o) A .0)
 
     -- after a step that can be taken the arrays hold the state that it leaves
-    pub step-held : (b : Buffers) → Holds rows s b → (x : Label) (e : Effect) → Active (intentAt (program rows) sheet s) x e → Holds rows (after (program rows) sheet x s) (putEffect rows e b)
+    pub step-held : (b : Buffers) → HoldsState rows s b → (x : Label) (e : Effect) → Active (intentAt (program rows) sheet s) x e → HoldsState rows (after (program rows) sheet x s) (putEffect rows e b)
     step-held b h x e A =
         rw (after-effect (program rows) sheet s x e (active-effect (intentAt (program rows) sheet s) A)) (hold-effect rows ok e s (changes-below A) (writes-in rows sheet s A) (lengths rows ok sheet l s o) b h)
 
     -- so after the step of row j
-    pub row-step-held : (b : Buffers) → Holds rows s b → (j : ℕ) (x : Label) → stepAt (program rows) sheet s j ≡ some x
-        → (e : Effect) × (effectOf x (intentAt (program rows) sheet s) ≡ some e) × Holds rows (after (program rows) sheet x s) (putEffect rows e b)
+    pub row-step-held : (b : Buffers) → HoldsState rows s b → (j : ℕ) (x : Label) → stepAt (program rows) sheet s j ≡ some x
+        → (e : Effect) × (effectOf x (intentAt (program rows) sheet s) ≡ some e) × HoldsState rows (after (program rows) sheet x s) (putEffect rows e b)
     row-step-held b h j x q = let (e, A, r) = step-ordered (program rows) sheet s j x q in (e, active-effect (intentAt (program rows) sheet s) A, step-held b h x e A)

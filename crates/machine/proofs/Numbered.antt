@@ -7,8 +7,7 @@ use native.Mathlib.Omega.{arith}
 use native.Mathlib.Decide.{decLt}
 use lib.ListN.{length, getD, take, length-append, List·getD-append}
 use lib.Seq.{take-append-le, getD-append-seam, take-length}
-use Rattle.meaning.specs.Rows.{ifElse}
-use Rattle.meaning.specs.Basics.{allBelow}
+use Rattle.meaning.specs.Basics.{ifElse, allBelow}
 use Rattle.meaning.specs.Declarations.{sumBelow}
 use Rattle.machine.specs.Held.{sumOf}
 use Rattle.machine.proofs.LentLists.{map-append}

@@ -11,13 +11,15 @@ use lib.IntN.{ℤ}
 use lib.ListN.{length, getD}
 use lib.Dec.{T}
 use Rattle.meaning.specs.declared.Node.{Node}
-use Rattle.meaning.specs.declared.Node.the-variants.{Literal, Element, Monadic, Dyadic, Stop, Skip, Assignment, Input, Output, Seq, Par, If, While, Alt, Member, Choice, Option as Alternative, Guard, Other}
+use Rattle.meaning.specs.declared.Node.the-variants.{Literal, Element, Monadic, Dyadic, Stop, Skip, Assignment, Input, Output, Seq, Par, If, While, Alt, Member, Choice, OptionRow, Guard, Other}
 use Rattle.meaning.specs.Basics.{among, lowest, Lowest}
-use Rattle.meaning.specs.Rows.{rowCount, nodeAt, declarations, root}
+use Rattle.meaning.specs.Rows.{rowCount}
 use Rattle.meaning.specs.Kinds.{Shape}
+use Rattle.meaning.specs.Declarations.{declarations, root}
+use Rattle.meaning.specs.Nodes.{nodeAt}
 use Rattle.meaning.specs.References.{of-a, of-b, fieldOf, Refers}
 use Rattle.meaning.specs.Faults.{Placed}
-use Rattle.meaning.specs.Tree.{Process, Members, empty, also, Part, noPart, andMember, partOf, partAt, orStop, rowOf, membersIn}
+use Rattle.meaning.specs.Tree.{Process, Processes, empty, also, Content, noContent, andProcess, contentOf, contentAt, orStop, rowOf, processesIn}
 use Rattle.meaning.specs.Settle.{statesOf}
 use Rattle.meaning.specs.State.{Program, program, processAt}
 use Rattle.meaning.specs.Answers.{check}
@@ -25,11 +27,11 @@ use Rattle.meaning.proofs.AnswerLaws.{RightRows, accepted}
 use Rattle.meaning.proofs.LowestLaws.{lowest-is}
 use Rattle.meaning.proofs.ReferenceCounts.{a-not-b}
 use Rattle.agreement.proofs.Separate.{processes-length}
-use Rattle.meaning.specs.PartClaims.{higherPart}
+use Rattle.meaning.specs.ContentClaims.{higherContent}
 use Rattle.agreement.proofs.TableTree.{part-past, process-is, Known, every-row}
 use Rattle.agreement.proofs.TableReferences.{members-shape, while-shape, member-shape, choice-shape, option-shape, Leading, Shaped, Holding, Fields, fields-are, refers-to, refers-up, placed-at, once}
-use Rattle.machine.specs.RowSteps.{liveByMembers}
-use Rattle.machine.specs.Upward.{memberRows, parentOf}
+use Rattle.machine.specs.RowSteps.{liveByProcesses}
+use Rattle.machine.specs.Upward.{processRows, parentOf}
 use Rattle.machine.proofs.Parents.{among-is, is-among, own-row, parent-has}
 use Rattle.machine.proofs.Unmoved.{told-same}
 
@@ -74,68 +76,68 @@ module _ (rows : List ℤ) (A : RightRows rows) where
 
   abbrev ProcessHeld : ℕ → Option Process → Type 0
   ProcessHeld r none = Unit {0}
-  ProcessHeld r (some p) = (x : ℕ) → List·Memᴰ x (memberRows (membersIn p)) → MemberOf r x
+  ProcessHeld r (some p) = (x : ℕ) → List·Memᴰ x (processRows (processesIn p)) → MemberOf r x
 
-  abbrev PartHeld : ℕ → Part → Type 0
-  PartHeld r p = ((x : ℕ) → List·Memᴰ x (memberRows (p .members)) → HeldFrom r x) × ProcessHeld r (p .process)
+  abbrev PartHeld : ℕ → Content → Type 0
+  PartHeld r p = ((x : ℕ) → List·Memᴰ x (processRows (p .listed)) → HeldFrom r x) × ProcessHeld r (p .process)
 
-  nothing : (r : ℕ) → PartHeld r noPart
+  nothing : (r : ℕ) → PartHeld r noContent
   nothing r = (λ x m. absurd (List·Memᴰ·not-nil m), tt)
 
   -- a process without members
   alone : (r : ℕ) (x : ℕ) → List·Memᴰ x [] → MemberOf r x
   alone r x m = absurd (List·Memᴰ·not-nil m)
 
-  module _ (r : ℕ) (l : r < rowCount rows) (at : ℕ → Part) (known : (b : ℕ) → Known rows PartHeld r b (at b)) where
+  module _ (r : ℕ) (l : r < rowCount rows) (at : ℕ → Content) (known : (b : ℕ) → Known rows PartHeld r b (at b)) where
     -- the members that begin at a field of a process
-    group : (k a : ℕ) (s : Shape) → Shaped rows r k s → Leading (fieldOf s of-a) → Holding rows r of-a a → (x : ℕ) → List·Memᴰ x (memberRows (at a .members)) → MemberOf r x
+    group : (k a : ℕ) (s : Shape) → Shaped rows r k s → Leading (fieldOf s of-a) → Holding rows r of-a a → (x : ℕ) → List·Memᴰ x (processRows (at a .listed)) → MemberOf r x
     group k a s h u e x = go (at a) (known a)
       where
-        go : (p : Part) → Known rows PartHeld r a p → List·Memᴰ x (memberRows (p .members)) → MemberOf r x
+        go : (p : Content) → Known rows PartHeld r a p → List·Memᴰ x (processRows (p .listed)) → MemberOf r x
         go p (inl z) m = absurd (List·Memᴰ·not-nil (rw z at m))
         go p (inr i) m = inl (a, refers-to rows A r k a s of-a l h u e (i .1), i .3 .0 x m)
 
     -- the row of a process is that which the field holds
-    its-row : (a x : ℕ) (o : Option Process) (ms : Members) → ((p : Process) → o ≡ some p → rowOf p ≡ a) → List·Memᴰ x (memberRows (andMember o ms)) → (x ≡ a) ⊎ List·Memᴰ x (memberRows ms)
+    its-row : (a x : ℕ) (o : Option Process) (ms : Processes) → ((p : Process) → o ≡ some p → rowOf p ≡ a) → List·Memᴰ x (processRows (andProcess o ms)) → (x ≡ a) ⊎ List·Memᴰ x (processRows ms)
     its-row a x none ms f m = inr m
     its-row a x (some p) ms f (List·Memᴰ·head e) = inl (e ∙ f p refl)
     its-row a x (some p) ms f (List·Memᴰ·tail m) = inr m
 
     -- a process that a field refers to, before other members
-    first-or : (k a x : ℕ) (s : Shape) (ms : Members) (W : Type 0) → (Refers rows r of-a x → W) → (List·Memᴰ x (memberRows ms) → W) → Shaped rows r k s → Leading (fieldOf s of-a) → Holding rows r of-a a
-        → List·Memᴰ x (memberRows (andMember (at a .process) ms)) → W
+    first-or : (k a x : ℕ) (s : Shape) (ms : Processes) (W : Type 0) → (Refers rows r of-a x → W) → (List·Memᴰ x (processRows ms) → W) → Shaped rows r k s → Leading (fieldOf s of-a) → Holding rows r of-a a
+        → List·Memᴰ x (processRows (andProcess (at a .process) ms)) → W
     first-or k a x s ms W f g h u e = go (at a) (known a)
       where
-        pick : (b : ℕ) → b < rowCount rows → Holding rows r of-a b → (x ≡ b) ⊎ List·Memᴰ x (memberRows ms) → W
+        pick : (b : ℕ) → b < rowCount rows → Holding rows r of-a b → (x ≡ b) ⊎ List·Memᴰ x (processRows ms) → W
         pick b z e (inl q) = f (rw q (refers-to rows A r k b s of-a l h u e z))
         pick b z e (inr m) = g m
 
-        go : (p : Part) → Known rows PartHeld r a p → List·Memᴰ x (memberRows (andMember (p .process) ms)) → W
+        go : (p : Content) → Known rows PartHeld r a p → List·Memᴰ x (processRows (andProcess (p .process) ms)) → W
         go p (inl z) m = g (rw z at m)
-        go p (inr i) m = pick a (i .1) e (its-row a x (p .process) ms (λ q z. own-row rows a q (sym (ap (λ (c : Part). c .process) (i .2)) ∙ z)) m)
+        go p (inr i) m = pick a (i .1) e (its-row a x (p .process) ms (λ q z. own-row rows a q (sym (ap (λ (c : Content). c .process) (i .2)) ∙ z)) m)
 
     -- the process of a WHILE
-    body : (a b : ℕ) → Fields rows r (While a b) → (x : ℕ) → List·Memᴰ x (memberRows (andMember (at b .process) empty)) → MemberOf r x
+    body : (a b : ℕ) → Fields rows r (While a b) → (x : ℕ) → List·Memᴰ x (processRows (andProcess (at b .process) empty)) → MemberOf r x
     body a b f x = go (at b) (known b)
       where
         pick : b < rowCount rows → (x ≡ b) ⊎ List·Memᴰ x [] → MemberOf r x
         pick z (inl q) = inr (rw q (refers-to rows A r 33 b while-shape of-b l (f .0) tt (f .1) z))
         pick z (inr m) = absurd (List·Memᴰ·not-nil m)
 
-        go : (p : Part) → Known rows PartHeld r b p → List·Memᴰ x (memberRows (andMember (p .process) empty)) → MemberOf r x
+        go : (p : Content) → Known rows PartHeld r b p → List·Memᴰ x (processRows (andProcess (p .process) empty)) → MemberOf r x
         go p (inl z) m = absurd (List·Memᴰ·not-nil (rw z at m))
-        go p (inr i) m = pick (i .1) (its-row b x (p .process) empty (λ q z. own-row rows b q (sym (ap (λ (c : Part). c .process) (i .2)) ∙ z)) m)
+        go p (inr i) m = pick (i .1) (its-row b x (p .process) empty (λ q z. own-row rows b q (sym (ap (λ (c : Content). c .process) (i .2)) ∙ z)) m)
 
     -- a row that holds a member, and refers to the next one
     linked : (k a b : ℕ) (s : Shape) → Shaped rows r k s → Leading (fieldOf s of-a) → Leading (fieldOf s of-b) → Holding rows r of-a a → Holding rows r of-b b
-        → (x : ℕ) → List·Memᴰ x (memberRows (andMember (at a .process) (at b .members))) → HeldFrom r x
-    linked k a b s h u v e d x = first-or k a x s (at b .members) (HeldFrom r x) (λ g. (r, this, g)) (later (at b) (known b)) h u e
+        → (x : ℕ) → List·Memᴰ x (processRows (andProcess (at a .process) (at b .listed))) → HeldFrom r x
+    linked k a b s h u v e d x = first-or k a x s (at b .listed) (HeldFrom r x) (λ g. (r, this, g)) (later (at b) (known b)) h u e
       where
-        later : (p : Part) → Known rows PartHeld r b p → List·Memᴰ x (memberRows (p .members)) → HeldFrom r x
+        later : (p : Content) → Known rows PartHeld r b p → List·Memᴰ x (processRows (p .listed)) → HeldFrom r x
         later p (inl z) m = absurd (List·Memᴰ·not-nil (rw z at m))
         later p (inr i) m = let (j, g, t) = i .3 .0 x m in (j, links-from r (refers-to rows A r k b s of-b l h v d (i .1)) g, t)
 
-    part-held : (k : Node) → Fields rows r k → PartHeld r (partOf rows r at k)
+    part-held : (k : Node) → Fields rows r k → PartHeld r (contentOf rows r at k)
     part-held (Literal x) f = nothing r
     part-held (Element a b) f = nothing r
     part-held (Monadic a b) f = nothing r
@@ -152,22 +154,22 @@ module _ (rows : List ℤ) (A : RightRows rows) where
     part-held (Alt a) f = (nothing r .0, group 34 a (members-shape 34 42) (f .0) tt (f .1))
     part-held (Member a b) f = (linked 40 a b member-shape (f .0) tt tt (f .1) (f .2), tt)
     part-held (Choice a b c) f = (linked 41 a b choice-shape (f .0) tt tt (f .1) (f .2), tt)
-    part-held (Alternative a b c) f = (linked 42 a b option-shape (f .0) tt tt (f .1) (f .2), tt)
+    part-held (OptionRow a b c) f = (linked 42 a b option-shape (f .0) tt tt (f .1) (f .2), tt)
     part-held (Guard a b) f = nothing r
     part-held Other f = nothing r
 
-  every-held : (r : ℕ) → PartHeld r (partAt rows r)
-  every-held = every-row rows PartHeld nothing (λ r l e h. part-held r l (higherPart rows r) h (nodeAt rows r) (fields-are rows r))
+  every-held : (r : ℕ) → PartHeld r (contentAt rows r)
+  every-held = every-row rows PartHeld nothing (λ r l e h. part-held r l (higherContent rows r) h (nodeAt rows r) (fields-are rows r))
 
-  or-stop-held : (q x : ℕ) (o : Option Process) → ProcessHeld q o → List·Memᴰ x (memberRows (membersIn (orStop o))) → MemberOf q x
+  or-stop-held : (q x : ℕ) (o : Option Process) → ProcessHeld q o → List·Memᴰ x (processRows (processesIn (orStop o))) → MemberOf q x
   or-stop-held q x none h m = absurd (List·Memᴰ·not-nil m)
   or-stop-held q x (some p) h m = h x m
 
-  held-by : (q x : ℕ) → List·Memᴰ x (memberRows (membersIn (processAt (program rows) q))) → MemberOf q x
-  held-by q x m = or-stop-held q x (partAt rows q .process) (every-held q .1) (subst (λ (p : Process). List·Memᴰ x (memberRows (membersIn p))) (process-is rows q) m)
+  held-by : (q x : ℕ) → List·Memᴰ x (processRows (processesIn (processAt (program rows) q))) → MemberOf q x
+  held-by q x m = or-stop-held q x (contentAt rows q .process) (every-held q .1) (subst (λ (p : Process). List·Memᴰ x (processRows (processesIn p))) (process-is rows q) m)
 
   -- past the last row there is no member
-  member-below : (q x : ℕ) → List·Memᴰ x (memberRows (membersIn (processAt (program rows) q))) → q < rowCount rows
+  member-below : (q x : ℕ) → List·Memᴰ x (processRows (processesIn (processAt (program rows) q))) → q < rowCount rows
   member-below q x m = go (decLt q (rowCount rows))
     where
       go : Dec (q < rowCount rows) → q < rowCount rows
@@ -182,23 +184,23 @@ module _ (rows : List ℤ) (ok : check rows ≡ none) where
   A = accepted rows .0 ok
 
   -- a process is a member of one process
-  pub one-parent : (q r x : ℕ) → List·Memᴰ x (memberRows (membersIn (processAt P q))) → List·Memᴰ x (memberRows (membersIn (processAt P r))) → q ≡ r
+  pub one-parent : (q r x : ℕ) → List·Memᴰ x (processRows (processesIn (processAt P q))) → List·Memᴰ x (processRows (processesIn (processAt P r))) → q ≡ r
   one-parent q r x m n = one-of rows A q r x (held-by rows A q x m) (held-by rows A r x n)
 
   -- which is its parent
-  pub parent-of-member : (q r : ℕ) → List·Memᴰ r (memberRows (membersIn (processAt P q))) → parentOf P r ≡ some q
+  pub parent-of-member : (q r : ℕ) → List·Memᴰ r (processRows (processesIn (processAt P q))) → parentOf P r ≡ some q
   unfolding parentOf
   parent-of-member q r m = go (lowest test n) (lowest-is test n)
     where
       test : ℕ → Bool
-      test j = among r (memberRows (membersIn (processAt P j)))
+      test j = among r (processRows (processesIn (processAt P j)))
 
       n : ℕ
       n = length (P .processes)
 
       go : (o : Option ℕ) → Lowest (λ j. T (test j)) n o → o ≡ some q
-      go none f = absurd (f q (rw (processes-length rows) (member-below rows A q r m)) (is-among r (memberRows (membersIn (processAt P q))) m))
-      go (some j) f = ap some (one-parent j q r (among-is r (memberRows (membersIn (processAt P j))) (f .1)) m)
+      go none f = absurd (f q (rw (processes-length rows) (member-below rows A q r m)) (is-among r (processRows (processesIn (processAt P q))) m))
+      go (some j) f = ap some (one-parent j q r (among-is r (processRows (processesIn (processAt P j))) (f .1)) m)
 
   -- the root is a member of no process
   pub root-alone : parentOf P (P .root) ≡ none
@@ -209,10 +211,10 @@ module _ (rows : List ℤ) (ok : check rows ≡ none) where
       go none e = refl
       go (some q) e = absurd (no-root rows A q (declarations rows) (held-by rows A q (declarations rows) (parent-has P (declarations rows) q e .1)) refl)
 
-  states-told : (ms : Members) (a b : List ℕ) → ((r : ℕ) → List·Memᴰ r (memberRows ms) → getD b r 0 ≡ getD a r 0) → statesOf ms b ≡ statesOf ms a
+  states-told : (ms : Processes) (a b : List ℕ) → ((r : ℕ) → List·Memᴰ r (processRows ms) → getD b r 0 ≡ getD a r 0) → statesOf ms b ≡ statesOf ms a
   states-told empty a b f = refl
   states-told (also p ms) a b f = rw (f (rowOf p) (List·Memᴰ·head refl), states-told ms a b (λ r m. f r (List·Memᴰ·tail m)))
 
   -- where a row and those of which it is the parent keep their states, they tell the same of it
-  pub told-apart : (q : ℕ) (a b : List ℕ) → getD b q 0 ≡ getD a q 0 → ((r : ℕ) → parentOf P r ≡ some q → getD b r 0 ≡ getD a r 0) → liveByMembers P q b ≡ liveByMembers P q a
-  told-apart q a b e f = told-same P q a b e (states-told (membersIn (processAt P q)) a b (λ r m. f r (parent-of-member q r m)))
+  pub told-apart : (q : ℕ) (a b : List ℕ) → getD b q 0 ≡ getD a q 0 → ((r : ℕ) → parentOf P r ≡ some q → getD b r 0 ≡ getD a r 0) → liveByProcesses P q b ≡ liveByProcesses P q a
+  told-apart q a b e f = told-same P q a b e (states-told (processesIn (processAt P q)) a b (λ r m. f r (parent-of-member q r m)))

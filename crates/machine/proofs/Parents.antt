@@ -10,18 +10,18 @@ use lib.IntN.{ℤ}
 use lib.ListN.{length, getD}
 use lib.Dec.{T}
 use Rattle.meaning.specs.declared.Node.{Node}
-use Rattle.meaning.specs.declared.Node.the-variants.{Literal, Element, Monadic, Dyadic, Stop, Skip, Assignment, Input, Output, Seq, Par, If, While, Alt, Member, Choice, Option as Alternative, Guard, Other}
+use Rattle.meaning.specs.declared.Node.the-variants.{Literal, Element, Monadic, Dyadic, Stop, Skip, Assignment, Input, Output, Seq, Par, If, While, Alt, Member, Choice, OptionRow, Guard, Other}
 use Rattle.meaning.specs.Basics.{ifElse, among, lowest, Lowest}
-use Rattle.meaning.specs.Rows.{nodeAt}
-use Rattle.meaning.specs.Tree.{Process, Members, empty, Part, noPart, andMember, partOf, partAt, orStop, rowOf, membersIn}
+use Rattle.meaning.specs.Nodes.{nodeAt}
+use Rattle.meaning.specs.Tree.{Process, Processes, empty, Content, noContent, andProcess, contentOf, contentAt, orStop, rowOf, processesIn}
 use Rattle.meaning.specs.Settle.{isEnded}
 use Rattle.meaning.specs.State.{Program, program, processAt}
 use Rattle.meaning.proofs.LowestLaws.{lowest-is}
 use Rattle.meaning.proofs.Decides.{Decides, holding, failing}
 use Rattle.meaning.proofs.ReferenceCounts.{decides-among}
-use Rattle.meaning.specs.PartClaims.{higherPart}
+use Rattle.meaning.specs.ContentClaims.{higherContent}
 use Rattle.agreement.proofs.TableTree.{Known, every-row, process-is}
-use Rattle.machine.specs.Upward.{memberRows, ofParent, parentOf, goesOnAt, upward}
+use Rattle.machine.specs.Upward.{processRows, ofParent, parentOf, goesOnAt, upward}
 
 -- the lowest number that passes a test passes it
 pub lowest-passes : (p : ℕ → Bool) (n i : ℕ) → lowest p n ≡ some i → (i < n) × T (p i)
@@ -55,46 +55,46 @@ Above r l = (x : ℕ) → List·Memᴰ x l → r < x
 -- a process that stands at row r, and whose members stand higher
 abbrev ProcessUp : ℕ → Option Process → Type 0
 ProcessUp r none = Unit {0}
-ProcessUp r (some p) = (rowOf p ≡ r) × Above r (memberRows (membersIn p))
+ProcessUp r (some p) = (rowOf p ≡ r) × Above r (processRows (processesIn p))
 
 -- so does what stands at row r
-abbrev PartUp : ℕ → Part → Type 0
-PartUp r p = ProcessUp r (p .process) × Above r (memberRows (p .members))
+abbrev PartUp : ℕ → Content → Type 0
+PartUp r p = ProcessUp r (p .process) × Above r (processRows (p .listed))
 
 no-rows : (r : ℕ) → Above r []
 no-rows r x m = absurd (List·Memᴰ·not-nil m)
 
-nothing-up : (r : ℕ) → PartUp r noPart
+nothing-up : (r : ℕ) → PartUp r noContent
 nothing-up r = (tt, no-rows r)
 
 -- a process and members of higher rows
-and-up : (r a : ℕ) (o : Option Process) (ms : Members) → (r < a) → ProcessUp a o → Above r (memberRows ms) → Above r (memberRows (andMember o ms))
+and-up : (r a : ℕ) (o : Option Process) (ms : Processes) → (r < a) → ProcessUp a o → Above r (processRows ms) → Above r (processRows (andProcess o ms))
 and-up r a none ms l h g = g
 and-up r a (some p) ms l h g = both
   where
-    both : Above r (rowOf p ∷ memberRows ms)
+    both : Above r (rowOf p ∷ processRows ms)
     both x (List·Memᴰ·head e) = rw (e, h .0) l
     both x (List·Memᴰ·tail m) = g x m
 
 module _ (rows : List ℤ) where
-  module _ (r : ℕ) (at : ℕ → Part) (known : (b : ℕ) → Known rows PartUp r b (at b)) where
+  module _ (r : ℕ) (at : ℕ → Content) (known : (b : ℕ) → Known rows PartUp r b (at b)) where
     -- the members that a field refers to
-    members-up : (b : ℕ) → Above r (memberRows (at b .members))
+    members-up : (b : ℕ) → Above r (processRows (at b .listed))
     members-up b = go (at b) (known b)
       where
-        go : (p : Part) → Known rows PartUp r b p → Above r (memberRows (p .members))
+        go : (p : Content) → Known rows PartUp r b p → Above r (processRows (p .listed))
         go p (inl e) = rw e (no-rows r)
         go p (inr k) = λ x m. let u = k .3 .1 x m in omega (arith, k .0)
 
     -- a process that a field refers to, before members
-    with-up : (b : ℕ) (ms : Members) → Above r (memberRows ms) → Above r (memberRows (andMember (at b .process) ms))
+    with-up : (b : ℕ) (ms : Processes) → Above r (processRows ms) → Above r (processRows (andProcess (at b .process) ms))
     with-up b ms g = go (at b) (known b)
       where
-        go : (p : Part) → Known rows PartUp r b p → Above r (memberRows (andMember (p .process) ms))
+        go : (p : Content) → Known rows PartUp r b p → Above r (processRows (andProcess (p .process) ms))
         go p (inl e) = rw e g
         go p (inr k) = and-up r b (p .process) ms (k .0) (k .3 .0) g
 
-    part-up : (k : Node) → PartUp r (partOf rows r at k)
+    part-up : (k : Node) → PartUp r (contentOf rows r at k)
     part-up (Literal x) = (tt, no-rows r)
     part-up (Element a b) = (tt, no-rows r)
     part-up (Monadic a b) = (tt, no-rows r)
@@ -109,16 +109,16 @@ module _ (rows : List ℤ) where
     part-up (If a) = ((refl, members-up a), no-rows r)
     part-up (While a b) = ((refl, with-up b empty (no-rows r)), no-rows r)
     part-up (Alt a) = ((refl, members-up a), no-rows r)
-    part-up (Member a b) = (tt, with-up a (at b .members) (members-up b))
-    part-up (Choice a b c) = (tt, with-up a (at b .members) (members-up b))
-    part-up (Alternative a b c) = (tt, with-up a (at b .members) (members-up b))
+    part-up (Member a b) = (tt, with-up a (at b .listed) (members-up b))
+    part-up (Choice a b c) = (tt, with-up a (at b .listed) (members-up b))
+    part-up (OptionRow a b c) = (tt, with-up a (at b .listed) (members-up b))
     part-up (Guard a b) = (tt, no-rows r)
     part-up Other = (tt, no-rows r)
 
-  every-up : (r : ℕ) → PartUp r (partAt rows r)
-  every-up = every-row rows PartUp nothing-up (λ r l e h. part-up r (higherPart rows r) h (nodeAt rows r))
+  every-up : (r : ℕ) → PartUp r (contentAt rows r)
+  every-up = every-row rows PartUp nothing-up (λ r l e h. part-up r (higherContent rows r) h (nodeAt rows r))
 
-  or-stop-up : (r : ℕ) (o : Option Process) → ProcessUp r o → Above r (memberRows (membersIn (orStop o)))
+  or-stop-up : (r : ℕ) (o : Option Process) → ProcessUp r o → Above r (processRows (processesIn (orStop o)))
   or-stop-up r none h = no-rows r
   or-stop-up r (some p) h = h .1
 
@@ -127,19 +127,19 @@ module _ (rows : List ℤ) where
   row-of r p (some q) h e = ap rowOf (sym (Option·some-injective q p e)) ∙ h .0
 
   -- a process stands at its own row
-  pub own-row : (r : ℕ) (p : Process) → partAt rows r .process ≡ some p → rowOf p ≡ r
-  own-row r p = row-of r p (partAt rows r .process) (every-up r .0)
+  pub own-row : (r : ℕ) (p : Process) → contentAt rows r .process ≡ some p → rowOf p ≡ r
+  own-row r p = row-of r p (contentAt rows r .process) (every-up r .0)
 
   -- a member stands at a higher row than its process
-  pub members-higher : (q r : ℕ) → List·Memᴰ r (memberRows (membersIn (processAt (program rows) q))) → q < r
-  members-higher q r m = or-stop-up q (partAt rows q .process) (every-up q .0) r (subst (λ (p : Process). List·Memᴰ r (memberRows (membersIn p))) (process-is rows q) m)
+  pub members-higher : (q r : ℕ) → List·Memᴰ r (processRows (processesIn (processAt (program rows) q))) → q < r
+  members-higher q r m = or-stop-up q (contentAt rows q .process) (every-up q .0) r (subst (λ (p : Process). List·Memᴰ r (processRows (processesIn p))) (process-is rows q) m)
 
 -- a row is a member of its parent
-pub parent-has : (P : Program) (r q : ℕ) → parentOf P r ≡ some q → (q < length (P .processes)) × List·Memᴰ r (memberRows (membersIn (processAt P q)))
+pub parent-has : (P : Program) (r q : ℕ) → parentOf P r ≡ some q → (q < length (P .processes)) × List·Memᴰ r (processRows (processesIn (processAt P q)))
 unfolding parentOf
 parent-has P r q e =
-    let (l, t) = lowest-passes (λ j. among r (memberRows (membersIn (processAt P j)))) (length (P .processes)) q e in
-    (l, among-is r (memberRows (membersIn (processAt P q))) t)
+    let (l, t) = lowest-passes (λ j. among r (processRows (processesIn (processAt P j)))) (length (P .processes)) q e in
+    (l, among-is r (processRows (processesIn (processAt P q))) t)
 
 -- the parent of a row is a lower row
 pub parent-below : (rows : List ℤ) (r q : ℕ) → parentOf (program rows) r ≡ some q → q < r

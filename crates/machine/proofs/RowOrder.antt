@@ -3,16 +3,17 @@ use mathlib.Core.Path.{_≡_, refl, sym, ap, ap₂, subst, _∙_}
 use mathlib.Core.Logic.{⊎-elim}
 use mathlib.Core.Bool.{Bool, true, false}
 use mathlib.Core.Option.{Option, none, some}
-use mathlib.Core.List.{List, [], _∷_, _++_, map, List·Memᴰ, List·Memᴰ·head, List·Memᴰ·tail, Memᴰ·append-left, Memᴰ·append-right, List·Memᴰ·append-cases, List·Memᴰ·not-nil}
+use mathlib.Core.List.{List, [], _∷_, _++_, map, List·Memᴰ, List·Memᴰ·head, List·Memᴰ·tail, Memᴰ·append-left, Memᴰ·append-right, List·Memᴰ·append-cases, List·Memᴰ·not-nil, flatten}
 use Prim.Native.Nat.{ℕ, zero, suc, _+_, _<_, _≤_}
 use native.Mathlib.Nat.{eq-or-lt-of-le}
 use native.Mathlib.Omega.{arith}
 use lib.ListN.{length}
 use lib.Dec.{eqb}
+use Rattle.meaning.specs.Basics.{ifElse}
 use borrow.Author.Tests.{eqb-true}
-use Rattle.meaning.specs.Basics.{ifElse, concat}
-use Rattle.meaning.specs.Usage.{range}
-use Rattle.meaning.specs.Ready.{Label, orderRow, stepsAt, byRow}
+use Rattle.meaning.specs.Usage.{numbersFrom}
+use Rattle.meaning.specs.Labels.{Label, orderRow}
+use Rattle.meaning.specs.Ready.{stepsAt, byRow}
 use Rattle.machine.specs.RowSteps.{listOf}
 
 -- a step that is ordered by a row has it
@@ -45,7 +46,7 @@ one-or-none (x ∷ []) o h f g = rw (f x (List·Memᴰ·head refl))
 one-or-none (x ∷ y ∷ m) o h f g = absurd (omega arith)
 
 -- so the steps of all rows are those of each row in turn
-pub row-by-row : (step : ℕ → Option Label) (l : List Label) (k j : ℕ) → ((i : ℕ) → j ≤ i → i < j + k → stepsAt i l ≡ listOf (step i)) → byRow k j l ≡ concat (map (λ i. listOf (step i)) (range j k))
-unfolding concat range
+pub row-by-row : (step : ℕ → Option Label) (l : List Label) (k j : ℕ) → ((i : ℕ) → j ≤ i → i < j + k → stepsAt i l ≡ listOf (step i)) → byRow k j l ≡ flatten (map (λ i. listOf (step i)) (numbersFrom j k))
+unfolding flatten numbersFrom
 row-by-row step l zero j h = refl
 row-by-row step l (suc k) j h = ap₂ (λ (a b : List Label). a ++ b) (h j (omega arith) (omega arith)) (row-by-row step l k (suc j) (λ i a b. h i (omega arith) (omega arith)))

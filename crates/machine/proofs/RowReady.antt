@@ -10,9 +10,12 @@ use lib.ListN.{length, getD, List·getD-eq-default}
 use lib.Dec.{T, eqb→eq, eqb-refl}
 use Rattle.meaning.specs.Basics.{among, lowest, Lowest}
 use Rattle.meaning.specs.Tree.{Process, actionOf, orStop}
-use Rattle.meaning.specs.State.{Message, State, Program, processAt, Effect}
-use Rattle.meaning.specs.Intent.{Sheet, Offer, openOffer, inputOffer, Intent, waits, moves, inputsFrom, outputsTo, selects}
-use Rattle.meaning.specs.Ready.{Label, own, pass, take, takeFrom, orderRow, stepsAll, stepsAt, intentAt, runningRows, ready}
+use Rattle.meaning.specs.Values.{Message}
+use Rattle.meaning.specs.State.{State, Program, processAt, Effect}
+use Rattle.meaning.specs.Labels.{Label, own, pass, takeOption, takeWithOutput, orderRow}
+use Rattle.meaning.specs.Readings.{Sheet}
+use Rattle.meaning.specs.Intent.{Offer, openOffer, inputOffer, Intent, waits, moves, inputsFrom, outputsTo, selects}
+use Rattle.meaning.specs.Ready.{stepsAll, stepsAt, intentAt, runningRows, ready}
 use Rattle.meaning.proofs.LowestLaws.{lowest-is}
 use Rattle.meaning.proofs.Decides.{Decides, holding, failing}
 use Rattle.meaning.proofs.ReferenceCounts.{decides-among}
@@ -25,7 +28,7 @@ use Rattle.agreement.proofs.Active.{offerAt, Active, acts-alone, passes-on, tak
 use Rattle.agreement.proofs.Working.{acts, Inv, works, works-at}
 use Rattle.agreement.proofs.Separate.{one-sender, alt-row}
 use Rattle.agreement.proofs.FewReady.{at-most-one, ready-once}
-use Rattle.machine.specs.RowSteps.{isOutputTo, altOf, ownStepBy, offerStep, optionStepBy, orElse, listOf, waitingAt, ownStep, optionStepOf, optionStep, stepAt, stepsByRow}
+use Rattle.machine.specs.RowSteps.{isOutputTo, altOf, ownStepBy, offerStep, optionStepBy, firstStep, listOf, waitingAt, ownStep, optionStepOf, optionStep, stepAt, stepsByRow}
 use Rattle.machine.proofs.RowOrder.{at-row, of-its-row, of-all-rows, one-or-none, row-by-row}
 use Rattle.machine.proofs.StepEffects.{active-effect}
 
@@ -130,8 +133,8 @@ module _ (P : Program) (sheet : Sheet) (s : State) where
 
   offer-ordered : (r j : ℕ) (x : Label) (os : List Offer) → W r ≡ selects os → (o : Option Offer) → offerAt j os ≡ o → offerStep (waitingAt P sheet s) r j o ≡ some x → Ordered j x
   offer-ordered r j x os q none g h = absurd (Option·none-ne-some x h)
-  offer-ordered r j x os q (some (openOffer i p ws)) g h = subst (Ordered j) (Option·some-injective (take r j) x h) (_, takes-open q g, refl)
-  offer-ordered r j x os q (some (inputOffer i p e a)) g h = with-waiting (takeFrom r j) e j x (λ o z f. (_, takes-input q g f, refl)) h
+  offer-ordered r j x os q (some (openOffer i p ws)) g h = subst (Ordered j) (Option·some-injective (takeOption r j) x h) (_, takes-open q g, refl)
+  offer-ordered r j x os q (some (inputOffer i p e a)) g h = with-waiting (takeWithOutput r j) e j x (λ o z f. (_, takes-input q g f, refl)) h
 
   option-ordered : (r j : ℕ) (x : Label) (w : Intent) → W r ≡ w → optionStepBy (waitingAt P sheet s) r j w ≡ some x → Ordered j x
   option-ordered r j x waits q h = absurd (Option·none-ne-some x h)
@@ -148,7 +151,7 @@ module _ (P : Program) (sheet : Sheet) (s : State) where
       as-option none h = absurd (Option·none-ne-some x h)
       as-option (some r) h = option-ordered r j x (W r) refl h
 
-      go : (o : Option Label) → ownStep P sheet s j ≡ o → orElse o (optionStep P sheet s j) ≡ some x → Ordered j x
+      go : (o : Option Label) → ownStep P sheet s j ≡ o → firstStep o (optionStep P sheet s j) ≡ some x → Ordered j x
       go none q h = as-option (altOf P j) h
       go (some y) q h = own-ordered j x (W j) refl (q ∙ h)
 
@@ -171,7 +174,7 @@ module _ (P : Program) (n : ℕ) (F : Fit P n) (sheet : Sheet) (s : State) (i : 
       never z =
           let (B, m) = alt-row P n F sheet s i r j os o h g in
           let t = works-at P n F sheet s j j 2 i (works P n F sheet s j i z) (Legal.own 0 refl refl) in
-          absurd (O .no-process (B .action) r (B .members) (B .sub) j m (at-in t))
+          absurd (O .no-process (B .action) r (B .listed) (B .sub) j m (at-in t))
 
       go : (w : Intent) → W P sheet s j ≡ w → ownStepBy (waitingAt P sheet s) j w ≡ none
       go waits q = refl
@@ -184,7 +187,7 @@ module _ (P : Program) (n : ℕ) (F : Fit P n) (sheet : Sheet) (s : State) (i : 
   offer-alt : (r j : ℕ) (os : List Offer) (o : Offer) → W P sheet s r ≡ selects os → offerAt j os ≡ some o → altOf P j ≡ some r
   offer-alt r j os o h g =
       let (A, m) = alt-row P n F sheet s i r j os o h g in
-      alt-found P U r j (subst (λ (p : Process). List·Memᴰ j (optionRows (actionOf p))) (sym (F .placed (A .action) r (A .members) (A .sub))) m)
+      alt-found P U r j (subst (λ (p : Process). List·Memᴰ j (optionRows (actionOf p))) (sym (F .placed (A .action) r (A .listed) (A .sub))) m)
 
   pub active-step : {x : Label} {e : Effect} → Active (W P sheet s) x e → stepAt P sheet s (orderRow x) ≡ some x
   unfolding stepAt ownStep optionStep

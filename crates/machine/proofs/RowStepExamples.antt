@@ -1,12 +1,13 @@
 -- The steps of rows of a small table by computation: a PAR of an output and an ALT, whose options are an input on the same channel and TRUE & SKIP.
 use mathlib.Core.Path.{_≡_, refl}
 use mathlib.Core.Option.{some}
-use mathlib.Core.List.{List, [], _∷_}
+use mathlib.Core.List.{List, [], _∷_, flatten}
 use lib.IntN.{ℤ, pos, negsuc}
-use Rattle.meaning.specs.Basics.{concat, lowest, lowestFrom, allBelow}
+use Rattle.meaning.specs.Basics.{lowest, lowestFrom, allBelow}
 use Rattle.meaning.specs.State.{program}
+use Rattle.meaning.specs.Labels.{takeOption, takeWithOutput}
 use Rattle.meaning.specs.Settle.{start}
-use Rattle.meaning.specs.Ready.{take, takeFrom, ready}
+use Rattle.meaning.specs.Ready.{ready}
 use Rattle.meaning.proofs.Computes.{computes}
 use Rattle.machine.specs.RowSteps.{altOf, waitingAt, ownStep, optionStep, stepAt, stepsByRow, stepRows}
 
@@ -27,14 +28,14 @@ unfolding computes waitingAt lowest lowestFrom
 output-waits = refl
 
 -- both options order a step
-pub steps-are : stepsByRow (program rows) [] (start (program rows)) ≡ takeFrom 8 9 5 ∷ take 8 11 ∷ []
-unfolding computes stepsByRow stepAt ownStep optionStep altOf waitingAt lowest lowestFrom concat
+pub steps-are : stepsByRow (program rows) [] (start (program rows)) ≡ takeWithOutput 8 9 5 ∷ takeOption 8 11 ∷ []
+unfolding computes stepsByRow stepAt ownStep optionStep altOf waitingAt lowest lowestFrom flatten
 steps-are = refl
 
 pub rows-are : stepRows (program rows) [] (start (program rows)) 20 ≡ 9 ∷ 11 ∷ []
 unfolding computes stepRows stepAt ownStep optionStep altOf waitingAt lowest lowestFrom allBelow
 rows-are = refl
 
-pub ready-are : ready (program rows) [] (start (program rows)) ≡ takeFrom 8 9 5 ∷ take 8 11 ∷ []
+pub ready-are : ready (program rows) [] (start (program rows)) ≡ takeWithOutput 8 9 5 ∷ takeOption 8 11 ∷ []
 unfolding computes
 ready-are = refl

@@ -1,16 +1,16 @@
 -- Of an accepted table, in a state of an order: the ready steps are the steps of the rows in row order, how many there are, and of which row each is.
 use mathlib.Core.Path.{_≡_, ap, _∙_}
 use mathlib.Core.Option.{Option, none, some}
-use mathlib.Core.List.{List, map}
+use mathlib.Core.List.{List, map, flatten}
 use Prim.Native.Nat.{ℕ, _<_}
 use lib.IntN.{ℤ}
 use lib.ListN.{length, getD}
-use Rattle.meaning.specs.Basics.{concat}
 use Rattle.meaning.specs.Rows.{rowCount}
-use Rattle.meaning.specs.Usage.{range}
+use Rattle.meaning.specs.Usage.{numbersFrom}
 use Rattle.meaning.specs.State.{State, program}
-use Rattle.meaning.specs.Intent.{Sheet}
-use Rattle.meaning.specs.Ready.{Label, ready}
+use Rattle.meaning.specs.Labels.{Label}
+use Rattle.meaning.specs.Readings.{Sheet}
+use Rattle.meaning.specs.Ready.{ready}
 use Rattle.meaning.specs.Order.{OrderOf}
 use Rattle.meaning.specs.Answers.{check}
 use Rattle.meaning.proofs.AnswerLaws.{accepted}
@@ -31,11 +31,11 @@ module _ (rows : List ℤ) (ok : check rows ≡ none) (sheet : Sheet) (l : List 
   states-length = table-inv rows sheet (fit rows ok) l s o .size
 
   -- the ready steps are the steps of the rows, in row order
-  pub ready-is : ready (program rows) sheet s ≡ concat (map (λ j. listOf (stepAt (program rows) sheet s j)) (range 0 (rowCount rows)))
+  pub ready-is : ready (program rows) sheet s ≡ flatten (map (λ j. listOf (stepAt (program rows) sheet s j)) (numbersFrom 0 (rowCount rows)))
   unfolding stepsByRow
   ready-is =
       ready-by-row (program rows) (rowCount rows) (fit rows ok) sheet s (table-inv rows sheet (fit rows ok) l s o) (option-rows rows ok) (one-alt-row rows (accepted rows .0 ok)) (offers-rise rows sheet s)
-      ∙ ap (λ (n : ℕ). concat (map (λ j. listOf (step j)) (range 0 n))) states-length
+      ∙ ap (λ (n : ℕ). flatten (map (λ j. listOf (step j)) (numbersFrom 0 n))) states-length
 
   -- there are as many ready steps as rows that order one
   pub ready-count : length (ready (program rows) sheet s) ≡ length (stepRows (program rows) sheet s (rowCount rows))

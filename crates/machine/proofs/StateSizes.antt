@@ -5,12 +5,13 @@ use mathlib.Core.List.{List, [], _∷_}
 use Prim.Native.Nat.{ℕ}
 use lib.IntN.{ℤ}
 use lib.ListN.{length, length-set, length-replicate}
-use Rattle.meaning.specs.Declarations.{totalCells, totalPorts}
-use Rattle.meaning.specs.State.{Message, Store, State, program, Write, writeCell, writePlace, writeOutput, write, writeAll}
-use Rattle.meaning.specs.Intent.{Sheet}
-use Rattle.meaning.specs.Ready.{Label}
+use Rattle.meaning.specs.Declarations.{totalCells, hostChannels}
+use Rattle.meaning.specs.Values.{Message}
+use Rattle.meaning.specs.State.{Store, State, program, Write, writeCell, writePlace, writeOutput, write, writeAll}
+use Rattle.meaning.specs.Labels.{Label}
+use Rattle.meaning.specs.Readings.{Sheet}
 use Rattle.meaning.specs.Step.{Step}
-use Rattle.meaning.specs.Order.{Begins, Order, halt, then, OrderOf}
+use Rattle.meaning.specs.Order.{Begins, Order, halt, next-step, OrderOf}
 use Rattle.meaning.specs.Answers.{check}
 use Rattle.machine.specs.Held.{Lengths}
 use Rattle.machine.proofs.RowTables.{states-length}
@@ -18,8 +19,8 @@ use Rattle.machine.proofs.RowTables.{states-length}
 -- a store has as many cells, places and output lists
 pub record Stored (rows : List ℤ) (x : Store) : Type 0 where
   pub cells : length (x .cells) ≡ totalCells rows
-  pub places : length (x .places) ≡ totalPorts 1 rows
-  pub outputs : length (x .outputs) ≡ totalPorts 2 rows
+  pub places : length (x .places) ≡ hostChannels 1 rows
+  pub outputs : length (x .outputs) ≡ hostChannels 2 rows
 
 module _ (rows : List ℤ) where
   pub write-stored : (w : Write) (x : Store) → Stored rows x → Stored rows (write w x)
@@ -36,8 +37,8 @@ module _ (rows : List ℤ) where
   begins-stored s b =
       record {
         cells = ap (λ (l : List Message). length l) (b .unset) ∙ length-replicate {A = Message} (totalCells rows) none;
-        places = ap (λ (l : List ℕ). length l) (b .unread) ∙ length-replicate {A = ℕ} (totalPorts 1 rows) 0;
-        outputs = ap (λ (l : List (List Message)). length l) (b .unwritten) ∙ length-replicate {A = List Message} (totalPorts 2 rows) [];
+        places = ap (λ (l : List ℕ). length l) (b .unread) ∙ length-replicate {A = ℕ} (hostChannels 1 rows) 0;
+        outputs = ap (λ (l : List (List Message)). length l) (b .unwritten) ∙ length-replicate {A = List Message} (hostChannels 2 rows) [];
       }
 
   module _ (sheet : Sheet) where
@@ -46,7 +47,7 @@ module _ (rows : List ℤ) where
 
     order-stored : {s t : State} {l : List Label} → Order (program rows) sheet s l t → Stored rows (s .store) → Stored rows (t .store)
     order-stored halt k = k
-    order-stored (then {s} {t} {x} h o) k = order-stored o (step-stored s x t h k)
+    order-stored (next-step {s} {t} {x} h o) k = order-stored o (step-stored s x t h k)
 
 -- of an accepted table
 pub lengths : (rows : List ℤ) → check rows ≡ none → (sheet : Sheet) (l : List Label) (s : State) → OrderOf rows sheet l s → Lengths rows s

@@ -1,13 +1,13 @@
 -- Steps by row as a list: as many as the rows that order one, and the k-th is that of the k-th such row.
 use mathlib.Core.Path.{_≡_, refl, sym, ap, ap₂, _∙_}
 use mathlib.Core.Option.{Option, none, some}
-use mathlib.Core.List.{List, [], _∷_, _++_, map, append-nil, append-assoc}
+use mathlib.Core.List.{List, [], _∷_, _++_, map, append-nil, append-assoc, flatten}
 use Prim.Native.Nat.{ℕ, zero, suc, _+_, _<_}
 use native.Mathlib.Omega.{arith}
 use lib.ListN.{length, getD, length-map, List·getD-map}
-use Rattle.meaning.specs.Basics.{ifElse, isSome, concat, allBelow}
-use Rattle.meaning.specs.Usage.{range}
-use Rattle.meaning.specs.Ready.{Label}
+use Rattle.meaning.specs.Basics.{ifElse, isSome, allBelow}
+use Rattle.meaning.specs.Usage.{numbersFrom}
+use Rattle.meaning.specs.Labels.{Label}
 use Rattle.machine.specs.RowSteps.{listOf}
 use Rattle.machine.proofs.LentLists.{map-append}
 
@@ -18,17 +18,17 @@ any-default (x ∷ l) zero a b h = refl
 any-default (x ∷ l) (suc k) a b h = any-default l k a b (omega arith)
 
 -- the last of a range of rows comes last
-last-row : {A : Type 0} (f : ℕ → List A) (j k : ℕ) → concat (map f (range j (suc k))) ≡ concat (map f (range j k)) ++ f (j + k)
-unfolding concat range
+last-row : {A : Type 0} (f : ℕ → List A) (j k : ℕ) → flatten (map f (numbersFrom j (suc k))) ≡ flatten (map f (numbersFrom j k)) ++ f (j + k)
+unfolding flatten numbersFrom
 last-row f j zero = append-nil (f j) ∙ ap f (omega arith)
 last-row f j (suc k) =
     let e : suc j + k ≡ j + suc k = omega arith in
-    ap (λ (l : List _). f j ++ l) (last-row f (suc j) k ∙ ap (λ (i : ℕ). concat (map f (range (suc j) k)) ++ f i) e) ∙ sym (append-assoc (f j) (concat (map f (range (suc j) k))) (f (j + suc k)))
+    ap (λ (l : List _). f j ++ l) (last-row f (suc j) k ∙ ap (λ (i : ℕ). flatten (map f (numbersFrom (suc j) k)) ++ f i) e) ∙ sym (append-assoc (f j) (flatten (map f (numbersFrom (suc j) k))) (f (j + suc k)))
 
 module _ (step : ℕ → Option Label) where
   -- the steps of the rows below n, and those rows
   abbrev pub stepsBelow : ℕ → List Label
-  stepsBelow n = concat (map (λ j. listOf (step j)) (range 0 n))
+  stepsBelow n = flatten (map (λ j. listOf (step j)) (numbersFrom 0 n))
 
   abbrev pub rowsBelow : ℕ → List ℕ
   rowsBelow n = allBelow (λ j. isSome (step j)) n
@@ -42,7 +42,7 @@ module _ (step : ℕ → Option Label) where
   rows-next j = refl
 
   none-below : stepsBelow 0 ≡ []
-  unfolding concat range
+  unfolding flatten numbersFrom
   none-below = refl
 
   no-rows-below : rowsBelow 0 ≡ []

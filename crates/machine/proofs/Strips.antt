@@ -6,7 +6,7 @@ use native.Mathlib.Omega.{arith}
 use lib.IntN.{ℤ, pos}
 use lib.ListN.{length, getD, set, take, replicate, length-append, length-map, replicate-append-replicate}
 use lib.Seq.{set-append-left}
-use Rattle.meaning.specs.State.{Message}
+use Rattle.meaning.specs.Values.{Message}
 use Rattle.meaning.specs.Buffers.{sized, numberIn, strips}
 use Rattle.machine.specs.Held.{sumOf}
 use Rattle.machine.proofs.LentLists.{sized-length, sized-defaults, sized-more, set-append-right, map-append}

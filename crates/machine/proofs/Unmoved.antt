@@ -11,12 +11,15 @@ use lib.ListN.{getD, set}
 use lib.Dec.{eqb}
 use borrow.Author.Tests.{eqb-true}
 use Rattle.meaning.specs.Rows.{rowCount}
-use Rattle.meaning.specs.Tree.{stop, skip, sequence, parallel, assign, receive, send, conditional, loop, alternation, Process, node, empty, also, rowOf, actionOf, membersIn, rowsIn, rowsBeneath}
+use Rattle.meaning.specs.Tree.{stop, skip, sequence, parallel, assign, input, output, conditional, loop, alternation, Process, node, empty, also, rowOf, actionOf, processesIn, rowsIn, rowsBeneath}
+use Rattle.meaning.specs.Values.{Message}
 use Rattle.meaning.specs.Settle.{statesOf, byStep, mode, settled}
 use Rattle.meaning.specs.SettlingRules.{Among, All, Next, Inside, Settles, Final}
-use Rattle.meaning.specs.State.{Message, State, Program, program, processAt, whole, Effect}
-use Rattle.meaning.specs.Intent.{Sheet, outputsTo}
-use Rattle.meaning.specs.Ready.{Label, allIdle, live, intentAt, after}
+use Rattle.meaning.specs.State.{State, Program, program, processAt, whole, Effect}
+use Rattle.meaning.specs.Labels.{Label}
+use Rattle.meaning.specs.Readings.{Sheet}
+use Rattle.meaning.specs.Intent.{outputsTo}
+use Rattle.meaning.specs.Ready.{allIdle, isLive, intentAt, after}
 use Rattle.meaning.specs.Step.{Live}
 use Rattle.meaning.specs.Order.{OrderOf}
 use Rattle.meaning.specs.Answers.{check}
@@ -33,47 +36,47 @@ use Rattle.agreement.proofs.TableFit.{fit}
 use Rattle.agreement.proofs.Freedom.{NoneOf, works-same}
 use Rattle.agreement.proofs.TableOptions.{option-rows, one-alt-row}
 use Rattle.agreement.proofs.OrdersSettle.{orders-settled}
-use Rattle.machine.specs.RowSteps.{waitingAt, liveByMembers}
+use Rattle.machine.specs.RowSteps.{waitingAt, liveByProcesses}
 use Rattle.machine.proofs.StepEffects.{active-effect, after-effect}
 use Rattle.machine.proofs.RowReady.{waiting-found}
 use Rattle.machine.proofs.LiveRows.{both, intent-is, running-inside, live-by-members}
 
 -- ---- live rows, by the rules
 
-node-is : (p : Process) → p ≡ node (actionOf p) (rowOf p) (membersIn p)
+node-is : (p : Process) → p ≡ node (actionOf p) (rowOf p) (processesIn p)
 node-is (node a r ms) = refl
 
 module _ (P : Program) (sheet : Sheet) (s : State) (r : ℕ) where
   -- a live row is running, and all beneath it is idle
-  live-tells : live P sheet r s ≡ true → (getD (s .states) r 0 ≡ 1) × Idle (rowsBeneath (membersIn (processAt P r))) (s .states)
-  unfolding live
+  live-tells : isLive P sheet r s ≡ true → (getD (s .states) r 0 ≡ 1) × Idle (rowsBeneath (processesIn (processAt P r))) (s .states)
+  unfolding isLive
   live-tells h =
-      let rs = rowsBeneath (membersIn (processAt P r)) in
+      let rs = rowsBeneath (processesIn (processAt P r)) in
       let (u, i) = both (eqb (getD (s .states) r 0) 1) (allIdle rs (s .states)) h in
       (eqb-true (getD (s .states) r 0) 1 u, idle-all rs (s .states) i)
 
   -- so it is live by the rules, with its own action
-  live-rule : live P sheet r s ≡ true → Live P s r (actionOf (processAt P r))
+  live-rule : isLive P sheet r s ≡ true → Live P s r (actionOf (processAt P r))
   live-rule h = Live.live (node-is (processAt P r)) (live-tells h .0) (live-tells h .1)
 
 -- a running process with all beneath it idle, to which no rule of settling applies, starts no member by itself
-final-by-step : (top p : Process) (s : List ℕ) → Final top s → Inside top p → getD s (rowOf p) 0 ≡ 1 → Idle (rowsBeneath (membersIn p)) s → mode (actionOf p) ≡ byStep
+final-by-step : (top p : Process) (s : List ℕ) → Final top s → Inside top p → getD s (rowOf p) 0 ≡ 1 → Idle (rowsBeneath (processesIn p)) s → mode (actionOf p) ≡ byStep
 final-by-step top (node stop r ms) s f i u h = refl
 final-by-step top (node skip r ms) s f i u h = absurd (f (set s r 2) (Settles.skip-ends (i, u)))
-final-by-step top (node sequence r empty) s f i u h = absurd (f (set s r 2) (Settles.seq-ends (i, u) All.no-more))
-final-by-step top (node sequence r (also p ms)) s f i u h = absurd (f (set s (rowOf p) 1) (Settles.seq-starts (i, u) Next.here (h (rowOf p) (Memᴰ·append-left (rowsBeneath ms) (row-in p)))))
-final-by-step top (node parallel r empty) s f i u h = absurd (f (set s r 2) (Settles.par-ends (i, u) All.no-more))
-final-by-step top (node parallel r (also p ms)) s f i u h = absurd (f (set s (rowOf p) 1) (Settles.par-starts (i, u) Among.first (h (rowOf p) (Memᴰ·append-left (rowsBeneath ms) (row-in p)))))
+final-by-step top (node sequence r empty) s f i u h = absurd (f (set s r 2) (Settles.seq-ends (i, u) All.all-none))
+final-by-step top (node sequence r (also p ms)) s f i u h = absurd (f (set s (rowOf p) 1) (Settles.seq-starts (i, u) Next.next-here (h (rowOf p) (Memᴰ·append-left (rowsBeneath ms) (row-in p)))))
+final-by-step top (node parallel r empty) s f i u h = absurd (f (set s r 2) (Settles.par-ends (i, u) All.all-none))
+final-by-step top (node parallel r (also p ms)) s f i u h = absurd (f (set s (rowOf p) 1) (Settles.par-starts (i, u) Among.among-first (h (rowOf p) (Memᴰ·append-left (rowsBeneath ms) (row-in p)))))
 final-by-step top (node (assign v a b) r ms) s f i u h = refl
-final-by-step top (node (receive c) r ms) s f i u h = refl
-final-by-step top (node (send c a b) r ms) s f i u h = refl
+final-by-step top (node (input c) r ms) s f i u h = refl
+final-by-step top (node (output c a b) r ms) s f i u h = refl
 final-by-step top (node (conditional ts) r ms) s f i u h = refl
 final-by-step top (node (loop a b) r ms) s f i u h = refl
 final-by-step top (node (alternation bs) r ms) s f i u h = refl
 
 -- a row's own state and those of its direct members tell whether it is live
-pub told-same : (P : Program) (r : ℕ) (a b : List ℕ) → getD b r 0 ≡ getD a r 0 → statesOf (membersIn (processAt P r)) b ≡ statesOf (membersIn (processAt P r)) a → liveByMembers P r b ≡ liveByMembers P r a
-unfolding liveByMembers
+pub told-same : (P : Program) (r : ℕ) (a b : List ℕ) → getD b r 0 ≡ getD a r 0 → statesOf (processesIn (processAt P r)) b ≡ statesOf (processesIn (processAt P r)) a → liveByProcesses P r b ≡ liveByProcesses P r a
+unfolding liveByProcesses
 told-same P r a b h g = rw (h, g)
 
 -- ---- accepted tables
@@ -104,7 +107,7 @@ module _ (rows : List ℤ) (ok : check rows ≡ none) (sheet : Sheet) (l : List 
       go (inr n) = absurd (omega (arith, u, inv .outside r n))
 
   -- a live row works: it is no SKIP, SEQ or PAR, since the state is settled
-  pub live-row-works : (r : ℕ) → live P sheet r s ≡ true → Works P (rowCount rows) F sheet s r
+  pub live-row-works : (r : ℕ) → isLive P sheet r s ≡ true → Works P (rowCount rows) F sheet s r
   live-row-works r h =
       let (u, i) = live-tells P sheet s r h in
       let m = final-by-step (whole P) (processAt P r) (s .states) (orders-settled rows ok sheet l s o) (running-inside rows ok sheet l s o r u) (ap (λ (y : ℕ). getD (s .states) y 0) (running-row r u) ∙ u) i in
@@ -124,14 +127,14 @@ module _ (rows : List ℤ) (ok : check rows ≡ none) (sheet : Sheet) (l : List 
 
     module _ (r : ℕ) (d : NoneOf x r) where
       -- a live row that is none of the step's rows would do the same after it
-      pub live-same : live P sheet r s ≡ true → intentAt P sheet t r ≡ intentAt P sheet s r
+      pub live-same : isLive P sheet r s ≡ true → intentAt P sheet t r ≡ intentAt P sheet s r
       live-same h = rw left (works-same P (rowCount rows) F sheet s inv A r d (live-row-works r h))
 
       -- a row that is none of the step's rows would do the same, where its own state and those of its direct members tell the same of it
-      pub unmoved : liveByMembers P r (t .states) ≡ liveByMembers P r (s .states) → intentAt P sheet t r ≡ intentAt P sheet s r
-      unmoved q = go (live P sheet r s) refl
+      pub unmoved : liveByProcesses P r (t .states) ≡ liveByProcesses P r (s .states) → intentAt P sheet t r ≡ intentAt P sheet s r
+      unmoved q = go (isLive P sheet r s) refl
         where
-          go : (b : Bool) → live P sheet r s ≡ b → intentAt P sheet t r ≡ intentAt P sheet s r
+          go : (b : Bool) → isLive P sheet r s ≡ b → intentAt P sheet t r ≡ intentAt P sheet s r
           go true h = live-same h
           go false h =
               intent-is rows sheet t r false (live-by-members rows ok sheet (l ++ (x ∷ [])) t order-after r ∙ q ∙ sym (live-by-members rows ok sheet l s o r) ∙ h)

@@ -12,11 +12,12 @@ use lib.ListN.{length, getD, set, length-set}
 use lib.Seq.{getD-set-other, getD-set-same, ext-getD}
 use Rattle.meaning.specs.Limits.{maxRows}
 use Rattle.meaning.specs.Rows.{rowCount}
-use Rattle.meaning.specs.Tree.{Process, node, Members, empty, also}
+use Rattle.meaning.specs.Tree.{Process, node, Processes, empty, also}
 use Rattle.meaning.specs.Settle.{settle}
 use Rattle.meaning.specs.State.{State, Program, program, whole, changeStates, Effect}
-use Rattle.meaning.specs.Intent.{Sheet}
-use Rattle.meaning.specs.Ready.{Label, intentAt}
+use Rattle.meaning.specs.Labels.{Label}
+use Rattle.meaning.specs.Readings.{Sheet}
+use Rattle.meaning.specs.Ready.{intentAt}
 use Rattle.meaning.specs.Order.{OrderOf}
 use Rattle.meaning.specs.Buffers.{Buffers}
 use Rattle.meaning.specs.Answers.{check}
@@ -30,8 +31,8 @@ use Rattle.agreement.proofs.Invariant.{partsOf, step-parts}
 use Rattle.agreement.proofs.Separate.{table-inv}
 use Rattle.agreement.proofs.TableFit.{fit}
 use Rattle.agreement.proofs.OrdersSettle.{settled-again}
-use Rattle.machine.specs.Held.{Holds}
-use Rattle.machine.specs.Upward.{upward, changeUp, changesUp}
+use Rattle.machine.specs.Held.{HoldsState}
+use Rattle.machine.specs.Upward.{changeUp, changesUp}
 use Rattle.machine.proofs.LentLists.{lent-at, lent-length}
 use Rattle.machine.proofs.Declared.{room}
 use Rattle.machine.proofs.HeldLaws.{states-are}
@@ -46,7 +47,7 @@ mutual
   pub sound-more : (p : Process) (n m : ℕ) → n ≤ m → Sound p n → Sound p m
   sound-more (node k r ms) n m h d = (omega (arith, d .0), d .1, soundM-more ms n m h (d .2))
 
-  soundM-more : (ms : Members) (n m : ℕ) → n ≤ m → SoundM ms n → SoundM ms m
+  soundM-more : (ms : Processes) (n m : ℕ) → n ≤ m → SoundM ms n → SoundM ms m
   soundM-more empty n m h d = tt
   soundM-more (also p ms) n m h d = (sound-more p n m h (d .0), soundM-more ms n m h (d .1), d .2)
 
@@ -155,7 +156,7 @@ module _ (rows : List ℤ) (ok : check rows ≡ none) where
           two-changes (length t) t steady r q 1 (here-too (a .0)) j j 2 (d .0 .0) (here-too (a .1 .0))
 
     -- the same of the row states that the machine's arrays hold
-    pub held-upward : (b : Buffers) → Holds rows s b → {x : Label} {e : Effect} → Active (intentAt P sheet s) x e
+    pub held-upward : (b : Buffers) → HoldsState rows s b → {x : Label} {e : Effect} → Active (intentAt P sheet s) x e
         → settle (whole P) false (changeStates (e .changes) (b .states)) ≡ changesUp P (e .changes) (b .states)
     held-upward b h A =
         let z = states-are rows s b h in

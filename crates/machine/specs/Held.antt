@@ -6,11 +6,12 @@ use mathlib.Core.List.{List, [], _∷_, _++_}
 use Prim.Native.Nat.{ℕ, suc, _+_, _<_, _≤_}
 use lib.IntN.{ℤ, pos}
 use lib.ListN.{length, getD, set, replicate, take}
-use Rattle.meaning.specs.Limits.{maxRows, maxCells, maxPorts, maxCapacity}
+use Rattle.meaning.specs.Limits.{maxRows, maxCells, maxHostChannels, maxCapacity}
 use Rattle.meaning.specs.Rows.{rowCount}
-use Rattle.meaning.specs.Declarations.{totalCells, totalPorts}
+use Rattle.meaning.specs.Declarations.{totalCells, hostChannels}
+use Rattle.meaning.specs.Values.{Message}
 use Rattle.meaning.specs.Settle.{settle}
-use Rattle.meaning.specs.State.{Message, Store, State, program, whole, Write, writeCell, writePlace, writeOutput, write, StateChange, Effect}
+use Rattle.meaning.specs.State.{Store, State, program, whole, Write, writeCell, writePlace, writeOutput, write, StateChange, Effect}
 use Rattle.meaning.specs.Buffers.{Buffers, mark, numberIn, capacities, encode}
 
 -- arrays of zeros
@@ -20,14 +21,14 @@ blank =
       cells = replicate maxCells (pos 0);
       marks = replicate maxCells 0;
       states = replicate maxRows 0;
-      places = replicate maxPorts 0;
+      places = replicate maxHostChannels 0;
       numbers = replicate maxCapacity (pos 0);
-      counts = replicate maxPorts 0;
+      counts = replicate maxHostChannels 0;
     }
 
 -- the arrays hold a state
-abbrev pub Holds : List ℤ → State → Buffers → Type 0
-Holds rows s b = b ≡ encode rows s blank
+abbrev pub HoldsState : List ℤ → State → Buffers → Type 0
+HoldsState rows s b = b ≡ encode rows s blank
 
 -- the sum of a list
 abbrev pub sumOf : List ℕ → ℕ
@@ -103,9 +104,9 @@ putEffect rows e b = putSettled rows false (putChanges (e .changes) (putWrites r
 -- a change of data is within what the table declares: a cell, a port, one more message where a channel has room
 abbrev pub InRange : List ℤ → Store → Write → Type 0
 InRange rows x (writeCell a m) = a < totalCells rows
-InRange rows x (writePlace p k) = p < totalPorts 1 rows
+InRange rows x (writePlace p k) = p < hostChannels 1 rows
 InRange rows x (writeOutput p l) =
-    (m : Message) × (p < totalPorts 2 rows) × (l ≡ getD (x .outputs) p [] ++ (m ∷ [])) × (length (getD (x .outputs) p []) < getD (capacities rows) p 0)
+    (m : Message) × (p < hostChannels 2 rows) × (l ≡ getD (x .outputs) p [] ++ (m ∷ [])) × (length (getD (x .outputs) p []) < getD (capacities rows) p 0)
 
 abbrev pub AllInRange : List ℤ → Store → List Write → Type 0
 AllInRange rows x [] = Unit {0}
@@ -119,14 +120,14 @@ ChangesBelow n (c ∷ cs) = (c .at < n) × ChangesBelow n cs
 -- a state has as many cells, places, output lists and row states as its table says
 pub record Lengths (rows : List ℤ) (s : State) : Type 0 where
   pub cells : length (s .store .cells) ≡ totalCells rows
-  pub places : length (s .store .places) ≡ totalPorts 1 rows
-  pub outputs : length (s .store .outputs) ≡ totalPorts 2 rows
+  pub places : length (s .store .places) ≡ hostChannels 1 rows
+  pub outputs : length (s .store .outputs) ≡ hostChannels 2 rows
   pub states : length (s .states) ≡ rowCount rows
 
 -- the arrays are long enough for them
 pub record Room (rows : List ℤ) : Type 0 where
   pub cells : totalCells rows ≤ maxCells
-  pub places : totalPorts 1 rows ≤ maxPorts
-  pub outputs : totalPorts 2 rows ≤ maxPorts
+  pub places : hostChannels 1 rows ≤ maxHostChannels
+  pub outputs : hostChannels 2 rows ≤ maxHostChannels
   pub states : rowCount rows ≤ maxRows
   pub numbers : sumOf (capacities rows) ≤ maxCapacity

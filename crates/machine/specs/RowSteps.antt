@@ -1,19 +1,21 @@
 -- Ready steps row by row: the step that a row orders, if there is one, told by what the rows would do. One pass over the rows finds them in order.
 use mathlib.Core.Bool.{Bool, true, false, _&&_}
 use mathlib.Core.Option.{Option, none, some, Option·map}
-use mathlib.Core.List.{List, [], _∷_, map}
+use mathlib.Core.List.{List, [], _∷_, map, flatten}
 use Prim.Native.Nat.{ℕ}
 use lib.ListN.{length, getD}
 use lib.Dec.{eqb}
 use Rattle.meaning.specs.declared.Node.{Node}
-use Rattle.meaning.specs.declared.Node.the-variants.{Literal, Element, Monadic, Dyadic, Stop, Skip, Assignment, Input, Output, Seq, Par, If, While, Alt, Member, Choice, Option as Alternative, Guard, Other}
-use Rattle.meaning.specs.Basics.{isSome, concat, among, lowest, allBelow}
-use Rattle.meaning.specs.Tree.{actionOf, membersIn}
-use Rattle.meaning.specs.Usage.{range}
+use Rattle.meaning.specs.declared.Node.the-variants.{Literal, Element, Monadic, Dyadic, Stop, Skip, Assignment, Input, Output, Seq, Par, If, While, Alt, Member, Choice, OptionRow, Guard, Other}
+use Rattle.meaning.specs.Basics.{isSome, among, lowest, allBelow}
+use Rattle.meaning.specs.Tree.{actionOf, processesIn}
+use Rattle.meaning.specs.Usage.{numbersFrom}
 use Rattle.meaning.specs.Settle.{statesOf, allOf}
 use Rattle.meaning.specs.State.{State, Program, processAt}
-use Rattle.meaning.specs.Intent.{Sheet, Offer, openOffer, inputOffer, Intent, waits, moves, inputsFrom, outputsTo, selects}
-use Rattle.meaning.specs.Ready.{Label, own, pass, take, takeFrom, intentAt}
+use Rattle.meaning.specs.Labels.{Label, own, pass, takeOption, takeWithOutput}
+use Rattle.meaning.specs.Readings.{Sheet}
+use Rattle.meaning.specs.Intent.{Offer, openOffer, inputOffer, Intent, waits, moves, inputsFrom, outputsTo, selects}
+use Rattle.meaning.specs.Ready.{intentAt}
 use Rattle.agreement.specs.RowsOfSteps.{optionRows, offerAt}
 
 -- whether a row that would do so outputs to element e
@@ -42,7 +44,7 @@ isOption (While a b) = false
 isOption (Alt a) = false
 isOption (Member a b) = false
 isOption (Choice a b c) = false
-isOption (Alternative a b c) = true
+isOption (OptionRow a b c) = true
 isOption (Guard a b) = false
 isOption Other = false
 
@@ -61,8 +63,8 @@ ownStepBy waiting j (selects os) = none
 -- the step of an ALT r and its option j, by what the option offers
 abbrev pub offerStep : (ℕ → Option ℕ) → ℕ → ℕ → Option Offer → Option Label
 offerStep waiting r j none = none
-offerStep waiting r j (some (openOffer i q ws)) = some (take r j)
-offerStep waiting r j (some (inputOffer i q e a)) = Option·map (takeFrom r j) (waiting e)
+offerStep waiting r j (some (openOffer i q ws)) = some (takeOption r j)
+offerStep waiting r j (some (inputOffer i q e a)) = Option·map (takeWithOutput r j) (waiting e)
 
 abbrev pub optionStepBy : (ℕ → Option ℕ) → ℕ → ℕ → Intent → Option Label
 optionStepBy waiting r j waits = none
@@ -72,9 +74,9 @@ optionStepBy waiting r j (outputsTo e v) = none
 optionStepBy waiting r j (selects os) = offerStep waiting r j (offerAt j os)
 
 -- the first step, else the second
-abbrev pub orElse : Option Label → Option Label → Option Label
-orElse none y = y
-orElse (some x) y = some x
+abbrev pub firstStep : Option Label → Option Label → Option Label
+firstStep none y = y
+firstStep (some x) y = some x
 
 -- the list of none or one
 abbrev pub listOf : Option Label → List Label
@@ -100,16 +102,16 @@ module _ (P : Program) (sheet : Sheet) (s : State) where
 
   -- the step that row j orders
   unfoldable pub stepAt : ℕ → Option Label
-  stepAt j = orElse (ownStep j) (optionStep j)
+  stepAt j = firstStep (ownStep j) (optionStep j)
 
   -- the steps of all rows, in order
   unfoldable pub stepsByRow : List Label
-  stepsByRow = concat (map (λ j. listOf (stepAt j)) (range 0 (length (s .states))))
+  stepsByRow = flatten (map (λ j. listOf (stepAt j)) (numbersFrom 0 (length (s .states))))
 
   -- the rows below n that order a step, in order
   unfoldable pub stepRows : ℕ → List ℕ
   stepRows n = allBelow (λ j. isSome (stepAt j)) n
 
 -- whether row r is running, and each of its direct members is idle
-unfoldable pub liveByMembers : Program → ℕ → List ℕ → Bool
-liveByMembers P r states = eqb (getD states r 0) 1 && allOf (λ n. eqb n 0) (statesOf (membersIn (processAt P r)) states)
+unfoldable pub liveByProcesses : Program → ℕ → List ℕ → Bool
+liveByProcesses P r states = eqb (getD states r 0) 1 && allOf (λ n. eqb n 0) (statesOf (processesIn (processAt P r)) states)

@@ -9,13 +9,14 @@ use native.Mathlib.Omega.{arith}
 use lib.IntN.{ℤ}
 use Rattle.meaning.specs.Limits.{maxBudget}
 use Rattle.meaning.specs.declared.Verdict.the-variants.{Accepted, Rejected}
-use Rattle.meaning.specs.Rows.{rowCount, declarations}
+use Rattle.meaning.specs.Rows.{rowCount}
 use Rattle.meaning.specs.TableBytes.{bytesFault, rowsOf, numbersFault}
 use Rattle.meaning.specs.Usage.{usageFault}
 use Rattle.meaning.specs.Sheet.{sheetFault, readings}
 use Rattle.meaning.specs.Buffers.{Buffers}
 use Rattle.meaning.specs.Run.{run}
 use Rattle.meaning.specs.Refusals.{Refusal, Stage, either, firstFault}
+use Rattle.meaning.specs.Declarations.{declarations}
 use Rattle.meaning.specs.Stages.{Limits, limits, Call, onTable, bufferFault, budgetFault, lentStages, rowStages, tableStages, callStages}
 use Rattle.meaning.specs.Answers.{tableFault, check, checkBytes, verdictOf, Result, ran, unless, runOf, resultOf, Task, onRows, onBytes, result, resultOfBytes, replyOf, reply, replyToBytes}
 use Rattle.meaning.specs.PrintedForms.{Each, each-none, each-more}

@@ -10,8 +10,9 @@ use lib.IntN.{ℤ}
 use lib.ListN.{length, getD}
 use Rattle.meaning.specs.Limits.{maxRows, maxTable}
 use Rattle.meaning.specs.Basics.{ifElse, isSome, lowest}
+use Rattle.meaning.specs.Refusals.{Refusal}
 use Rattle.meaning.specs.Lines.{lines}
-use Rattle.meaning.specs.TableBytes.{Refusal, header, rowOf, overlong, malformed, oneTooMany, refusalAt, bytesFault}
+use Rattle.meaning.specs.TableBytes.{header, readRow, overlong, malformed, oneTooMany, refusalAt, bytesFault}
 use Rattle.meaning.specs.ByteClaims.{LineIs, LowestLine, IsRowLine, NotAsAbove, MoreRows, FaultyLine, RefusedBytes, by-form, by-rows, BytesExactly}
 use Rattle.meaning.proofs.Decides.{Decides, holding, failing, decides-iff, decides-and, decides-or, decides-not, decides-lt, decides-le, decides-eq}
 use Rattle.meaning.proofs.LineIsLaws.{line-at}
@@ -20,18 +21,18 @@ use Rattle.meaning.proofs.NoFault.{none-mapped}
 use Rattle.meaning.proofs.RowLaws.{row-reads, row-form}
 
 -- a line is read as a row exactly if it is one, printed
-decides-row : (l : List ℕ) → Decides (IsRowLine l) (isSome (rowOf l))
-decides-row l = go (rowOf l) refl
+decides-row : (l : List ℕ) → Decides (IsRowLine l) (isSome (readRow l))
+decides-row l = go (readRow l) refl
   where
-    go : (o : Option (List ℤ)) → rowOf l ≡ o → Decides (IsRowLine l) (isSome o)
-    go none e = failing (λ (row, r, q). Option·none-ne-some row (sym e ∙ ap rowOf q ∙ row-reads row r))
+    go : (o : Option (List ℤ)) → readRow l ≡ o → Decides (IsRowLine l) (isSome o)
+    go none e = failing (λ (row, r, q). Option·none-ne-some row (sym e ∙ ap readRow q ∙ row-reads row r))
     go (some row) e = let (q, r) = row-form l row e in holding (row, r, q)
 
 module _ (table : List ℕ) where
   decides-form : (n : ℕ) → Decides (NotAsAbove table n) (malformed (overlong table) (lines table) n)
   decides-form zero = decides-lt maxTable (length table)
   decides-form (suc zero) = decides-first table header (λ e. let z : _≡_ {A = ℕ} 11 0 = ap (λ (l : List ℕ). length l) e in omega arith)
-  decides-form (suc (suc i)) = decides-further table (λ l. ¬ IsRowLine l) (λ l. not (isSome (rowOf l))) (λ l. decides-not (decides-row l)) (suc i)
+  decides-form (suc (suc i)) = decides-further table (λ l. ¬ IsRowLine l) (λ l. not (isSome (readRow l))) (λ l. decides-not (decides-row l)) (suc i)
 
   decides-rows : (n : ℕ) → Decides (MoreRows table n) (oneTooMany (lines table) n)
   decides-rows n = decides-iff to from (decides-and (decides-eq n (maxRows + 2)) (decides-le (maxRows + 2) (length (lines table))))

@@ -1,17 +1,19 @@
 -- One name that opens every definition that a run or a usage fault computes with: `unfolding computes`.
-use Rattle.meaning.specs.Basics.{any}
-use Rattle.meaning.specs.Declarations.{sumBelow, cellsAt, elementsAt, portsAt, capacityAt, variableAt, channelAt, sourceAt, sinkAt, totalCells, totalElements, totalPorts}
-use Rattle.meaning.specs.Ready.{live, intentAt, runningRows, ready, after}
-use Rattle.meaning.specs.Rows.{leading, declarations, root, nodeAt, lastRows, atRow}
-use Rattle.meaning.specs.Run.{outcomeAtRest, chosenStep, goFrom, go, run}
-use Rattle.meaning.specs.Settle.{settle, settleRunning, settleMembers, start, settled}
+use Rattle.meaning.specs.Basics.{anyPasses}
+use Rattle.meaning.specs.Declarations.{leading, declarations, root, sumBelow, cellsAt, elementsAt, hostChannelsAt, capacityAt, variableAt, channelAt, sourceAt, sinkAt, totalCells, hostChannels}
+use Rattle.meaning.specs.Ready.{isLive, intentAt, runningRows, ready, after}
+use Rattle.meaning.specs.Nodes.{nodeAt}
+use Rattle.meaning.specs.HigherRows.{lastRows, atRow}
+use Rattle.meaning.specs.Run.{goFrom, go, run}
+use Rattle.meaning.specs.Settle.{settle, settleRunning, settleEach, start, settled}
 use Rattle.meaning.specs.State.{program, processAt, whole}
-use Rattle.meaning.specs.Tree.{parts, partAt, partFrom}
-use Rattle.meaning.specs.Usage.{range, countsFor, standsIn, cellClash, inputClash, outputClash, comparisons, clashes, firstClash, usageFault, gather, gatherAll}
+use Rattle.meaning.specs.Tree.{contents, contentAt}
+use Rattle.meaning.specs.Usage.{numbersFrom, countsFor, standsIn, cellClash, inputClash, outputClash, comparisons, clashes, firstClash, usageFault, gather, gatherAll}
 use Rattle.meaning.specs.Values.{fitted, wrapped, quotient, remainder, operators, operate, monadicOf, decides, dyadicOf, inArray, value, index}
-use Rattle.meaning.specs.Intent.{reception, intent}
+use Rattle.meaning.specs.Order.{outcomeAtRest, chosenStep}
+use Rattle.meaning.specs.Intent.{inputResult, intent}
 
 -- `unfolding computes` in an example that holds by computation
 unfoldable pub computes : Unit {0}
-unfolding any sumBelow cellsAt elementsAt portsAt capacityAt variableAt channelAt sourceAt sinkAt totalCells totalElements totalPorts live intentAt runningRows ready after leading declarations root nodeAt lastRows atRow outcomeAtRest chosenStep goFrom go run settle settleRunning settleMembers program processAt whole start settled parts partAt partFrom range countsFor standsIn cellClash inputClash outputClash comparisons clashes firstClash usageFault gather gatherAll fitted wrapped quotient remainder operators operate monadicOf decides dyadicOf inArray value index reception intent
+unfolding anyPasses sumBelow cellsAt elementsAt hostChannelsAt capacityAt variableAt channelAt sourceAt sinkAt totalCells hostChannels isLive intentAt runningRows ready after leading declarations root nodeAt lastRows atRow outcomeAtRest chosenStep goFrom go run settle settleRunning settleEach program processAt whole start settled contents contentAt numbersFrom countsFor standsIn cellClash inputClash outputClash comparisons clashes firstClash usageFault gather gatherAll fitted wrapped quotient remainder operators operate monadicOf decides dyadicOf inArray value index inputResult intent
 computes = tt

@@ -10,7 +10,7 @@ use lib.IntN.{ℤ, pos, negsuc, pos-ne-negsuc}
 use lib.Signed.{leZ, _≤ℤ_, leZ-yes}
 use lib.Dec.{T, ltb, leb, eqb}
 use borrow.Author.Tests.{ltb-true, ltb-false, leb-true, leb-false, eqb-true, eqb-false}
-use Rattle.meaning.specs.Basics.{eqZ, inside, any, lowest, Lowest}
+use Rattle.meaning.specs.Basics.{eqZ, inside, anyPasses, lowest, Lowest}
 use Rattle.meaning.proofs.LowestLaws.{lowest-is}
 
 -- a test is true where a statement holds, and false where it does not
@@ -87,8 +87,8 @@ pub decides-inside : (lo hi z : ℤ) → Decides ((lo ≤ℤ z) × (z ≤ℤ hi)
 decides-inside lo hi z = decides-and (decides-leZ lo z) (decides-leZ z hi)
 
 -- some element of a list
-pub decides-any : {A : Type 0} (P : A → Type 0) (p : A → Bool) → ((x : A) → Decides (P x) (p x)) → (l : List A) → Decides ((x : A) × List·Memᴰ x l × P x) (any p l)
-unfolding any
+pub decides-any : {A : Type 0} (P : A → Type 0) (p : A → Bool) → ((x : A) → Decides (P x) (p x)) → (l : List A) → Decides ((x : A) × List·Memᴰ x l × P x) (anyPasses p l)
+unfolding anyPasses
 decides-any P p f [] = failing (λ h. List·Memᴰ·not-nil (h .1))
 decides-any {A} P p f (x ∷ l) = decides-iff to from (decides-or (f x) (decides-any P p f l))
   where

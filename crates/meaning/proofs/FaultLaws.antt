@@ -7,15 +7,15 @@ use Prim.Native.Nat.{ℕ, suc, _≤_, _<_}
 use native.Mathlib.Omega.{arith}
 use lib.IntN.{ℤ, pos, negsuc, pos-ne-negsuc}
 use lib.Dec.{eqb}
-use Rattle.meaning.specs.Limits.{maxCells, maxElements, maxPorts, maxCapacity, minNumber, maxNumber}
-use Rattle.meaning.specs.Rows.{rowCount, fieldAt, naturalAt, kindAt, declarations}
-use Rattle.meaning.specs.Declarations.{sumBelow, hasRole, cellsAt, elementsAt, portsAt, capacityAt}
-use Rattle.meaning.specs.Basics.{any, lowest}
+use Rattle.meaning.specs.Limits.{maxCells, maxElements, maxHostChannels, maxCapacity, minNumber, maxNumber}
+use Rattle.meaning.specs.Rows.{rowCount, fieldAt, naturalAt, kindAt}
+use Rattle.meaning.specs.Declarations.{declarations, sumBelow, hasRole, cellsAt, elementsAt, hostChannelsAt, capacityAt}
+use Rattle.meaning.specs.Basics.{anyPasses, lowest}
 use Rattle.meaning.proofs.Decides.{Decides, holding, failing, decides-iff, decides-and, decides-or, decides-lt, decides-le, decides-eq, decides-eqZ, decides-inside, decides-any, pos-injective, Faults, right, wrong, faults-not, faults-or, faults-if, faults-iff, faults-over, lowest-wrong}
-use Rattle.meaning.specs.Kinds.{Field, unused, value, within, elements, capacity, variable, channel, reference, link, Shape, shapeOf}
-use Rattle.meaning.specs.Verdict.{names, holds, fits, misformed, formFault, overLimit, limitFault}
+use Rattle.meaning.specs.Kinds.{Field, unused, literalValue, within, elements, capacity, variable, channel, reference, link, Shape, shapeOf}
+use Rattle.meaning.specs.Verdict.{names, mayHold, fits, formFaultAt, formFault, overLimit, limitFault}
 use Rattle.meaning.specs.References.{IsOf}
-use Rattle.meaning.specs.Faults.{Holds, WellFormed, WithinLimits}
+use Rattle.meaning.specs.Faults.{MayHold, WellFormed, WithinLimits}
 use Rattle.meaning.specs.StageClaims.{FormStage, LimitStage}
 
 -- 6 ---------------------------------------------------------------------------------------------------------------------------
@@ -27,8 +27,8 @@ within-limits rows r =
     (faults-or (faults-or (faults-or (faults-or
     (faults-over maxCells (sumBelow (cellsAt rows) (suc r)))
     (faults-over maxElements (sumBelow (elementsAt rows) (suc r))))
-    (faults-over maxPorts (sumBelow (portsAt 1 rows) (suc r))))
-    (faults-over maxPorts (sumBelow (portsAt 2 rows) (suc r))))
+    (faults-over maxHostChannels (sumBelow (hostChannelsAt 1 rows) (suc r))))
+    (faults-over maxHostChannels (sumBelow (hostChannelsAt 2 rows) (suc r))))
     (faults-over maxCapacity (sumBelow (capacityAt rows) (suc r))))
 
 pub limit-stage : LimitStage
@@ -48,10 +48,10 @@ decides-name d P p f (pos r) =
 decides-name d P p f (negsuc r) = failing (λ h. pos-ne-negsuc (h .0) r (sym (h .1 .0)))
 
 -- what a field may hold
-decides-holds : (rows : List ℤ) (r : ℕ) (f : Field) (z : ℤ) → Decides (Holds rows r f z) (holds rows (declarations rows) r f z)
-unfolding Holds holds
+decides-holds : (rows : List ℤ) (r : ℕ) (f : Field) (z : ℤ) → Decides (MayHold rows r f z) (mayHold rows (declarations rows) r f z)
+unfolding MayHold mayHold
 decides-holds rows r unused z = decides-eqZ z (pos 0)
-decides-holds rows r value z = decides-inside minNumber maxNumber z
+decides-holds rows r literalValue z = decides-inside minNumber maxNumber z
 decides-holds rows r (within lo hi) z = decides-inside lo hi z
 decides-holds rows r elements z = decides-and (decides-inside (pos 1) (pos 64) z) (decides-or (decides-eqZ (fieldAt rows r 2) (pos 0)) (decides-eqZ z (pos 1)))
 decides-holds rows r capacity z = decides-and (decides-inside (pos 0) (pos 256) z) (decides-or (decides-eqZ (fieldAt rows r 2) (pos 2)) (decides-eqZ z (pos 0)))
@@ -60,7 +60,7 @@ decides-holds rows r (channel roles) z =
     decides-iff
     (λ h. (h .0, (h .1 .0, h .1 .1, h .1 .2 .2 .0 .1), (h .1 .2 .0, h .1 .2 .1, h .1 .2 .2 .1)))
     (λ h. (h .0, (h .1 .0, h .1 .1, (h .2 .0, h .2 .1, ((h .1 .1, h .1 .2), h .2 .2)))))
-    (decides-name (declarations rows) (λ q. (role : ℕ) × List·Memᴰ role roles × Of q role) (λ q. any (λ role. hasRole role rows q) roles) (λ q. decides-any (Of q) (λ role. hasRole role rows q) (of q) roles) z)
+    (decides-name (declarations rows) (λ q. (role : ℕ) × List·Memᴰ role roles × Of q role) (λ q. anyPasses (λ role. hasRole role rows q) roles) (λ q. decides-any (Of q) (λ role. hasRole role rows q) (of q) roles) z)
   where
     Of : ℕ → ℕ → Type 0
     Of q role = ((q < declarations rows) × (kindAt rows q ≡ 2)) × (naturalAt rows q 2 ≡ role)
@@ -72,16 +72,16 @@ decides-holds rows r (link kinds) z = holding tt
 
 -- a row has the shape of its kind
 decides-fits : (rows : List ℤ) (r : ℕ) (o : Option Shape) → shapeOf (kindAt rows r) ≡ o
-    → Decides ((s : Shape) × IsOf rows r s × Holds rows r (s .a) (fieldAt rows r 1) × Holds rows r (s .b) (fieldAt rows r 2) × Holds rows r (s .c) (fieldAt rows r 3)) (fits rows (declarations rows) r o)
+    → Decides ((s : Shape) × IsOf rows r s × MayHold rows r (s .a) (fieldAt rows r 1) × MayHold rows r (s .b) (fieldAt rows r 2) × MayHold rows r (s .c) (fieldAt rows r 3)) (fits rows (declarations rows) r o)
 decides-fits rows r none e = failing (λ h. Option·none-ne-some (h .0) (sym e ∙ h .1))
 decides-fits rows r (some s) e =
     decides-iff
     (λ h. (s, e, h .0 .0, h .0 .1, h .1))
-    (λ h. subst (λ (t : Shape). (Holds rows r (t .a) (fieldAt rows r 1) × Holds rows r (t .b) (fieldAt rows r 2)) × Holds rows r (t .c) (fieldAt rows r 3))
+    (λ h. subst (λ (t : Shape). (MayHold rows r (t .a) (fieldAt rows r 1) × MayHold rows r (t .b) (fieldAt rows r 2)) × MayHold rows r (t .c) (fieldAt rows r 3))
     (Option·some-injective (h .0) s (sym (h .1) ∙ e)) ((h .2, h .3), h .4))
     (decides-and (decides-and (decides-holds rows r (s .a) (fieldAt rows r 1)) (decides-holds rows r (s .b) (fieldAt rows r 2))) (decides-holds rows r (s .c) (fieldAt rows r 3)))
 
-pub well-formed : (rows : List ℤ) (r : ℕ) → Faults (WellFormed rows r) (misformed rows (declarations rows) r)
+pub well-formed : (rows : List ℤ) (r : ℕ) → Faults (WellFormed rows r) (formFaultAt rows (declarations rows) r)
 unfolding WellFormed
 well-formed rows r =
     faults-or
@@ -95,4 +95,4 @@ well-formed rows r =
 pub form-stage : FormStage
 unfolding FormStage formFault
 form-stage rows =
-    (lowest (misformed rows (declarations rows)) (rowCount rows), refl, lowest-wrong (WellFormed rows) (misformed rows (declarations rows)) (well-formed rows) (rowCount rows))
+    (lowest (formFaultAt rows (declarations rows)) (rowCount rows), refl, lowest-wrong (WellFormed rows) (formFaultAt rows (declarations rows)) (well-formed rows) (rowCount rows))

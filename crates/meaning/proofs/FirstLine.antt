@@ -5,8 +5,8 @@ use mathlib.Core.List.{List, [], _∷_}
 use Prim.Native.Nat.{ℕ, suc}
 use lib.ListN.{take, drop}
 use lib.Dec.{eqb}
-use Rattle.meaning.specs.Texts.{lineFeed}
 use Rattle.meaning.specs.Basics.{ifElse}
+use Rattle.meaning.specs.Texts.{lineFeed}
 use Rattle.meaning.specs.Lines.{onto, lines, lineSize}
 
 -- the first line of some bytes, and the lines of what is after it

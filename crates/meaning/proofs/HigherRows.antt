@@ -5,8 +5,9 @@ use Prim.Native.Nat.{ℕ, zero, suc, _+_, _-_, _≤_, _<_}
 use native.Mathlib.Omega.{arith}
 use lib.ListN.{length, getD, List·getD-eq-default}
 use lib.Dec.{ltb}
+use Rattle.meaning.specs.Basics.{ifElse}
 use borrow.Author.Tests.{ltb-true}
-use Rattle.meaning.specs.Rows.{ifElse, higher, lastRows, atRow}
+use Rattle.meaning.specs.HigherRows.{higher, lastRows, atRow}
 
 module _ {E : Type 0} (d : E) (step : ℕ → (ℕ → E) → E) (n : ℕ) where
   -- k rows are k entries

@@ -5,8 +5,8 @@ use mathlib.Core.List.{List, [], _∷_}
 use mathlib.Core.Option.{some, Option·none-ne-some, Option·some-injective}
 use Prim.Native.Nat.{ℕ}
 use lib.Dec.{eqb}
-use borrow.Author.Tests.{eqb-true}
 use Rattle.meaning.specs.Basics.{ifElse}
+use borrow.Author.Tests.{eqb-true}
 use Rattle.meaning.specs.Kinds.{Shape, shapes, shapeIn, shapeOf}
 
 -- of each shape of a list

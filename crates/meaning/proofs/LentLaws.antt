@@ -4,31 +4,30 @@ use mathlib.Core.Option.{some, Option·none-ne-some, Option·some-injective}
 use mathlib.Core.List.{List, [], _∷_, _++_}
 use Prim.Native.Nat.{ℕ, zero, suc, _+_, _<_, _≤_}
 use native.Mathlib.Omega.{arith}
-use lib.ListN.{length, getD, take, drop, replicate, length-append, length-drop, length-replicate, take-append-drop, List·getD-append}
+use lib.ListN.{length, getD, take, drop, replicate, length-append, length-drop, length-replicate, take-append-drop, List·getD-append, getElem?}
 use lib.Seq.{length-take-le, take-append-le, drop-append-le, take-take, take-append-seam, getD-take}
-use Rattle.meaning.specs.Intent.{entry}
 use Rattle.meaning.specs.Buffers.{sized, lent}
 
 module _ {A : Type 0} where
   -- an entry, by its position
-  pub entry-at : (l : List A) (i : ℕ) (d : A) → i < length l → entry l i ≡ some (getD l i d)
+  pub entry-at : (l : List A) (i : ℕ) (d : A) → i < length l → getElem? l i ≡ some (getD l i d)
   entry-at [] i d h = absurd (omega arith)
   entry-at (x ∷ l) zero d h = refl
   entry-at (x ∷ l) (suc i) d h = entry-at l i d (omega arith)
 
-  pub entry-is : (l : List A) (i : ℕ) (d v : A) → entry l i ≡ some v → (i < length l) × (getD l i d ≡ v)
+  pub entry-is : (l : List A) (i : ℕ) (d v : A) → getElem? l i ≡ some v → (i < length l) × (getD l i d ≡ v)
   entry-is [] i d v e = absurd (Option·none-ne-some v e)
   entry-is (x ∷ l) zero d v e = (omega arith, Option·some-injective x v e)
   entry-is (x ∷ l) (suc i) d v e = let (h, g) = entry-is l i d v e in (omega arith, g)
 
-  entry-append : (l m : List A) (i : ℕ) → entry (l ++ m) (length l + i) ≡ entry m i
-  entry-append [] m i = ap (entry m) (omega arith)
-  entry-append (x ∷ l) m i = let e : suc (length l) + i ≡ suc (length l + i) = omega arith in ap (entry (x ∷ l ++ m)) e ∙ entry-append l m i
+  entry-append : (l m : List A) (i : ℕ) → getElem? (l ++ m) (length l + i) ≡ getElem? m i
+  entry-append [] m i = ap (getElem? m) (omega arith)
+  entry-append (x ∷ l) m i = let e : suc (length l) + i ≡ suc (length l + i) = omega arith in ap (getElem? (x ∷ l ++ m)) e ∙ entry-append l m i
 
-  entry-drop : (n i : ℕ) (l : List A) → entry (drop n l) i ≡ entry l (n + i)
-  entry-drop zero i l = ap (entry l) (omega arith)
+  entry-drop : (n i : ℕ) (l : List A) → getElem? (drop n l) i ≡ getElem? l (n + i)
+  entry-drop zero i l = ap (getElem? l) (omega arith)
   entry-drop (suc n) i [] = refl
-  entry-drop (suc n) i (x ∷ l) = let e : suc (n + i) ≡ suc n + i = omega arith in entry-drop n i l ∙ ap (entry (x ∷ l)) e
+  entry-drop (suc n) i (x ∷ l) = let e : suc (n + i) ≡ suc n + i = omega arith in entry-drop n i l ∙ ap (getElem? (x ∷ l)) e
 
 module _ {A : Type 0} (d : A) where
   -- filled up, a list has its own elements
@@ -59,16 +58,16 @@ module _ {A : Type 0} (d : A) where
   lent-at n i xs old h = List·getD-append (sized n d xs) (drop n old) d i (omega (arith, sized-length n xs)) ∙ sized-at n i xs h
 
   -- below the limit: the list's element, and d where the list has none
-  pub lent-holds : (n i : ℕ) (xs old : List A) → i < n → entry (lent n d xs old) i ≡ some (getD xs i d)
+  pub lent-holds : (n i : ℕ) (xs old : List A) → i < n → getElem? (lent n d xs old) i ≡ some (getD xs i d)
   unfolding lent
   lent-holds n i xs old h =
       entry-at (lent n d xs old) i d (omega (arith, sized-length n xs, length-append (sized n d xs) (drop n old))) ∙ ap some (lent-at n i xs old h)
 
   -- past the limit: what was there
-  pub lent-past : (n i : ℕ) (xs old : List A) → entry (lent n d xs old) (n + i) ≡ entry old (n + i)
+  pub lent-past : (n i : ℕ) (xs old : List A) → getElem? (lent n d xs old) (n + i) ≡ getElem? old (n + i)
   unfolding lent
   lent-past n i xs old =
-      ap (λ (k : ℕ). entry (sized n d xs ++ drop n old) (k + i)) (sym (sized-length n xs)) ∙ entry-append (sized n d xs) (drop n old) i ∙ entry-drop n i old
+      ap (λ (k : ℕ). getElem? (sized n d xs ++ drop n old) (k + i)) (sym (sized-length n xs)) ∙ entry-append (sized n d xs) (drop n old) i ∙ entry-drop n i old
 
   pub lent-length : (n : ℕ) (xs old : List A) → n ≤ length old → length (lent n d xs old) ≡ length old
   unfolding lent

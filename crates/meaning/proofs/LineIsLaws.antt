@@ -6,12 +6,12 @@ use Prim.Native.Nat.{ℕ, zero, suc, _<_}
 use native.Mathlib.Omega.{arith}
 use native.Mathlib.Decide.{ℕ-discrete}
 use lib.ListN.{length, getD}
+use Rattle.meaning.specs.Basics.{ifElse}
 use borrow.Author.Tests.{ne-eqb}
 use Rattle.meaning.specs.Texts.{lineFeed}
-use Rattle.meaning.specs.Basics.{ifElse}
 use Rattle.meaning.specs.Lines.{onto, lines}
 use Rattle.meaning.specs.PrintedForms.{Each, each-none, each-more}
-use Rattle.meaning.specs.ByteClaims.{NoFeed, LineIs, ended, unended, later}
+use Rattle.meaning.specs.ByteClaims.{NoFeed, LineIs, line-ended, line-unended, line-later}
 use Rattle.meaning.proofs.LineLaws.{Plain, text-whole, whole-line}
 
 no-feed : {t : List ℕ} → NoFeed t → Each Plain t
@@ -50,10 +50,10 @@ found-ended bs t more h e = ap lines e ∙ lines-ended t more h
 
 first-line : (bs : List ℕ) → Cut bs → 0 < length (lines bs) → LineIs bs 1 (getD (lines bs) 0 [])
 unfolding lines
-first-line bs (at-feed t more h e) k = subst (λ (ls : List (List ℕ)). LineIs bs 1 (getD ls 0 [])) (sym (found-ended bs t more h e)) (ended t more h e)
+first-line bs (at-feed t more h e) k = subst (λ (ls : List (List ℕ)). LineIs bs 1 (getD ls 0 [])) (sym (found-ended bs t more h e)) (line-ended t more h e)
 first-line [] (without h) k = absurd (omega arith)
 first-line (b ∷ bs) (without h) k =
-    subst (λ (ls : List (List ℕ)). LineIs (b ∷ bs) 1 (getD ls 0 [])) (sym (lines-unended b bs h)) (unended h (λ e. let z : suc (length bs) ≡ 0 = ap length e in omega arith))
+    subst (λ (ls : List (List ℕ)). LineIs (b ∷ bs) 1 (getD ls 0 [])) (sym (lines-unended b bs h)) (line-unended h (λ e. let z : suc (length bs) ≡ 0 = ap length e in omega arith))
 
 later-line : (i : ℕ) (bs : List ℕ) → Cut bs → suc i < length (lines bs) → ((more : List ℕ) → i < length (lines more) → LineIs more (suc i) (getD (lines more) i []))
     → LineIs bs (suc (suc i)) (getD (lines bs) (suc i) [])
@@ -61,7 +61,7 @@ unfolding lines
 later-line i bs (at-feed t more h e) k f =
     let w = found-ended bs t more h e in
     let few : i < length (lines more) = omega (arith, k, ap (λ (ls : List (List ℕ)). length ls) w) in
-    subst (λ (ls : List (List ℕ)). LineIs bs (suc (suc i)) (getD ls (suc i) [])) (sym w) (later t more h e (f more few))
+    subst (λ (ls : List (List ℕ)). LineIs bs (suc (suc i)) (getD ls (suc i) [])) (sym w) (line-later t more h e (f more few))
 later-line i [] (without h) k f = absurd (omega arith)
 later-line i (b ∷ bs) (without h) k f = absurd (omega (arith, k, ap (λ (ls : List (List ℕ)). length ls) (lines-unended b bs h)))
 
@@ -72,14 +72,14 @@ line-at (suc i) bs h = later-line i bs (cut bs) h (λ more. line-at i more)
 
 -- a line is one of those found
 pub line-found : (bs : List ℕ) (n : ℕ) (l : List ℕ) → LineIs bs n l → (i : ℕ) × (n ≡ suc i) × (i < length (lines bs)) × (getD (lines bs) i [] ≡ l)
-line-found bs n l (ended t more h e) =
+line-found bs n l (line-ended t more h e) =
     let w = found-ended bs t more h e in
     (0, refl, subst (λ (ls : List (List ℕ)). 0 < length ls) (sym w) (omega arith), ap (λ (ls : List (List ℕ)). getD ls 0 []) w)
-line-found [] n l (unended h ne) = absurd (ne refl)
-line-found (b ∷ bs) n l (unended h ne) =
+line-found [] n l (line-unended h ne) = absurd (ne refl)
+line-found (b ∷ bs) n l (line-unended h ne) =
     let w = lines-unended b bs h in
     (0, refl, subst (λ (ls : List (List ℕ)). 0 < length ls) (sym w) (omega arith), ap (λ (ls : List (List ℕ)). getD ls 0 []) w)
-line-found bs n l (later {n = m} t more h e k) =
+line-found bs n l (line-later {n = m} t more h e k) =
     let w = found-ended bs t more h e in
     let (i, p, few, at) = line-found more m l k in
     (suc i, ap suc p, subst (λ (ls : List (List ℕ)). suc i < length ls) (sym w) (omega arith), ap (λ (ls : List (List ℕ)). getD ls (suc i) []) w ∙ at)

@@ -1,15 +1,15 @@
 -- Lines and fields: splitting undoes joining, and joining undoes splitting.
 use mathlib.Core.Path.{_≡_, refl, sym, ap, ap₂, _∙_}
 use mathlib.Core.Bool.{Bool, true, false}
-use mathlib.Core.List.{List, [], _∷_, _++_}
+use mathlib.Core.List.{List, [], _∷_, _++_, flatten}
 use mathlib.Core.Option.{Option, none, some, Option·map, Option·none-ne-some, Option·some-injective}
 use Prim.Native.Nat.{ℕ, zero, suc, _+_, _/_, _%_}
 use native.Mathlib.Omega.{arith}
 use lib.IntN.{ℤ, pos, negsuc}
 use lib.Dec.{eqb, ltb}
+use Rattle.meaning.specs.Basics.{ifElse}
 use borrow.Author.Tests.{eqb-true, ne-eqb}
 use Rattle.meaning.specs.Texts.{lineFeed, comma, digit0}
-use Rattle.meaning.specs.Basics.{ifElse, concat}
 use Rattle.meaning.specs.Lines.{onto, lines, ending, text, fields}
 use Rattle.meaning.specs.Numerals.{digitsOnto, decimal, printed}
 use Rattle.meaning.specs.PrintedForms.{Each, each-none, each-more, written}
@@ -122,12 +122,12 @@ whole-line (b ∷ l) t e = go (eqb b lineFeed) refl (λ u. whole-line l u) e
     go false i f h = before-feed b l t (text l) refl f h
 
 -- all bytes are in their lines
-pub concat-lines : (bs : List ℕ) → concat (lines bs) ≡ bs
-unfolding concat lines
+pub concat-lines : (bs : List ℕ) → flatten (lines bs) ≡ bs
+unfolding flatten lines
 concat-lines [] = refl
 concat-lines (b ∷ bs) = go (eqb b lineFeed) (lines bs) (concat-lines bs)
   where
-    go : (c : Bool) (ls : List (List ℕ)) → concat ls ≡ bs → concat (ifElse c ((b ∷ []) ∷ ls) (onto b ls)) ≡ b ∷ bs
+    go : (c : Bool) (ls : List (List ℕ)) → flatten ls ≡ bs → flatten (ifElse c ((b ∷ []) ∷ ls) (onto b ls)) ≡ b ∷ bs
     go true ls h = ap {B = List ℕ} (λ l. b ∷ l) h
     go false [] h = ap {B = List ℕ} (λ l. b ∷ l) h
     go false (l ∷ ls) h = ap {B = List ℕ} (λ m. b ∷ m) h

@@ -7,9 +7,9 @@ use Prim.Native.Nat.{ℕ, _<_}
 use lib.Dec.{T, eqb}
 use borrow.Author.Tests.{eqb-true, eq-eqb}
 use Rattle.meaning.specs.Basics.{ifElse, lowest, Lowest}
+use Rattle.meaning.specs.Refusals.{Refusal}
 use Rattle.meaning.proofs.LowestLaws.{lowest-is}
 use Rattle.meaning.specs.Lines.{same}
-use Rattle.meaning.specs.TableBytes.{Refusal}
 
 pub none-lowest : (p : ℕ → Bool) (n : ℕ) → ((i : ℕ) → i < n → p i ≡ false) → lowest p n ≡ none
 none-lowest p n f = go (lowest p n) (lowest-is p n)

@@ -7,10 +7,11 @@ use Prim.Native.Nat.{ℕ, zero, suc, _+_, _-_, _*_, _/_, _%_, _≤_, _<_}
 use native.Mathlib.Omega.{arith}
 use lib.IntN.{ℤ, pos, negsuc}
 use lib.Dec.{eqb, leb, ltb}
+use Rattle.meaning.specs.Basics.{ifElse}
 use borrow.Author.Tests.{lt-ltb, le-ltb, leb-true, eqb-true, eqb-false, ltb-false}
 use Rattle.meaning.specs.Texts.{hyphen, digit0}
-use Rattle.meaning.specs.Basics.{ifElse}
-use Rattle.meaning.specs.Numerals.{isDigit, digits, natural, unsigned, negative, number, digitsOnto, decimal, printed, OneForm}
+use Rattle.meaning.specs.Numerals.{isDigit, digitsValue, natural, unsigned, negative, number, digitsOnto, decimal, printed}
+use Rattle.meaning.specs.PrintedClaims.{OneForm}
 
 -- what a test let through
 pub let-through : {A : Type 0} (t : Bool) (x : Option A) (v : A) → ifElse t x none ≡ some v → (t ≡ true) × (x ≡ some v)
@@ -55,13 +56,13 @@ more-digits n d bs p h =
     ∙ fuel (n * 10 + d) (suc n) n ((digit0 + d) ∷ bs) (omega arith) (omega arith)
 
 -- digits read on from a number are that number's digits and these
-read-on : (n v : ℕ) (bs : List ℕ) → 0 < n → digits n bs ≡ some v → digitsOnto (suc n) n bs ≡ decimal v
-unfolding digits decimal
+read-on : (n v : ℕ) (bs : List ℕ) → 0 < n → digitsValue n bs ≡ some v → digitsOnto (suc n) n bs ≡ decimal v
+unfolding digitsValue decimal
 read-on n v [] p e = ap (λ (m : ℕ). digitsOnto (suc m) m []) (Option·some-injective n v e)
-read-on n v (b ∷ bs) p e = go (let-through (isDigit b) (digits (n * 10 + (b - digit0)) bs) v e) (read-on (n * 10 + (b - digit0)) v bs)
+read-on n v (b ∷ bs) p e = go (let-through (isDigit b) (digitsValue (n * 10 + (b - digit0)) bs) v e) (read-on (n * 10 + (b - digit0)) v bs)
   where
-    go : (isDigit b ≡ true) × (digits (n * 10 + (b - digit0)) bs ≡ some v)
-        → (0 < n * 10 + (b - digit0) → digits (n * 10 + (b - digit0)) bs ≡ some v → digitsOnto (suc (n * 10 + (b - digit0))) (n * 10 + (b - digit0)) bs ≡ decimal v)
+    go : (isDigit b ≡ true) × (digitsValue (n * 10 + (b - digit0)) bs ≡ some v)
+        → (0 < n * 10 + (b - digit0) → digitsValue (n * 10 + (b - digit0)) bs ≡ some v → digitsOnto (suc (n * 10 + (b - digit0))) (n * 10 + (b - digit0)) bs ≡ decimal v)
         → digitsOnto (suc n) n (b ∷ bs) ≡ decimal v
     go h f =
         let r = digit-range b (h .0) in
@@ -70,7 +71,7 @@ read-on n v (b ∷ bs) p e = go (let-through (isDigit b) (digits (n * 10 + (b - 
         ∙ f (omega arith) (h .1)
 
 natural-form : (bs : List ℕ) (v : ℕ) → natural bs ≡ some v → bs ≡ decimal v
-unfolding natural digits decimal
+unfolding natural digitsValue decimal
 natural-form [] v e = absurd (Option·none-ne-some v e)
 natural-form (b ∷ []) v e =
     let h = let-through (isDigit b) (some (0 * 10 + (b - digit0))) v e in
@@ -78,8 +79,8 @@ natural-form (b ∷ []) v e =
     let i = Option·some-injective (0 * 10 + (b - digit0)) v (h .1) in
     ap (λ (c : ℕ). c ∷ []) (omega arith) ∙ sym (one-digit v [] (omega arith))
 natural-form (b ∷ c ∷ cs) v e =
-    let k = kept-out (eqb b digit0) (digits 0 (b ∷ c ∷ cs)) v e in
-    let h = let-through (isDigit b) (digits (0 * 10 + (b - digit0)) (c ∷ cs)) v (k .1) in
+    let k = kept-out (eqb b digit0) (digitsValue 0 (b ∷ c ∷ cs)) v e in
+    let h = let-through (isDigit b) (digitsValue (0 * 10 + (b - digit0)) (c ∷ cs)) v (k .1) in
     let r = digit-range b (h .0) in
     let n = eqb-false b digit0 (k .0) in
     ap (λ (x : ℕ). x ∷ c ∷ cs) (omega arith)

@@ -7,28 +7,29 @@ use Prim.Native.Nat.{ℕ, zero, suc, _+_, _*_, _/_, _%_, _≤_, _<_}
 use native.Mathlib.Omega.{arith}
 use lib.IntN.{pos, negsuc}
 use lib.Dec.{eqb, ltb}
+use Rattle.meaning.specs.Basics.{ifElse}
 use borrow.Author.Tests.{le-leb, ne-eqb, ltb-true, ltb-false}
 use Rattle.meaning.specs.Texts.{hyphen, digit0}
-use Rattle.meaning.specs.Basics.{ifElse}
-use Rattle.meaning.specs.Numerals.{digits, natural, unsigned, negative, number, digitsOnto, decimal, printed, ReadsBack}
+use Rattle.meaning.specs.Numerals.{digitsValue, natural, unsigned, negative, number, digitsOnto, decimal, printed}
+use Rattle.meaning.specs.PrintedClaims.{ReadsBack}
 
 -- one digit in front is read as one digit more
-pub digit-first : (acc d : ℕ) (bs : List ℕ) → d < 10 → digits acc ((digit0 + d) ∷ bs) ≡ digits (acc * 10 + d) bs
-unfolding digits
+pub digit-first : (acc d : ℕ) (bs : List ℕ) → d < 10 → digitsValue acc ((digit0 + d) ∷ bs) ≡ digitsValue (acc * 10 + d) bs
+unfolding digitsValue
 digit-first acc d bs h =
-    rw (le-leb digit0 (digit0 + d) (omega arith), le-leb (digit0 + d) (digit0 + 9) (omega arith)) (ap (λ (v : ℕ). digits v bs) (omega arith))
+    rw (le-leb digit0 (digit0 + d) (omega arith), le-leb (digit0 + d) (digit0 + 9) (omega arith)) (ap (λ (v : ℕ). digitsValue v bs) (omega arith))
 
 -- the digits of a number, in front of others, are read as that number
-pub onto-read : (k n : ℕ) (bs : List ℕ) → n < k → digits 0 (digitsOnto k n bs) ≡ digits n bs
+pub onto-read : (k n : ℕ) (bs : List ℕ) → n < k → digitsValue 0 (digitsOnto k n bs) ≡ digitsValue n bs
 unfolding digitsOnto
 onto-read zero n bs h = absurd (omega arith)
 onto-read (suc k) n bs h = go (ltb n 10) refl (λ l. onto-read k (n / 10) ((digit0 + n % 10) ∷ bs) (omega arith))
   where
     go : (t : Bool) → ltb n 10 ≡ t
-        → (10 ≤ n → digits 0 (digitsOnto k (n / 10) ((digit0 + n % 10) ∷ bs)) ≡ digits (n / 10) ((digit0 + n % 10) ∷ bs))
-        → digits 0 (ifElse t ((digit0 + n) ∷ bs) (digitsOnto k (n / 10) ((digit0 + n % 10) ∷ bs))) ≡ digits n bs
-    go true e f = digit-first 0 n bs (ltb-true n 10 e) ∙ ap (λ (v : ℕ). digits v bs) (omega arith)
-    go false e f = f (ltb-false n 10 e) ∙ digit-first (n / 10) (n % 10) bs (omega arith) ∙ ap (λ (v : ℕ). digits v bs) (omega arith)
+        → (10 ≤ n → digitsValue 0 (digitsOnto k (n / 10) ((digit0 + n % 10) ∷ bs)) ≡ digitsValue (n / 10) ((digit0 + n % 10) ∷ bs))
+        → digitsValue 0 (ifElse t ((digit0 + n) ∷ bs) (digitsOnto k (n / 10) ((digit0 + n % 10) ∷ bs))) ≡ digitsValue n bs
+    go true e f = digit-first 0 n bs (ltb-true n 10 e) ∙ ap (λ (v : ℕ). digitsValue v bs) (omega arith)
+    go false e f = f (ltb-false n 10 e) ∙ digit-first (n / 10) (n % 10) bs (omega arith) ∙ ap (λ (v : ℕ). digitsValue v bs) (omega arith)
 
 -- a list that begins neither with `0` nor with `-`
 abbrev Begins : List ℕ → Type 0
@@ -48,11 +49,11 @@ onto-begins (suc k) n bs h p = go (ltb n 10) refl (λ l. onto-begins k (n / 10) 
     go false e f = f (ltb-false n 10 e)
 
 -- what begins so is read digit by digit
-begins-natural : (bs : List ℕ) → Begins bs → natural bs ≡ digits 0 bs
+begins-natural : (bs : List ℕ) → Begins bs → natural bs ≡ digitsValue 0 bs
 unfolding natural
 begins-natural [] h = absurd h
 begins-natural (b ∷ []) h = refl
-begins-natural (b ∷ c ∷ cs) h = ap (λ (t : Bool). ifElse t none (digits 0 (b ∷ c ∷ cs))) (h .0)
+begins-natural (b ∷ c ∷ cs) h = ap (λ (t : Bool). ifElse t none (digitsValue 0 (b ∷ c ∷ cs))) (h .0)
 
 begins-number : (bs : List ℕ) → Begins bs → number bs ≡ unsigned (natural bs)
 unfolding number
@@ -60,7 +61,7 @@ begins-number [] h = absurd h
 begins-number (b ∷ bs) h = ap (λ (t : Bool). ifElse t (negative (natural bs)) (unsigned (natural (b ∷ bs)))) (h .1)
 
 pub natural-decimal : (n : ℕ) → natural (decimal n) ≡ some n
-unfolding decimal natural digits digitsOnto
+unfolding decimal natural digitsValue digitsOnto
 natural-decimal zero = refl
 natural-decimal (suc n) =
     begins-natural (decimal (suc n)) (onto-begins (suc (suc n)) (suc n) [] (omega arith) (omega arith))

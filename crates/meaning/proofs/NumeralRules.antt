@@ -7,8 +7,8 @@ use native.Mathlib.Omega.{arith}
 use native.Mathlib.Decide.{decLt}
 use lib.IntN.{ℤ, pos, negsuc}
 use lib.Dec.{ltb}
-use Rattle.meaning.specs.Texts.{hyphen, digit0}
 use Rattle.meaning.specs.Basics.{ifElse}
+use Rattle.meaning.specs.Texts.{hyphen, digit0}
 use Rattle.meaning.specs.Numerals.{digitsOnto, decimal, printed}
 use Rattle.meaning.specs.ByteClaims.{Digits, first-digit, next-digit, Numeral, without-sign, with-minus, PrintedNumeral}
 use Rattle.meaning.proofs.NumeralForm.{one-digit, more-digits}

@@ -9,9 +9,11 @@ use native.Mathlib.Nat.{eq-or-lt-of-le}
 use native.Mathlib.Decide.{decLt}
 use native.Mathlib.Omega.{arith}
 use lib.IntN.{ℤ}
-use Rattle.meaning.specs.Rows.{ifElse, rowCount, kindAt, declares, leading, declarations}
+use Rattle.meaning.specs.Basics.{ifElse}
+use Rattle.meaning.specs.Rows.{rowCount, kindAt}
 use Rattle.meaning.proofs.Decides.{Decides, holding, failing, decides-or, decides-eq}
 use Rattle.meaning.specs.Kinds.{Shape, shapes, shapeIn, shapeOf}
+use Rattle.meaning.specs.Declarations.{declares, leading, declarations}
 use Rattle.meaning.specs.References.{RefersBy, Place, of-a, of-b, of-c, fieldOf, numberOf, Refers, Beneath, direct, further}
 use Rattle.meaning.specs.Faults.{Once, Placed, WellPlaced}
 use Rattle.meaning.specs.StageClaims.{OneTree}

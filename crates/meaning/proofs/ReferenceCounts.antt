@@ -10,10 +10,10 @@ use native.Mathlib.Omega.{arith}
 use lib.IntN.{ℤ, pos, negsuc, pos-ne-negsuc}
 use lib.Dec.{eqb}
 use Rattle.meaning.specs.Rows.{rowCount, fieldAt, kindAt}
-use Rattle.meaning.specs.Basics.{among, ifElse}
+use Rattle.meaning.specs.Basics.{ifElse, among}
 use Rattle.meaning.proofs.Decides.{Decides, holding, failing, decides-iff, decides-and, decides-lt, decides-eq, decides-any, pos-injective}
 use Rattle.meaning.proofs.Counting.{Counts, never, once, more, counts-iff, counts-add, occurrences-append}
-use Rattle.meaning.specs.Kinds.{Field, unused, value, within, elements, capacity, variable, channel, reference, link, Shape, shapeOf}
+use Rattle.meaning.specs.Kinds.{Field, unused, literalValue, within, elements, capacity, variable, channel, reference, link, Shape, shapeOf}
 use Rattle.meaning.specs.Verdict.{refers, targetOf, target, targetsBy, targets, targetsBelow, occurrences}
 use Rattle.meaning.specs.References.{IsTarget, RefersBy, Place, of-a, of-b, of-c, fieldOf, numberOf, Refers}
 use Rattle.meaning.specs.Faults.{Once}
@@ -65,7 +65,7 @@ module _ (rows : List ℤ) (t : ℕ) where
   count-field : (q : ℕ) (p : Place) (f : Field) (z : ℤ) → Counts (λ (a : ℕ × Place). (a ≡ (q, p)) × RefersBy rows q f z t) (occurrences t (target rows q f z))
   unfolding RefersBy target occurrences
   count-field q p unused z = never refl (λ a h. h .1)
-  count-field q p value z = never refl (λ a h. h .1)
+  count-field q p literalValue z = never refl (λ a h. h .1)
   count-field q p (within lo hi) z = never refl (λ a h. h .1)
   count-field q p elements z = never refl (λ a h. h .1)
   count-field q p capacity z = never refl (λ a h. h .1)
@@ -149,7 +149,7 @@ module _ (rows : List ℤ) (t : ℕ) where
   pub bounds : (q : ℕ) (f : Field) (z : ℤ) → RefersBy rows q f z t → (q < t) × (t < rowCount rows)
   unfolding RefersBy
   bounds q unused z h = absurd h
-  bounds q value z h = absurd h
+  bounds q literalValue z h = absurd h
   bounds q (within lo hi) z h = absurd h
   bounds q elements z h = absurd h
   bounds q capacity z h = absurd h

@@ -7,7 +7,8 @@ use Prim.Native.String.{String}
 use lib.IntN.{ℤ, pos, negsuc}
 use lib.ListN.{replicate}
 use Rattle.meaning.specs.Texts.{bytes}
-use Rattle.meaning.specs.TableBytes.{Refusal, rowsOf, numbersFault}
+use Rattle.meaning.specs.Refusals.{Refusal}
+use Rattle.meaning.specs.TableBytes.{rowsOf, numbersFault}
 use Rattle.meaning.specs.Sheet.{sheetFault, readings}
 use Rattle.meaning.specs.Answers.{check, checkBytes}
 use Rattle.meaning.proofs.ComputesAnswers.{computesAnswers}

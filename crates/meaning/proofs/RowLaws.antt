@@ -7,13 +7,14 @@ use Prim.Native.Nat.{ℕ, zero, suc}
 use native.Mathlib.Omega.{arith}
 use lib.IntN.{ℤ, pos, negsuc}
 use lib.Dec.{eqb, leb}
+use Rattle.meaning.specs.Basics.{ifElse}
 use borrow.Author.Tests.{leb-true}
 use Rattle.meaning.specs.Texts.{hyphen}
-use Rattle.meaning.specs.Basics.{ifElse}
 use Rattle.meaning.specs.Lines.{text}
-use Rattle.meaning.specs.Numerals.{natural, unsigned, negative, number, printed, ReadsBack, OneForm}
-use Rattle.meaning.specs.TableBytes.{rowOf}
+use Rattle.meaning.specs.Numerals.{natural, unsigned, negative, number, printed}
+use Rattle.meaning.specs.TableBytes.{readRow}
 use Rattle.meaning.specs.PrintedForms.{written, In32, IsRow}
+use Rattle.meaning.specs.PrintedClaims.{ReadsBack, OneForm}
 use Rattle.meaning.proofs.NumeralLaws.{reads-back}
 use Rattle.meaning.proofs.NumeralForm.{let-through, one-form}
 use Rattle.meaning.proofs.LineLaws.{commas, printed-inner}
@@ -59,11 +60,11 @@ rowLine row = written (map printed row)
 pub row-text : (row : List ℤ) → text (rowLine row) ≡ some (commas (map printed row))
 row-text row = text-written (map printed row) (all-inner number printed In32 printed-inner number-back number-form row)
 
-pub row-reads : (row : List ℤ) → IsRow row → rowOf (rowLine row) ≡ some row
-unfolding rowOf
+pub row-reads : (row : List ℤ) → IsRow row → readRow (rowLine row) ≡ some row
+unfolding readRow
 row-reads [] h = absurd (let z : _≡_ {A = ℕ} 0 4 = h .0 in omega arith)
 row-reads (z ∷ zs) h = line-reads number printed In32 printed-inner number-back number-form 4 z zs (h .0) (h .1)
 
-pub row-form : (line : List ℕ) (row : List ℤ) → rowOf line ≡ some row → (line ≡ rowLine row) × IsRow row
-unfolding rowOf
+pub row-form : (line : List ℕ) (row : List ℤ) → readRow line ≡ some row → (line ≡ rowLine row) × IsRow row
+unfolding readRow
 row-form line row e = line-form number printed In32 printed-inner number-back number-form 4 line row e

@@ -2,7 +2,7 @@
 use mathlib.Core.Path.{_≡_, refl, sym, ap, ap₂, _∙_, subst}
 use mathlib.Core.Logic.{_⊎_, inl, inr}
 use mathlib.Core.Bool.{Bool, true, false, _||_, false≢true}
-use mathlib.Core.List.{List, [], _∷_, _++_, append-nil}
+use mathlib.Core.List.{List, [], _∷_, _++_, append-nil, flatten}
 use mathlib.Core.Option.{Option, none, some, Option·map}
 use Prim.Native.Nat.{ℕ, zero, suc, _+_, _-_, _≤_, _<_}
 use native.Mathlib.Decide.{decLt}
@@ -14,16 +14,17 @@ use lib.Dec.{eqb, ltb}
 use borrow.Author.Tests.{lt-ltb}
 use Rattle.meaning.specs.Limits.{maxTable, maxSheet, maxBudget}
 use Rattle.meaning.specs.Texts.{lineFeed}
-use Rattle.meaning.specs.Basics.{ifElse, concat, lowestFrom, lowest}
+use Rattle.meaning.specs.Basics.{ifElse, lowestFrom, lowest}
 use Rattle.meaning.specs.Lines.{onto, lines, ending, text, same}
 use Rattle.meaning.specs.TableBytes.{bytesFault, rowsOf, overlong, malformed, oneTooMany, refusalAt}
 use Rattle.meaning.specs.Declarations.{channels}
-use Rattle.meaning.specs.Sheet.{misread, sheetFault}
+use Rattle.meaning.specs.Sheet.{sheetLineWrong, sheetFault}
 use Rattle.meaning.specs.Refusals.{Refusal}
 use Rattle.meaning.specs.Answers.{Result, refused, Task, check, unless, result, resultOfBytes}
 use Rattle.meaning.specs.Printing.{lineBytes, refusedLine}
-use Rattle.meaning.specs.Runner.{separator, tablePart, sheetPart, printedResult, runner, enough, Bounded}
+use Rattle.meaning.specs.Runner.{separator, tablePart, sheetPart, printedResult, runner, enough}
 use Rattle.meaning.specs.PrintedForms.{Each, each-none, each-more}
+use Rattle.meaning.specs.PrintedClaims.{Bounded}
 use Rattle.meaning.proofs.LineLaws.{Plain, whole-line, concat-lines}
 use Rattle.meaning.proofs.NoFault.{same-is}
 use Rattle.meaning.proofs.AnswerLaws.{result-stages, result-of-bytes}
@@ -72,7 +73,7 @@ plain-other l h = go (same l separator) refl
     go false e = refl
 
 plain-part : (l : List ℕ) → Each Plain l → (tablePart (lines l) ≡ l) × (sheetPart (lines l) ≡ [])
-unfolding tablePart sheetPart lines concat
+unfolding tablePart sheetPart lines flatten
 plain-part [] h = (refl, refl)
 plain-part (b ∷ l) h = (
   ap tablePart (plain-lines b l h) ∙ ap (λ (c : Bool). ifElse c [] ((b ∷ l) ++ [])) (plain-other (b ∷ l) h) ∙ append-nil (b ∷ l),
@@ -106,7 +107,7 @@ cut-plain l h n = go (decLt (length l + 1) n) (decLt n (length l))
 
 -- a whole line in front
 in-front : (l t : List ℕ) → text l ≡ some t → (X : List ℕ) (n k : ℕ) → n ≡ length l + k
-    → (tablePart (lines (take n (l ++ X))) ≡ ifElse (same l separator) [] (l ++ tablePart (lines (take k X)))) × (sheetPart (lines (take n (l ++ X))) ≡ ifElse (same l separator) (concat (lines (take k X))) (sheetPart (lines (take k X))))
+    → (tablePart (lines (take n (l ++ X))) ≡ ifElse (same l separator) [] (l ++ tablePart (lines (take k X)))) × (sheetPart (lines (take n (l ++ X))) ≡ ifElse (same l separator) (flatten (lines (take k X))) (sheetPart (lines (take k X))))
 unfolding tablePart sheetPart
 in-front l t e X n k i = (ap tablePart z, ap sheetPart z)
   where
@@ -125,7 +126,7 @@ cut-parting l t e i X n = go (decLt 1 n)
         let f = in-front l t e X n (n - 2) (omega (arith, size)) in
         inl (
           f .0 ∙ ap (λ (c : Bool). ifElse c [] (l ++ tablePart (lines (take (n - 2) X)))) i,
-          (n - 2, f .1 ∙ ap (λ (c : Bool). ifElse c (concat (lines (take (n - 2) X))) (sheetPart (lines (take (n - 2) X)))) i ∙ concat-lines (take (n - 2) X), omega (arith, size)),
+          (n - 2, f .1 ∙ ap (λ (c : Bool). ifElse c (flatten (lines (take (n - 2) X))) (sheetPart (lines (take (n - 2) X)))) i ∙ concat-lines (take (n - 2) X), omega (arith, size)),
         )
     go (no h) = inr (omega (arith, size), omega (arith, size))
 
@@ -144,7 +145,7 @@ cut-line l t e p i T S X n ih = go (decLt n (length l))
         let f = in-front l t e X n k j in
         inl (
           f .0 ∙ ap (λ (c : Bool). ifElse c [] (l ++ tablePart (lines (take k X)))) i ∙ ap {B = List ℕ} (λ m. l ++ m) (h .0),
-          (h .1 .0, f .1 ∙ ap (λ (c : Bool). ifElse c (concat (lines (take k X))) (sheetPart (lines (take k X)))) i ∙ h .1 .1, (let z = h .1 .2 in omega (arith, size, long))),
+          (h .1 .0, f .1 ∙ ap (λ (c : Bool). ifElse c (flatten (lines (take k X))) (sheetPart (lines (take k X)))) i ∙ h .1 .1, (let z = h .1 .2 in omega (arith, size, long))),
         )
     back k j (inr h) =
         let f = in-front l t e X n k j in
@@ -158,16 +159,16 @@ cut-line l t e p i T S X n ih = go (decLt n (length l))
         inr (omega (arith, size, long), omega (arith, size, long))
     go (no h) = back (n - length l) (omega (arith, size, long)) (ih (n - length l))
 
-cut : (ls : List (List ℕ)) → Lined ls → (n : ℕ) → Of n (tablePart ls) (sheetPart ls) (concat ls)
-unfolding tablePart sheetPart concat
+cut : (ls : List (List ℕ)) → Lined ls → (n : ℕ) → Of n (tablePart ls) (sheetPart ls) (flatten ls)
+unfolding tablePart sheetPart flatten
 cut [] lined-none n = cut-plain [] each-none n
 cut (l ∷ []) (lined-last p) n =
-    move n (ap (λ (c : Bool). ifElse c [] (l ++ [])) (plain-other l p) ∙ append-nil l) (ap (λ (c : Bool). ifElse c (concat []) []) (plain-other l p)) (append-nil l) (cut-plain l p n)
+    move n (ap (λ (c : Bool). ifElse c [] (l ++ [])) (plain-other l p) ∙ append-nil l) (ap (λ (c : Bool). ifElse c (flatten []) []) (plain-other l p)) (append-nil l) (cut-plain l p n)
 cut (l ∷ ls) (lined-more t e p h) n = go (same l separator) refl (cut ls h)
   where
-    go : (c : Bool) → same l separator ≡ c → ((k : ℕ) → Of k (tablePart ls) (sheetPart ls) (concat ls)) → Of n (ifElse c [] (l ++ tablePart ls)) (ifElse c (concat ls) (sheetPart ls)) (l ++ concat ls)
-    go true i ih = cut-parting l t e i (concat ls) n
-    go false i ih = cut-line l t e p i (tablePart ls) (sheetPart ls) (concat ls) n ih
+    go : (c : Bool) → same l separator ≡ c → ((k : ℕ) → Of k (tablePart ls) (sheetPart ls) (flatten ls)) → Of n (ifElse c [] (l ++ tablePart ls)) (ifElse c (flatten ls) (sheetPart ls)) (l ++ flatten ls)
+    go true i ih = cut-parting l t e i (flatten ls) n
+    go false i ih = cut-line l t e p i (tablePart ls) (sheetPart ls) (flatten ls) n ih
 
 -- The answer --------------------------------------------------------------------------------------------------------------------
 
@@ -192,7 +193,7 @@ too-long T h =
 sheet-long : (rows : List ℤ) (S : List ℕ) → maxSheet < length S → sheetFault rows S ≡ some (10, 0)
 unfolding sheetFault
 sheet-long rows S h =
-    ap (Option·map (λ L. (10, L))) (at-once (misread (ltb maxSheet (length S)) (channels rows 1) (lines S)) (length (lines S)) (lt-ltb maxSheet (length S) h))
+    ap (Option·map (λ L. (10, L))) (at-once (sheetLineWrong (ltb maxSheet (length S)) (channels rows 1) (lines S)) (length (lines S)) (lt-ltb maxSheet (length S) h))
 
 -- a task with a sheet that is too long is refused whatever the sheet
 long-refused : (t : Task) → maxSheet < length (t .sheet) → result t ≡ unless (check (t .rows)) (refused (10, 0))

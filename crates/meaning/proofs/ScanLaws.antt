@@ -8,11 +8,11 @@ use native.Mathlib.Omega.{arith}
 use native.Mathlib.Numerals.{add-one}
 use lib.ListN.{length, getD, drop, drop-of-length-le}
 use lib.Seq.{drop-cons}
+use Rattle.meaning.specs.Basics.{ifElse}
 use borrow.Author.Tests.{eq-eqb, ne-eqb}
 use Rattle.meaning.specs.Texts.{lineFeed, digit0}
-use Rattle.meaning.specs.Basics.{ifElse}
 use Rattle.meaning.specs.Lines.{lineSize}
-use Rattle.meaning.specs.Numerals.{isDigit, digits}
+use Rattle.meaning.specs.Numerals.{isDigit, digitsValue}
 use Rattle.meaning.proofs.NumeralForm.{let-through}
 
 -- nothing is left
@@ -36,10 +36,10 @@ size-more s at h n =
     ∙ rw (add-one at) refl
 
 -- digits only add to a number: once it is too large for 32 bits it stays so, and code may stop counting
-pub digits-grow : (n v : ℕ) (bs : List ℕ) → digits n bs ≡ some v → n ≤ v
-unfolding digits
+pub digits-grow : (n v : ℕ) (bs : List ℕ) → digitsValue n bs ≡ some v → n ≤ v
+unfolding digitsValue
 digits-grow n v [] e = let h = Option·some-injective n v e in omega arith
 digits-grow n v (b ∷ bs) e =
-    let h = let-through (isDigit b) (digits (n * 10 + (b - digit0)) bs) v e in
+    let h = let-through (isDigit b) (digitsValue (n * 10 + (b - digit0)) bs) v e in
     let l = digits-grow (n * 10 + (b - digit0)) v bs (h .1) in
     omega arith

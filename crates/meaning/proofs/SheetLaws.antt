@@ -1,7 +1,7 @@
 -- The sheets that 10 does not refuse are the printed ones, and each is read as the columns of its lines.
 use mathlib.Core.Path.{_≡_, refl, sym, ap, ap₂, _∙_, subst}
 use mathlib.Core.Bool.{Bool, true, false, not, _&&_, _||_, false≢true}
-use mathlib.Core.List.{List, [], _∷_, map, tail}
+use mathlib.Core.List.{List, [], _∷_, map, tail, flatten}
 use mathlib.Core.Option.{Option, none, some, Option·map, Option·getD, Option·none-ne-some, Option·some-injective}
 use Prim.Native.Nat.{ℕ, zero, suc, _+_, _≤_, _<_}
 use native.Mathlib.Decide.{decLt}
@@ -12,12 +12,13 @@ use lib.Dec.{leb, ltb}
 use borrow.Author.Tests.{le-ltb, ltb-false, le-leb, lt-leb, leb-false, not-false}
 use Rattle.meaning.specs.Limits.{maxSheet, maxLines}
 use Rattle.meaning.specs.Texts.{lineFeed}
-use Rattle.meaning.specs.Basics.{isSome, concat, allSome, lowest}
+use Rattle.meaning.specs.Basics.{isSome, allSome, lowest}
 use Rattle.meaning.specs.Lines.{lines, text, fields, readLine, same}
 use Rattle.meaning.specs.Numerals.{number, decimal, printed}
 use Rattle.meaning.specs.Declarations.{channels}
-use Rattle.meaning.specs.Sheet.{joined, sheetHeader, reading, valuesOf, misread, sheetFault, columns, readings}
-use Rattle.meaning.specs.PrintedForms.{Each, each-none, each-more, written, readingBytes, sheetBytes, IsReading, IsValues, SheetForm, SheetReads}
+use Rattle.meaning.specs.Sheet.{joined, sheetHeader, reading, valuesOf, sheetLineWrong, sheetFault, columns, readings}
+use Rattle.meaning.specs.PrintedForms.{Each, each-none, each-more, written, readingBytes, sheetBytes, IsReading, IsValues}
+use Rattle.meaning.specs.PrintedClaims.{SheetForm, SheetReads}
 use Rattle.meaning.proofs.LineLaws.{Inner, Plain, commas, text-whole, whole-line, concat-lines, each-append, printed-inner}
 use Rattle.meaning.proofs.ReadLaws.{plain, all-inner, text-written, line-reads, line-form}
 use Rattle.meaning.proofs.NoFault.{none-lowest, lowest-none, none-mapped, or-false, and-none, or-none, same-refl, same-is}
@@ -84,17 +85,17 @@ joined-plain [] = each-none
 joined-plain (r ∷ []) = decimal-plain r
 joined-plain (r ∷ q ∷ qs) = each-append (decimal-plain r) (each-more refl (joined-plain (q ∷ qs)))
 
-value-lines : (vs : List (List (Option ℤ))) → lines (concat (map valueLine vs)) ≡ map valueLine vs
-unfolding concat lines
+value-lines : (vs : List (List (Option ℤ))) → lines (flatten (map valueLine vs)) ≡ map valueLine vs
+unfolding flatten lines
 value-lines [] = refl
 value-lines (v ∷ vs) =
-    whole-line (valueLine v) (commas (map readingBytes v)) (text-written (map readingBytes v) (all-inner reading readingBytes IsReading reading-inner reading-back reading-form v)) .1 (concat (map valueLine vs))
+    whole-line (valueLine v) (commas (map readingBytes v)) (text-written (map readingBytes v) (all-inner reading readingBytes IsReading reading-inner reading-back reading-form v)) .1 (flatten (map valueLine vs))
     ∙ ap {B = List (List ℕ)} (λ ls. valueLine v ∷ ls) (value-lines vs)
 
 sheet-lines : (cs : List ℕ) (vs : List (List (Option ℤ))) → lines (sheetBytes cs vs) ≡ sheetHeader cs ∷ map valueLine vs
 unfolding sheetBytes sheetHeader
 sheet-lines cs vs =
-    whole-line (sheetHeader cs) (joined cs) (text-whole (joined cs) (joined-plain cs)) .1 (concat (map valueLine vs))
+    whole-line (sheetHeader cs) (joined cs) (text-whole (joined cs) (joined-plain cs)) .1 (flatten (map valueLine vs))
     ∙ ap {B = List (List ℕ)} (λ ls. sheetHeader cs ∷ ls) (value-lines vs)
 
 read-values : (k : ℕ) → 0 < k → (vs : List (List (Option ℤ))) → Each (IsValues k) vs → map (λ l. Option·getD (valuesOf k l) []) (map valueLine vs) ≡ vs
@@ -145,7 +146,7 @@ some-channel zero vs i h f = absurd (let e = ap length (f refl) in omega arith)
 some-channel (suc k) vs i h f = omega arith
 
 -- a printed sheet has no fault
-good : (cs : List ℕ) (vs : List (List (Option ℤ))) → Each (IsValues (length cs)) vs → ((length cs ≡ 0) → vs ≡ []) → length vs ≤ maxLines → (L : ℕ) → misread false cs (sheetHeader cs ∷ map valueLine vs) L ≡ false
+good : (cs : List ℕ) (vs : List (List (Option ℤ))) → Each (IsValues (length cs)) vs → ((length cs ≡ 0) → vs ≡ []) → length vs ≤ maxLines → (L : ℕ) → sheetLineWrong false cs (sheetHeader cs ∷ map valueLine vs) L ≡ false
 good cs vs h z l zero = refl
 good cs vs h z l (suc zero) = ap not (same-refl (sheetHeader cs))
 good cs vs h z l (suc (suc i)) = read (decLt i (length vs))
@@ -165,7 +166,7 @@ unfolding sheetHeader
 header-some cs e = let h : _≡_ {A = ℕ} 0 (length (joined cs) + 1) = ap length e ∙ length-append (joined cs) (lineFeed ∷ []) in omega arith
 
 -- lines without fault are the header and lines of values
-sound : (cs : List ℕ) (ls : List (List ℕ)) (long : Bool) → ((L : ℕ) → L < 2 + length ls → misread long cs ls L ≡ false)
+sound : (cs : List ℕ) (ls : List (List ℕ)) (long : Bool) → ((L : ℕ) → L < 2 + length ls → sheetLineWrong long cs ls L ≡ false)
     → (vs : List (List (Option ℤ))) × (ls ≡ sheetHeader cs ∷ map valueLine vs) × (length vs ≤ maxLines) × Each (IsValues (length cs)) vs × ((length cs ≡ 0) → vs ≡ [])
 sound cs [] long f = absurd (header-some cs (same-is [] (sheetHeader cs) (not-false (same [] (sheetHeader cs)) (f 1 (omega arith)))))
 sound cs (l ∷ ls) long f = (k .0, ap₂ (λ (x : List ℕ) (xs : List (List ℕ)). x ∷ xs) first (k .1), few, k .2, k .3)
@@ -192,7 +193,7 @@ sound cs (l ∷ ls) long f = (k .0, ap₂ (λ (x : List ℕ) (xs : List (List �
     few = let n = length-lines (k .0) in let m = ap length (k .1) in let q = fit (decLt maxLines (length ls)) in omega arith
 
 pub sheet-form : SheetForm
-unfolding SheetForm sheetFault sheetBytes concat
+unfolding SheetForm sheetFault sheetBytes flatten
 sheet-form rows sheet = (to, from)
   where
     cs : List ℕ
@@ -205,10 +206,10 @@ sheet-form rows sheet = (to, from)
     Printed = (vs : List (List (Option ℤ))) × (sheet ≡ sheetBytes cs vs) × (length sheet ≤ maxSheet) × (length vs ≤ maxLines) × Each (IsValues (length cs)) vs × ((length cs ≡ 0) → vs ≡ [])
 
     to : sheetFault rows sheet ≡ none → Printed
-    to e = (k .0, sym (concat-lines sheet) ∙ ap concat (k .1), ltb-false maxSheet (length sheet) (f 0 (omega arith)), k .2, k .3, k .4)
+    to e = (k .0, sym (concat-lines sheet) ∙ ap flatten (k .1), ltb-false maxSheet (length sheet) (f 0 (omega arith)), k .2, k .3, k .4)
       where
-        f : (L : ℕ) → L < 2 + length (lines sheet) → misread long cs (lines sheet) L ≡ false
-        f = lowest-none (misread long cs (lines sheet)) (2 + length (lines sheet)) (none-mapped (λ L. (10, L)) (lowest (misread long cs (lines sheet)) (2 + length (lines sheet))) e)
+        f : (L : ℕ) → L < 2 + length (lines sheet) → sheetLineWrong long cs (lines sheet) L ≡ false
+        f = lowest-none (sheetLineWrong long cs (lines sheet)) (2 + length (lines sheet)) (none-mapped (λ L. (10, L)) (lowest (sheetLineWrong long cs (lines sheet)) (2 + length (lines sheet))) e)
 
         k : (vs : List (List (Option ℤ))) × (lines sheet ≡ sheetHeader cs ∷ map valueLine vs) × (length vs ≤ maxLines) × Each (IsValues (length cs)) vs × ((length cs ≡ 0) → vs ≡ [])
         k = sound cs (lines sheet) long f
@@ -216,5 +217,5 @@ sheet-form rows sheet = (to, from)
     from : Printed → sheetFault rows sheet ≡ none
     from h =
         ap (Option·map (λ L. (10, L)))
-        (none-lowest (misread long cs (lines sheet)) (2 + length (lines sheet))
-        (λ L l. ap₂ (λ (b : Bool) (ls : List (List ℕ)). misread b cs ls L) (le-ltb maxSheet (length sheet) (h .2)) (ap lines (h .1) ∙ sheet-lines cs (h .0)) ∙ good cs (h .0) (h .4) (h .5) (h .3) L))
+        (none-lowest (sheetLineWrong long cs (lines sheet)) (2 + length (lines sheet))
+        (λ L l. ap₂ (λ (b : Bool) (ls : List (List ℕ)). sheetLineWrong b cs ls L) (le-ltb maxSheet (length sheet) (h .2)) (ap lines (h .1) ∙ sheet-lines cs (h .0)) ∙ good cs (h .0) (h .4) (h .5) (h .3) L))

@@ -13,11 +13,11 @@ use lib.Dec.{ltb, leb}
 use Rattle.meaning.specs.Limits.{maxSheet, maxLines}
 use Rattle.meaning.specs.Texts.{lineFeed, comma}
 use Rattle.meaning.specs.Basics.{isSome, lowest}
+use Rattle.meaning.specs.Refusals.{Refusal}
 use Rattle.meaning.specs.Lines.{lines}
 use Rattle.meaning.specs.Numerals.{decimal, printed}
 use Rattle.meaning.specs.Declarations.{channels}
-use Rattle.meaning.specs.TableBytes.{Refusal}
-use Rattle.meaning.specs.Sheet.{joined, sheetHeader, valuesOf, misread, sheetFault}
+use Rattle.meaning.specs.Sheet.{joined, sheetHeader, valuesOf, sheetLineWrong, sheetFault}
 use Rattle.meaning.specs.PrintedForms.{written}
 use Rattle.meaning.specs.ByteClaims.{LineIs, LowestLine, IsValueLine, Misread, SheetExactly}
 use Rattle.meaning.proofs.Decides.{Decides, holding, failing, decides-or, decides-lt, decides-le}
@@ -60,7 +60,7 @@ module _ (rows : List ℤ) (sheet : List ℕ) where
   cs = channels rows 1
 
   abbrev test : ℕ → Bool
-  test = misread (ltb maxSheet (length sheet)) (channels rows 1) (lines sheet)
+  test = sheetLineWrong (ltb maxSheet (length sheet)) (channels rows 1) (lines sheet)
 
   decides-line : (n : ℕ) → Decides (Misread rows sheet n) (test n)
   decides-line zero = decides-lt maxSheet (length sheet)

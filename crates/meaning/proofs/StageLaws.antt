@@ -7,8 +7,9 @@ use mathlib.Core.Option.{Option, none, some, Option·map, Option·some-ne-none}
 use Prim.Native.Nat.{ℕ, suc, _<_}
 use lib.IntN.{ℤ}
 use Rattle.meaning.specs.Basics.{Lowest}
-use Rattle.meaning.specs.Rows.{rowCount, declarations}
-use Rattle.meaning.specs.TableBytes.{Refusal}
+use Rattle.meaning.specs.Refusals.{Refusal}
+use Rattle.meaning.specs.Rows.{rowCount}
+use Rattle.meaning.specs.Declarations.{declarations}
 use Rattle.meaning.specs.Verdict.{formFault, treeFault, limitFault}
 use Rattle.meaning.specs.Faults.{WellFormed, WellPlaced, WithinLimits}
 use Rattle.meaning.specs.StageClaims.{Finds, FormStage, TreeStage, LimitStage, PlacesDecided}

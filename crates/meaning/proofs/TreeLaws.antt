@@ -6,11 +6,12 @@ use mathlib.Core.Option.{Option, none, some, Option·none-ne-some, Option·some-
 use Prim.Native.Nat.{ℕ, suc}
 use lib.IntN.{ℤ, pos, negsuc, pos-ne-negsuc}
 use lib.Dec.{eqb}
-use Rattle.meaning.specs.Rows.{rowCount, fieldAt, kindAt, declarations}
+use Rattle.meaning.specs.Rows.{rowCount, fieldAt, kindAt}
 use Rattle.meaning.specs.Basics.{ifElse, lowest}
 use Rattle.meaning.proofs.Decides.{Decides, holding, failing, decides-iff, decides-and, decides-or, decides-lt, decides-le, decides-eq, decides-eqZ, pos-injective, Faults, right, wrong, faults-not, faults-or, faults-if, faults-iff, lowest-wrong}
-use Rattle.meaning.specs.Kinds.{Field, unused, value, within, elements, capacity, variable, channel, reference, link, Shape, shapeOf, processes}
-use Rattle.meaning.specs.Verdict.{refers, leads, targetsBelow, occurrences, leadsBy, miscounted, misplaced, treeFaultAt, treeFault}
+use Rattle.meaning.specs.Kinds.{Field, unused, literalValue, within, elements, capacity, variable, channel, reference, link, Shape, shapeOf, processes}
+use Rattle.meaning.specs.Declarations.{declarations}
+use Rattle.meaning.specs.Verdict.{refers, leads, targetsBelow, occurrences, leadsBy, notReferredOnce, rowFaultAt, treeFaultAt, treeFault}
 use Rattle.meaning.proofs.ReferenceCounts.{decides-among, decides-target, Never, count-all, never-zero, once-one}
 use Rattle.meaning.specs.References.{IsOf, IsTarget, Place, of-a, of-b, of-c, fieldOf, numberOf, Refers}
 use Rattle.meaning.specs.Faults.{Leads, Once, Placed, WellPlaced}
@@ -26,7 +27,7 @@ decides-refers rows r kinds (negsuc i) = failing (λ h. pos-ne-negsuc (h .0) i (
 decides-leads : (rows : List ℤ) (r : ℕ) (f : Field) (z : ℤ) → Decides (Leads rows r f z) (leads rows r f z)
 unfolding Leads leads
 decides-leads rows r unused z = holding tt
-decides-leads rows r value z = holding tt
+decides-leads rows r literalValue z = holding tt
 decides-leads rows r (within lo hi) z = holding tt
 decides-leads rows r elements z = holding tt
 decides-leads rows r capacity z = holding tt
@@ -51,7 +52,7 @@ decides-leadsBy rows r (some s) e =
 
 -- The stage ---------------------------------------------------------------------------------------------------------------------
 
-counted : (rows : List ℤ) (r : ℕ) → Faults (((r ≡ declarations rows) → (q : ℕ) (o : Place) → ¬ Refers rows q o r) × (¬ (r ≡ declarations rows) → Once rows r)) (miscounted (targetsBelow rows (rowCount rows)) (declarations rows) r)
+counted : (rows : List ℤ) (r : ℕ) → Faults (((r ≡ declarations rows) → (q : ℕ) (o : Place) → ¬ Refers rows q o r) × (¬ (r ≡ declarations rows) → Once rows r)) (notReferredOnce (targetsBelow rows (rowCount rows)) (declarations rows) r)
 unfolding Never
 counted rows r = go (decides-eq r (declarations rows))
   where
@@ -70,7 +71,7 @@ counted rows r = go (decides-eq r (declarations rows))
         (λ h. once-one rows r (count-all rows r) .1 (h .1 n))
         (faults-not (decides-eq c 1))
 
-placed : (rows : List ℤ) (r : ℕ) → Faults (Placed rows r) (misplaced rows (declarations rows) (targetsBelow rows (rowCount rows)) r)
+placed : (rows : List ℤ) (r : ℕ) → Faults (Placed rows r) (rowFaultAt rows (declarations rows) (targetsBelow rows (rowCount rows)) r)
 unfolding Placed
 placed rows r =
     faults-iff (λ h. (h .0 .0, h .0 .1, h .1 .0, h .1 .1)) (λ h. ((h .0, h .1), (h .2, h .3)))

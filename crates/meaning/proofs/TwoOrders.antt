@@ -6,9 +6,10 @@ use lib.IntN.{ℤ, pos, negsuc}
 use Rattle.meaning.specs.declared.Outcome.the-variants.{Ended}
 use Rattle.meaning.specs.Usage.{usageFault}
 use Rattle.meaning.specs.State.{program}
+use Rattle.meaning.specs.Labels.{own}
 use Rattle.meaning.specs.Settle.{start}
-use Rattle.meaning.specs.Ready.{own, ready, after}
-use Rattle.meaning.specs.Run.{Result, run}
+use Rattle.meaning.specs.Ready.{ready, after}
+use Rattle.meaning.specs.Run.{RunResult, run}
 use Rattle.meaning.proofs.Computes.{computes}
 
 abbrev rows : List ℤ
@@ -36,7 +37,7 @@ unfolding computes
 first = refl
 
 -- the two orders end alike
-abbrev end : Result
+abbrev end : RunResult
 end =
     record {
       outcome = Ended;

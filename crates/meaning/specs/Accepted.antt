@@ -4,10 +4,10 @@ use mathlib.Core.Option.{none}
 use mathlib.Core.List.{List}
 use Prim.Native.Nat.{ℕ}
 use lib.IntN.{ℤ}
-use Rattle.meaning.specs.Intent.{Sheet}
+use Rattle.meaning.specs.Readings.{Sheet}
 use Rattle.meaning.specs.Sheet.{sheetFault, readings}
 use Rattle.meaning.specs.Answers.{check}
 
 -- "A table is accepted if these rules refuse nothing in it, and so is a sheet beside an accepted table"
-abbrev pub Accepted : List ℤ → Sheet → Type 0
-Accepted rows sheet = (check rows ≡ none) × ((bytes : List ℕ) × ((sheetFault rows bytes ≡ none) × (readings rows bytes ≡ sheet)))
+abbrev pub BothAccepted : List ℤ → Sheet → Type 0
+BothAccepted rows sheet = (check rows ≡ none) × ((bytes : List ℕ) × ((sheetFault rows bytes ≡ none) × (readings rows bytes ≡ sheet)))

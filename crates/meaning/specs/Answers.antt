@@ -4,11 +4,10 @@ use mathlib.Core.Option.{Option, none, some}
 use Prim.Native.Nat.{ℕ}
 use lib.IntN.{ℤ}
 use Rattle.meaning.specs.Refusals.{Refusal, Stage, firstFault}
-use Rattle.meaning.specs.Stages.{Limits, limits, Table, ofNumbers, ofBytes, rowsIn, Call, tableStages, stages}
+use Rattle.meaning.specs.Stages.{Limits, limits, Table, ofNumbers, ofBytes, rowsGiven, Call, tableStages, stages}
 use Rattle.meaning.specs.Sheet.{readings}
 use Rattle.meaning.specs.Buffers.{Buffers, encode}
-use Rattle.meaning.specs.Run as R
-use Rattle.meaning.specs.Run.{run}
+use Rattle.meaning.specs.Run.{RunResult, run}
 use Rattle.meaning.specs.declared.Answer.{Answer}
 use Rattle.meaning.specs.declared.Answer.the-variants.{Refused, Ran}
 use Rattle.meaning.specs.declared.Verdict.{Verdict}
@@ -34,7 +33,7 @@ verdictOf (some f) = Rejected (f .0) (f .1)
 -- a refusal, or a run
 pub data Result : Type 0 where
   refused : Refusal → Result
-  ran : R.Result → Result
+  ran : RunResult → Result
 
 -- by a refusal, if there is one
 abbrev pub unless : Option Refusal → Result → Result
@@ -42,8 +41,8 @@ unless none r = r
 unless (some f) r = refused f
 
 -- the run of a call
-abbrev pub runOf : Call → R.Result
-runOf c = run (rowsIn (c .table)) (readings (rowsIn (c .table)) (c .sheet)) (c .choices) (c .budget)
+abbrev pub runOf : Call → RunResult
+runOf c = run (rowsGiven (c .table)) (readings (rowsGiven (c .table)) (c .sheet)) (c .choices) (c .budget)
 
 -- the result of a call, within limits: the refusal of the first stage at fault, or else the run
 abbrev pub resultOf : Limits → Call → Result
@@ -90,4 +89,4 @@ reply t b = replyOf (t .rows) b (resultOf limits (onRows t (some b)))
 
 -- the entry for a table's bytes
 unfoldable pub replyToBytes : List ℕ → List ℕ → List ℕ → ℕ → Buffers → Reply
-replyToBytes table sheet choices budget b = replyOf (rowsIn (ofBytes table)) b (resultOf limits (onBytes table sheet choices budget (some b)))
+replyToBytes table sheet choices budget b = replyOf (rowsGiven (ofBytes table)) b (resultOf limits (onBytes table sheet choices budget (some b)))

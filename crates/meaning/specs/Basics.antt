@@ -1,4 +1,4 @@
--- Tests over lists and numbers, and the lowest number that passes one.
+-- Tests over lists and numbers, a choice between two, and the lowest number that passes a test.
 use mathlib.Core.Bool.{Bool, true, false, _&&_, _||_}
 use mathlib.Core.List.{List, [], _∷_, _++_}
 use mathlib.Core.Option.{Option, none, some}
@@ -6,7 +6,11 @@ use Prim.Native.Nat.{ℕ, zero, suc, _<_}
 use lib.IntN.{ℤ, pos, negsuc}
 use lib.Signed.{leZ}
 use lib.Dec.{eqb}
-pub use Rattle.meaning.specs.Rows.{ifElse}
+
+-- the first where the test holds, else the second
+abbrev pub ifElse {ℓ} : {A : Type ℓ} → Bool → A → A → A
+ifElse true a b = a
+ifElse false a b = b
 
 -- whether two whole numbers are equal
 abbrev pub eqZ : ℤ → ℤ → Bool
@@ -26,14 +30,9 @@ isSome (some a) = true
 
 module _ {A : Type 0} where
   -- whether some element passes a test
-  unfoldable pub any : (A → Bool) → List A → Bool
-  any p [] = false
-  any p (x ∷ xs) = p x || any p xs
-
-  -- lists one after another
-  unfoldable pub concat : List (List A) → List A
-  concat [] = []
-  concat (x ∷ xs) = x ++ concat xs
+  unfoldable pub anyPasses : (A → Bool) → List A → Bool
+  anyPasses p [] = false
+  anyPasses p (x ∷ xs) = p x || anyPasses p xs
 
   -- one more in front, if there is a list
   abbrev pub withFirst : A → Option (List A) → Option (List A)
@@ -48,11 +47,11 @@ module _ {A : Type 0} where
 
 -- whether a number is in a list
 abbrev pub among : ℕ → List ℕ → Bool
-among x l = any (eqb x) l
+among x l = anyPasses (eqb x) l
 
 -- whether two lists have a number in common
 abbrev pub common : List ℕ → List ℕ → Bool
-common l m = any (λ x. among x m) l
+common l m = anyPasses (λ x. among x m) l
 
 -- the lowest of k numbers from `at` on that passes a test
 unfoldable pub lowestFrom : (ℕ → Bool) → ℕ → ℕ → Option ℕ

@@ -6,11 +6,12 @@ use Prim.Native.Nat.{ℕ}
 use lib.IntN.{ℤ, pos}
 use lib.ListN.{length, take, drop, replicate}
 use lib.Dec.{ltb, eqb}
-use Rattle.meaning.specs.Limits.{maxRows, maxCells, maxPorts, maxCapacity}
+use Rattle.meaning.specs.Limits.{maxRows, maxCells, maxHostChannels, maxCapacity}
 use Rattle.meaning.specs.Basics.{ifElse, isSome}
 use Rattle.meaning.specs.Declarations.{capacityAt}
-use Rattle.meaning.specs.State.{Message, State}
+use Rattle.meaning.specs.State.{State}
 use Rattle.meaning.specs.Declarations.{channels}
+use Rattle.meaning.specs.Values.{Message}
 
 -- the six lent buffers
 pub record Buffers : Type 0 where
@@ -27,9 +28,9 @@ tooShort b =
     ltb (length (b .cells)) maxCells
     || ltb (length (b .marks)) maxCells
     || ltb (length (b .states)) maxRows
-    || ltb (length (b .places)) maxPorts
+    || ltb (length (b .places)) maxHostChannels
     || ltb (length (b .numbers)) maxCapacity
-    || ltb (length (b .counts)) maxPorts
+    || ltb (length (b .counts)) maxHostChannels
 
 module _ {A : Type 0} where
   -- a list at a length, cut or filled up
@@ -40,7 +41,7 @@ module _ {A : Type 0} where
   unfoldable pub lent : ℕ → A → List A → List A → List A
   lent limit d xs old = sized limit d xs ++ drop limit old
 
--- a set mark: 1 for a cell that is set, 0 for one that is not
+-- "A set mark, or mark of absence, tells whether its cell is set": 1 for a cell that is set, 0 for one that is not
 abbrev pub mark : Message → ℕ
 mark c = ifElse (isSome c) 1 0
 
@@ -75,7 +76,7 @@ encode rows s b =
       cells = lent maxCells (pos 0) (map numberIn (s .store .cells)) (b .cells);
       marks = lent maxCells 0 (map mark (s .store .cells)) (b .marks);
       states = lent maxRows 0 (s .states) (b .states);
-      places = lent maxPorts 0 (s .store .places) (b .places);
+      places = lent maxHostChannels 0 (s .store .places) (b .places);
       numbers = lent maxCapacity (pos 0) (strips (capacities rows) (s .store .outputs)) (b .numbers);
-      counts = lent maxPorts 0 (map length (s .store .outputs)) (b .counts);
+      counts = lent maxHostChannels 0 (map length (s .store .outputs)) (b .counts);
     }

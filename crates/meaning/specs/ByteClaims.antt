@@ -22,9 +22,9 @@ NoFeed t = Each (λ b. b ≢ lineFeed) t
 
 -- "Each line ends with a line feed", "Lines count from 1": line n of some bytes; what stands after the last line feed is one more line
 pub data LineIs : List ℕ → ℕ → List ℕ → Type 0 where
-  ended : {bs : List ℕ} (t more : List ℕ) → NoFeed t → bs ≡ t ++ (lineFeed ∷ more) → LineIs bs 1 (t ++ (lineFeed ∷ []))
-  unended : {bs : List ℕ} → NoFeed bs → bs ≢ [] → LineIs bs 1 bs
-  later : {bs line : List ℕ} {n : ℕ} (t more : List ℕ) → NoFeed t → bs ≡ t ++ (lineFeed ∷ more) → LineIs more n line → LineIs bs (suc n) line
+  line-ended : {bs : List ℕ} (t more : List ℕ) → NoFeed t → bs ≡ t ++ (lineFeed ∷ more) → LineIs bs 1 (t ++ (lineFeed ∷ []))
+  line-unended : {bs : List ℕ} → NoFeed bs → bs ≢ [] → LineIs bs 1 bs
+  line-later : {bs line : List ℕ} {n : ℕ} (t more : List ℕ) → NoFeed t → bs ≡ t ++ (lineFeed ∷ more) → LineIs more n line → LineIs bs (suc n) line
 
 -- "the lowest faulty line is given"
 abbrev pub LowestLine : (ℕ → Type 0) → ℕ → Type 0

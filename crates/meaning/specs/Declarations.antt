@@ -1,11 +1,28 @@
--- Declarations: the cells of a variable, the elements, role and capacity of a channel, and their numbers in row order.
+-- Declarations: how many there are, the cells of a variable, the elements, role and capacity of a channel, and their numbers in row order.
 use mathlib.Core.Bool.{Bool, false, _&&_, _||_}
 use mathlib.Core.List.{List}
 use Prim.Native.Nat.{ℕ, zero, suc, _+_}
 use lib.IntN.{ℤ}
 use lib.Dec.{ltb, eqb}
-use Rattle.meaning.specs.Rows.{ifElse, naturalAt, kindAt, declarations}
-use Rattle.meaning.specs.Basics.{allBelow}
+use Rattle.meaning.specs.Rows.{naturalAt, kindAt, rowCount}
+use Rattle.meaning.specs.Basics.{ifElse, allBelow}
+
+-- is row r of kind 1 or 2
+abbrev pub declares : List ℤ → ℕ → Bool
+declares rows r = eqb (kindAt rows r) 1 || eqb (kindAt rows r) 2
+
+-- of at most k rows from r on, the first that is no declaration
+unfoldable pub leading : List ℤ → ℕ → ℕ → ℕ
+leading rows zero r = r
+leading rows (suc k) r = let later = leading rows k (suc r) in ifElse (declares rows r) later r
+
+-- "Kinds 1 and 2 come first, and only such rows are declarations": how many there are
+unfoldable pub declarations : List ℤ → ℕ
+declarations rows = leading rows (rowCount rows) 0
+
+-- "The root is the first row after the declarations"
+unfoldable pub root : List ℤ → ℕ
+root rows = declarations rows
 
 -- the cells of a variable: the first, and how many
 pub record Variable : Type 0 where
@@ -17,7 +34,7 @@ pub record Channel : Type 0 where
   pub first : ℕ
   pub size : ℕ
   pub host : Bool
-  pub port : ℕ
+  pub number : ℕ
   pub capacity : ℕ
 
 -- a name that is no declaration of the sort named has no cell and no element
@@ -25,7 +42,7 @@ abbrev pub noVariable : Variable
 noVariable = record { first = 0; size = 0 }
 
 abbrev pub noChannel : Channel
-noChannel = record { first = 0; size = 0; host = false; port = 0; capacity = 0 }
+noChannel = record { first = 0; size = 0; host = false; number = 0; capacity = 0 }
 
 -- the sum of f over the rows below r
 unfoldable pub sumBelow : (ℕ → ℕ) → ℕ → ℕ
@@ -49,8 +66,8 @@ cellsAt rows r = ifElse (isVariable rows r) (naturalAt rows r 1) 0
 unfoldable pub elementsAt : List ℤ → ℕ → ℕ
 elementsAt rows r = ifElse (isChannel rows r) (naturalAt rows r 1) 0
 
-unfoldable pub portsAt : ℕ → List ℤ → ℕ → ℕ
-portsAt role rows r = ifElse (hasRole role rows r) 1 0
+unfoldable pub hostChannelsAt : ℕ → List ℤ → ℕ → ℕ
+hostChannelsAt role rows r = ifElse (hasRole role rows r) 1 0
 
 unfoldable pub capacityAt : List ℤ → ℕ → ℕ
 capacityAt rows r = ifElse (hasRole 2 rows r) (naturalAt rows r 3) 0
@@ -68,7 +85,7 @@ channelAt role rows r =
       first = sumBelow (elementsAt rows) r;
       size = elementsAt rows r;
       host = hasRole role rows r;
-      port = sumBelow (portsAt role rows) r;
+      number = sumBelow (hostChannelsAt role rows) r;
       capacity = capacityAt rows r;
     } in
     ifElse (hasRole 0 rows r || hasRole role rows r) c noChannel
@@ -85,11 +102,8 @@ sinkAt = channelAt 2
 unfoldable pub totalCells : List ℤ → ℕ
 totalCells rows = sumBelow (cellsAt rows) (declarations rows)
 
-unfoldable pub totalElements : List ℤ → ℕ
-totalElements rows = sumBelow (elementsAt rows) (declarations rows)
-
-unfoldable pub totalPorts : ℕ → List ℤ → ℕ
-totalPorts role rows = sumBelow (portsAt role rows) (declarations rows)
+unfoldable pub hostChannels : ℕ → List ℤ → ℕ
+hostChannels role rows = sumBelow (hostChannelsAt role rows) (declarations rows)
 
 -- the variables, in row order
 unfoldable pub variables : List ℤ → List ℕ

@@ -7,7 +7,7 @@ use lib.IntN.{ℤ}
 use lib.ListN.{getD, take, drop}
 use Rattle.meaning.specs.Basics.{allBelow}
 use Rattle.meaning.specs.Rows.{rowCount}
-use Rattle.meaning.specs.Declarations.{totalCells, totalPorts}
+use Rattle.meaning.specs.Declarations.{totalCells, hostChannels}
 use Rattle.meaning.specs.State.{State}
 use Rattle.meaning.specs.Buffers.{Buffers, decoded, capacities}
 
@@ -17,15 +17,15 @@ sumTo zero l = 0
 sumTo (suc n) [] = 0
 sumTo (suc n) (x ∷ l) = x + sumTo n l
 
--- host output channel number `port`: its count; its strip, which "follows the one before it by capacity"; and the part of the strip that it counts
+-- host output channel number `channel`: its count; its strip, which "follows the one before it by capacity"; and the part of the strip that it counts
 abbrev pub countIn : ℕ → Buffers → ℕ
-countIn port b = getD (b .counts) port 0
+countIn channel b = getD (b .counts) channel 0
 
 abbrev pub stripIn : List ℤ → ℕ → Buffers → List ℤ
-stripIn rows port b = take (getD (capacities rows) port 0) (drop (sumTo port (capacities rows)) (b .numbers))
+stripIn rows channel b = take (getD (capacities rows) channel 0) (drop (sumTo channel (capacities rows)) (b .numbers))
 
 abbrev pub givenIn : List ℤ → ℕ → Buffers → List ℤ
-givenIn rows port b = take (countIn port b) (stripIn rows port b)
+givenIn rows channel b = take (countIn channel b) (stripIn rows channel b)
 
 -- the state in the lent buffers: as many row states, cells, places and lists as the table has rows, cells and channels of role 1 and 2
 unfoldable pub decode : List ℤ → Buffers → State
@@ -34,7 +34,7 @@ decode rows b =
       states = take (rowCount rows) (b .states);
       store = record {
         cells = decoded (take (totalCells rows) (b .cells)) (take (totalCells rows) (b .marks));
-        places = take (totalPorts 1 rows) (b .places);
-        outputs = map (λ port. map some (givenIn rows port b)) (allBelow (λ port. true) (totalPorts 2 rows));
+        places = take (hostChannels 1 rows) (b .places);
+        outputs = map (λ channel. map some (givenIn rows channel b)) (allBelow (λ channel. true) (hostChannels 2 rows));
       };
     }

@@ -5,10 +5,10 @@ use mathlib.Core.List.{List, List·Memᴰ}
 use Prim.Native.Nat.{ℕ, suc, _≤_, _<_}
 use lib.IntN.{ℤ, pos, negsuc}
 use lib.Signed.{_≤ℤ_}
-use Rattle.meaning.specs.Limits.{maxCells, maxElements, maxPorts, maxCapacity, minNumber, maxNumber}
-use Rattle.meaning.specs.Rows.{rowCount, fieldAt, naturalAt, kindAt, declarations}
-use Rattle.meaning.specs.Declarations.{sumBelow, cellsAt, elementsAt, portsAt, capacityAt}
-use Rattle.meaning.specs.Kinds.{Field, unused, value, within, elements, capacity, variable, channel, reference, link, Shape, processes}
+use Rattle.meaning.specs.Limits.{maxCells, maxElements, maxHostChannels, maxCapacity, minNumber, maxNumber}
+use Rattle.meaning.specs.Rows.{rowCount, fieldAt, naturalAt, kindAt}
+use Rattle.meaning.specs.Declarations.{declarations, sumBelow, cellsAt, elementsAt, hostChannelsAt, capacityAt}
+use Rattle.meaning.specs.Kinds.{Field, unused, literalValue, within, elements, capacity, variable, channel, reference, link, Shape, processes}
 use Rattle.meaning.specs.References.{Place, fieldOf, numberOf, IsOf, IsTarget, Refers}
 
 module _ (rows : List ℤ) where
@@ -17,27 +17,27 @@ module _ (rows : List ℤ) where
   Names k z r = (z ≡ pos r) × (r < declarations rows) × (kindAt rows r ≡ k)
 
   -- what a field of row r may hold as far as 4 says
-  unfoldable pub Holds : ℕ → Field → ℤ → Type 0
-  Holds r unused z = z ≡ pos 0
-  Holds r value z = (minNumber ≤ℤ z) × (z ≤ℤ maxNumber)
-  Holds r (within lo hi) z = (lo ≤ℤ z) × (z ≤ℤ hi)
-  Holds r elements z = ((pos 1 ≤ℤ z) × (z ≤ℤ pos 64)) × ((fieldAt rows r 2 ≡ pos 0) ⊎ (z ≡ pos 1))
-  Holds r capacity z = ((pos 0 ≤ℤ z) × (z ≤ℤ pos 256)) × ((fieldAt rows r 2 ≡ pos 2) ⊎ (z ≡ pos 0))
-  Holds r variable z = (q : ℕ) × Names 1 z q
-  Holds r (channel roles) z = (q : ℕ) × Names 2 z q × ((role : ℕ) × List·Memᴰ role roles × (naturalAt rows q 2 ≡ role))
-  Holds r (reference kinds) z = Unit {0}
-  Holds r (link kinds) z = Unit {0}
+  unfoldable pub MayHold : ℕ → Field → ℤ → Type 0
+  MayHold r unused z = z ≡ pos 0
+  MayHold r literalValue z = (minNumber ≤ℤ z) × (z ≤ℤ maxNumber)
+  MayHold r (within lo hi) z = (lo ≤ℤ z) × (z ≤ℤ hi)
+  MayHold r elements z = ((pos 1 ≤ℤ z) × (z ≤ℤ pos 64)) × ((fieldAt rows r 2 ≡ pos 0) ⊎ (z ≡ pos 1))
+  MayHold r capacity z = ((pos 0 ≤ℤ z) × (z ≤ℤ pos 256)) × ((fieldAt rows r 2 ≡ pos 2) ⊎ (z ≡ pos 0))
+  MayHold r variable z = (q : ℕ) × Names 1 z q
+  MayHold r (channel roles) z = (q : ℕ) × Names 2 z q × ((role : ℕ) × List·Memᴰ role roles × (naturalAt rows q 2 ≡ role))
+  MayHold r (reference kinds) z = Unit {0}
+  MayHold r (link kinds) z = Unit {0}
 
   -- 4: a row of a known kind, a declaration only where they come first, fields and names right, unused fields 0
   unfoldable pub WellFormed : ℕ → Type 0
   WellFormed r =
       (((kindAt rows r ≡ 1) ⊎ (kindAt rows r ≡ 2)) → r < declarations rows)
-      × ((s : Shape) × IsOf rows r s × Holds r (s .a) (fieldAt rows r 1) × Holds r (s .b) (fieldAt rows r 2) × Holds r (s .c) (fieldAt rows r 3))
+      × ((s : Shape) × IsOf rows r s × MayHold r (s .a) (fieldAt rows r 1) × MayHold r (s .b) (fieldAt rows r 2) × MayHold r (s .c) (fieldAt rows r 3))
 
   -- what a field of row r may hold as far as 5 says
   unfoldable pub Leads : ℕ → Field → ℤ → Type 0
   Leads r unused z = Unit {0}
-  Leads r value z = Unit {0}
+  Leads r literalValue z = Unit {0}
   Leads r (within lo hi) z = Unit {0}
   Leads r elements z = Unit {0}
   Leads r capacity z = Unit {0}
@@ -68,6 +68,6 @@ module _ (rows : List ℤ) where
   WithinLimits r =
       (sumBelow (cellsAt rows) (suc r) ≤ maxCells)
       × (sumBelow (elementsAt rows) (suc r) ≤ maxElements)
-      × (sumBelow (portsAt 1 rows) (suc r) ≤ maxPorts)
-      × (sumBelow (portsAt 2 rows) (suc r) ≤ maxPorts)
+      × (sumBelow (hostChannelsAt 1 rows) (suc r) ≤ maxHostChannels)
+      × (sumBelow (hostChannelsAt 2 rows) (suc r) ≤ maxHostChannels)
       × (sumBelow (capacityAt rows) (suc r) ≤ maxCapacity)

@@ -2,18 +2,18 @@
 use mathlib.Core.Option.{Option, none, some}
 use mathlib.Core.List.{List, [], _∷_, _++_}
 use Prim.Native.Nat.{ℕ, suc, _+_}
-use lib.ListN.{length, getD}
+use lib.ListN.{length, getD, getElem?}
 use lib.Dec.{ltb}
 use Rattle.meaning.specs.declared.Value.{Value}
 use Rattle.meaning.specs.declared.Value.the-variants.{Number, Missing}
 use Rattle.meaning.specs.declared.Index.{Index}
 use Rattle.meaning.specs.declared.Index.the-variants.{At, Fails}
-use Rattle.meaning.specs.Rows.{ifElse}
+use Rattle.meaning.specs.Basics.{ifElse}
 use Rattle.meaning.specs.Declarations.{Channel}
-use Rattle.meaning.specs.Tree.{Receive, IfChoice, AltOption, Action, stop, skip, sequence, parallel, assign, receive, send, conditional, loop, alternation}
-use Rattle.meaning.specs.Values.{isTrue, value, index}
-use Rattle.meaning.specs.State.{Message, Store, Write, writeCell, writePlace, writeOutput}
-pub use Rattle.meaning.specs.Readings.{Sheet, entry}
+use Rattle.meaning.specs.Tree.{ChannelInput, IfChoice, AltOption, Action, stop, skip, sequence, parallel, assign, input, output, conditional, loop, alternation}
+use Rattle.meaning.specs.Values.{Message, isTrue, value, index}
+use Rattle.meaning.specs.State.{Store, Write, writeCell, writePlace, writeOutput}
+use Rattle.meaning.specs.Readings.{Sheet}
 
 -- what an option of an ALT offers: its row, and the row of its process; with what it writes, or on which element into which cell
 pub data Offer : Type 0 where
@@ -49,91 +49,91 @@ choosing r process (Missing k) later = halts r k
 choosing r process (Number x) later = ifElse (isTrue x) (moves process 1 []) later
 
 -- "a host write, if capacity is left"
-abbrev pub hosting : ℕ → Channel → List Message → Message → Intent
-hosting r c l v = ifElse (ltb (length l) (c .capacity)) (moves r 2 (writeOutput (c .port) (l ++ (v ∷ [])) ∷ [])) waits
+abbrev pub hostWrite : ℕ → Channel → List Message → Message → Intent
+hostWrite r c l v = ifElse (ltb (length l) (c .capacity)) (moves r 2 (writeOutput (c .number) (l ++ (v ∷ [])) ∷ [])) waits
 
 -- "output takes channel subscript, then expression"
-abbrev pub sending : ℕ → Channel → List (List Message) → Index → Value → Intent
-sending r c outputs (Fails k) v = halts r k
-sending r c outputs (At e) (Missing k) = halts r k
-sending r c outputs (At e) (Number v) = ifElse (c .host) (hosting r c (getD outputs (c .port) []) (some v)) (outputsTo e (some v))
+abbrev pub outputting : ℕ → Channel → List (List Message) → Index → Value → Intent
+outputting r c outputs (Fails k) v = halts r k
+outputting r c outputs (At e) (Missing k) = halts r k
+outputting r c outputs (At e) (Number v) = ifElse (c .host) (hostWrite r c (getD outputs (c .number) []) (some v)) (outputsTo e (some v))
 
 -- what an input comes to: a reason for no step, nothing yet, a host read, an input on an element into a cell
-pub data Reception : Type 0 where
-  lacks : ℕ → Reception
-  later : Reception
-  reads : List Write → Reception
-  fromElement : ℕ → ℕ → Reception
+pub data InputResult : Type 0 where
+  lacks : ℕ → InputResult
+  notYet : InputResult
+  reads : List Write → InputResult
+  fromElement : ℕ → ℕ → InputResult
 
 -- "a host read, if values are left": an absent reading makes the target unset
-abbrev pub reading : ℕ → ℕ → ℕ → Option Message → Reception
-reading port n a none = later
-reading port n a (some v) = reads (writeCell a v ∷ writePlace port (suc n) ∷ [])
+abbrev pub hostRead : ℕ → ℕ → ℕ → Option Message → InputResult
+hostRead channel n a none = notYet
+hostRead channel n a (some v) = reads (writeCell a v ∷ writePlace channel (suc n) ∷ [])
 
 -- "Input takes channel subscript, then target subscript"
-abbrev pub receiving : Sheet → List ℕ → Channel → Index → Index → Reception
-receiving sheet places c (Fails k) t = lacks k
-receiving sheet places c (At e) (Fails k) = lacks k
-receiving sheet places c (At e) (At a) =
-    let n = getD places (c .port) 0 in
-    ifElse (c .host) (reading (c .port) n a (entry (getD sheet (c .port) []) n)) (fromElement e a)
+abbrev pub inputResultOf : Sheet → List ℕ → Channel → Index → Index → InputResult
+inputResultOf sheet places c (Fails k) t = lacks k
+inputResultOf sheet places c (At e) (Fails k) = lacks k
+inputResultOf sheet places c (At e) (At a) =
+    let n = getD places (c .number) 0 in
+    ifElse (c .host) (hostRead (c .number) n a (getElem? (getD sheet (c .number) []) n)) (fromElement e a)
 
-abbrev pub inputting : ℕ → Reception → Intent
+abbrev pub inputting : ℕ → InputResult → Intent
 inputting r (lacks k) = halts r k
-inputting r later = waits
+inputting r notYet = waits
 inputting r (reads ws) = moves r 2 ws
 inputting r (fromElement e a) = inputsFrom e a
 
 -- the options of an ALT looked at: a reason for no step, or what they offer
-pub data Looked : Type 0 where
-  fails : ℕ → Looked
-  offers : List Offer → Looked
+pub data OptionsResult : Type 0 where
+  fails : ℕ → OptionsResult
+  offers : List Offer → OptionsResult
 
-abbrev pub adding : Offer → Looked → Looked
+abbrev pub adding : Offer → OptionsResult → OptionsResult
 adding o (fails k) = fails k
 adding o (offers l) = offers (o ∷ l)
 
-abbrev pub admitting : ℕ → ℕ → Reception → Looked → Looked
+abbrev pub admitting : ℕ → ℕ → InputResult → OptionsResult → OptionsResult
 admitting j process (lacks k) l = fails k
-admitting j process later l = l
+admitting j process notYet l = l
 admitting j process (reads ws) l = adding (openOffer j process ws) l
 admitting j process (fromElement e a) l = adding (inputOffer j process e a) l
 
 -- an option whose boolean is true: SKIP, or an input
-abbrev pub opening : ℕ → ℕ → Option Reception → Looked → Looked
+abbrev pub opening : ℕ → ℕ → Option InputResult → OptionsResult → OptionsResult
 opening j process none l = adding (openOffer j process []) l
 opening j process (some i) l = admitting j process i l
 
 -- "boolean first; if false the rest of that option isn't looked at"
-abbrev pub guarding : ℕ → ℕ → Value → Option Reception → Looked → Looked
+abbrev pub guarding : ℕ → ℕ → Value → Option InputResult → OptionsResult → OptionsResult
 guarding j process (Missing k) i l = fails k
 guarding j process (Number x) i l = ifElse (isTrue x) (opening j process i l) l
 
-abbrev pub selecting : ℕ → Looked → Intent
+abbrev pub selecting : ℕ → OptionsResult → Intent
 selecting r (fails k) = halts r k
 selecting r (offers l) = selects l
 
 module _ (sheet : Sheet) where
-  unfoldable pub reception : Receive → Store → Reception
-  reception i x =
-      receiving sheet (x .places) (i .channel)
+  unfoldable pub inputResult : ChannelInput → Store → InputResult
+  inputResult i x =
+      inputResultOf sheet (x .places) (i .channel)
       (index (x .cells) (i .channel .first) (i .channel .size) (i .subscript))
       (index (x .cells) (i .target .name .first) (i .target .name .size) (i .target .subscript))
 
-  abbrev pub receptionIf : Option Receive → Store → Option Reception
-  receptionIf none x = none
-  receptionIf (some i) x = some (reception i x)
+  abbrev pub inputResultIf : Option ChannelInput → Store → Option InputResult
+  inputResultIf none x = none
+  inputResultIf (some i) x = some (inputResult i x)
 
   abbrev pub tests : ℕ → List IfChoice → Store → Intent
   tests r [] x = waits
   tests r (t ∷ l) x = let later = tests r l x in choosing r (t .process) (value (x .cells) (t .boolean)) later
 
   -- "In an ALT the options are looked at in order"
-  abbrev pub looks : List AltOption → Store → Looked
-  looks [] x = offers []
-  looks (b ∷ l) x =
-      let i = receptionIf (b .guard .input) x in
-      let later = looks l x in
+  abbrev pub optionsResult : List AltOption → Store → OptionsResult
+  optionsResult [] x = offers []
+  optionsResult (b ∷ l) x =
+      let i = inputResultIf (b .guard .input) x in
+      let later = optionsResult l x in
       guarding (b .row) (b .process) (value (x .cells) (b .guard .boolean)) i later
 
   -- what the action of row r would do
@@ -143,8 +143,8 @@ module _ (sheet : Sheet) where
   intent sequence r x = waits
   intent parallel r x = waits
   intent (assign v e f) r x = assigning r (index (x .cells) (v .first) (v .size) e) (value (x .cells) f)
-  intent (receive i) r x = inputting r (reception i x)
-  intent (send c e f) r x = sending r c (x .outputs) (index (x .cells) (c .first) (c .size) e) (value (x .cells) f)
+  intent (input i) r x = inputting r (inputResult i x)
+  intent (output c e f) r x = outputting r c (x .outputs) (index (x .cells) (c .first) (c .size) e) (value (x .cells) f)
   intent (conditional ts) r x = tests r ts x
   intent (loop e b) r x = testing r b (value (x .cells) e)
-  intent (alternation bs) r x = selecting r (looks bs x)
+  intent (alternation bs) r x = selecting r (optionsResult bs x)

@@ -11,7 +11,7 @@ pub data Field : Type 0 where
   -- "A field not named below is 0"
   unused : Field
   -- a literal's value, any number of 32 bits
-  value : Field
+  literalValue : Field
   -- a number, from and to
   within : ℤ → ℤ → Field
   -- a channel's elements: 1 to 64, for role 1 and 2 only 1
@@ -51,18 +51,18 @@ abbrev pub process : Field
 process = reference processes
 
 -- a number from lo to hi, both not negative
-abbrev pub range : ℕ → ℕ → Field
-range lo hi = within (pos lo) (pos hi)
+abbrev pub fromTo : ℕ → ℕ → Field
+fromTo lo hi = within (pos lo) (pos hi)
 
 -- the table of kinds
 unfoldable pub shapes : List Shape
 shapes =
-    shape 1 (range 1 64) unused unused
-    ∷ shape 2 elements (range 0 2) capacity
-    ∷ shape 10 value unused unused
+    shape 1 (fromTo 1 64) unused unused
+    ∷ shape 2 elements (fromTo 0 2) capacity
+    ∷ shape 10 literalValue unused unused
     ∷ shape 11 variable expression unused
-    ∷ shape 12 (range 0 1) expression unused
-    ∷ shape 13 (range 0 15) expression expression
+    ∷ shape 12 (fromTo 0 1) expression unused
+    ∷ shape 13 (fromTo 0 15) expression expression
     ∷ shape 20 unused unused unused
     ∷ shape 21 unused unused unused
     ∷ shape 22 variable expression expression

@@ -6,16 +6,16 @@ use Prim.Native.Nat.{ℕ, suc, _≤_}
 pub data Label : Type 0 where
   own : ℕ → Label
   pass : ℕ → ℕ → Label
-  take : ℕ → ℕ → Label
-  takeFrom : ℕ → ℕ → ℕ → Label
+  takeOption : ℕ → ℕ → Label
+  takeWithOutput : ℕ → ℕ → ℕ → Label
   deriving Discrete as label-discrete
 
 -- "Ready steps are ordered by row": the row itself; the input of a communication; the option for an ALT
 abbrev pub orderRow : Label → ℕ
 orderRow (own r) = r
 orderRow (pass i o) = i
-orderRow (take r j) = j
-orderRow (takeFrom r j o) = j
+orderRow (takeOption r j) = j
+orderRow (takeWithOutput r j o) = j
 
 -- each number is above the one before it
 abbrev pub Ascending : ℕ → List ℕ → Type 0

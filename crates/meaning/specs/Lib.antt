@@ -3,7 +3,7 @@
 pub mod Basics
 pub mod Texts
 pub mod Limits
--- The table: refusals, numbers and lines, refusals 2 and 3, rows, kinds, references; refusals 4, 5 and 6 as statements and then as tests; the tree
+-- The table: refusals, numbers and lines, refusals 2 and 3, rows, kinds, declarations, references
 pub mod Refusals
 pub mod Numerals
 pub mod Lines
@@ -11,14 +11,15 @@ pub mod TableBytes
 pub mod Rows
 pub mod Kinds
 pub mod Declarations
+pub mod Nodes
 pub mod References
+-- What is right in a table, with no test and no order of looking: refusals 4, 5 and 6, and usage in a PAR, refusals 7, 8 and 9
 pub mod Faults
-pub mod Verdict
-pub mod StageClaims
-pub mod Tree
-pub mod PartClaims
--- Usage in a PAR: refusals 7, 8 and 9 as relations and then as tests
 pub mod Clash
+-- The same as tests, and the tree
+pub mod Verdict
+pub mod HigherRows
+pub mod Tree
 pub mod Usage
 -- Values
 pub mod Values
@@ -40,11 +41,14 @@ pub mod Buffers
 pub mod Stages
 pub mod Decode
 pub mod Answers
+pub mod Accepted
 -- A run on paper
 pub mod Printing
 pub mod Runner
 pub mod Marked
--- The same as statements, with no test and no order of looking
+-- What is claimed of the definitions, each claim a type that a proof fills
 pub mod PrintedForms
+pub mod PrintedClaims
 pub mod ByteClaims
-pub mod Accepted
+pub mod StageClaims
+pub mod ContentClaims

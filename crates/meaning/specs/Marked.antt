@@ -10,20 +10,21 @@ use Rattle.meaning.specs.declared.Outcome.{Outcome}
 use Rattle.meaning.specs.declared.Outcome.the-variants.{Ended, Stuck, Broken}
 use Rattle.meaning.specs.Texts.{bytes}
 use Rattle.meaning.specs.TableBytes.{header}
-use Rattle.meaning.specs.State.{Message, State}
+use Rattle.meaning.specs.Values.{Message}
+use Rattle.meaning.specs.State.{State}
 use Rattle.meaning.specs.Answers.{Result, refused, ran, resultOfBytes}
 use Rattle.meaning.specs.Runner.{separator, runner}
 
 -- a sheet: the table's rows and the readings as texts, the budget, and what is expected; what the sheet runner prints for it
-pub record Entry : Type 0 where
+pub record MarkedCase : Type 0 where
   pub rows : String
   pub readings : String
   pub budget : ℕ
   pub expected : Result
   pub prints : String
 
-abbrev pub entry : String → String → ℕ → Result → String → Entry
-entry rows readings budget expected prints = record { rows = rows; readings = readings; budget = budget; expected = expected; prints = prints }
+abbrev pub markedCase : String → String → ℕ → Result → String → MarkedCase
+markedCase rows readings budget expected prints = record { rows = rows; readings = readings; budget = budget; expected = expected; prints = prints }
 
 -- a state by its row states, cells, places in the readings and output lists
 abbrev pub left : List ℕ → List Message → List ℕ → List (List Message) → State
@@ -33,88 +34,88 @@ left states cells places outputs = record { states = states; store = record { ce
 abbrev pub atEnd : Outcome → ℕ → State → Result
 atEnd outcome steps state = ran (record { outcome = outcome; steps = steps; state = state })
 
--- the answer to an entry, with no choices
-unfoldable pub answered : Entry → Result
+-- the answer to a case, with no choices
+unfoldable pub answered : MarkedCase → Result
 answered e = resultOfBytes (header ++ bytes (e .rows)) (bytes (e .readings)) [] (e .budget)
 
 -- what the sheet runner prints for an entry: table, the line `=`, readings
-unfoldable pub printedFor : Entry → List ℕ
+unfoldable pub printedFor : MarkedCase → List ℕ
 printedFor e = runner ((header ++ bytes (e .rows)) ++ (separator ++ bytes (e .readings)))
 
-abbrev pub entries : List Entry
-entries =
+abbrev pub markedCases : List MarkedCase
+markedCases =
     -- the run on paper
-    entry "2,1,1,0\n2,1,2,4\n1,1,0,0\n30,4,0,0\n40,5,9,0\n23,0,6,7\n10,0,0,0\n11,2,8,0\n10,0,0,0\n40,10,-1,0\n24,1,11,12\n10,0,0,0\n13,0,13,15\n11,2,14,0\n10,0,0,0\n10,5,0,0\n"
+    markedCase "2,1,1,0\n2,1,2,4\n1,1,0,0\n30,4,0,0\n40,5,9,0\n23,0,6,7\n10,0,0,0\n11,2,8,0\n10,0,0,0\n40,10,-1,0\n24,1,11,12\n10,0,0,0\n13,0,13,15\n11,2,14,0\n10,0,0,0\n10,5,0,0\n"
     "0\n120\n" 65536
     (atEnd Ended 2 (left (0 ∷ 0 ∷ 0 ∷ 2 ∷ 0 ∷ 2 ∷ 0 ∷ 0 ∷ 0 ∷ 0 ∷ 2 ∷ 0 ∷ 0 ∷ 0 ∷ 0 ∷ 0 ∷ []) (some (pos 120) ∷ []) (1 ∷ []) ((some (pos 125) ∷ []) ∷ [])))
     "what,name,at,value\nended,0,0,2\nvar,2,0,120\nout,1,0,125\n"
     -- the same with an absent reading
-    ∷ entry "2,1,1,0\n2,1,2,4\n1,1,0,0\n30,4,0,0\n40,5,9,0\n23,0,6,7\n10,0,0,0\n11,2,8,0\n10,0,0,0\n40,10,-1,0\n24,1,11,12\n10,0,0,0\n13,0,13,15\n11,2,14,0\n10,0,0,0\n10,5,0,0\n"
+    ∷ markedCase "2,1,1,0\n2,1,2,4\n1,1,0,0\n30,4,0,0\n40,5,9,0\n23,0,6,7\n10,0,0,0\n11,2,8,0\n10,0,0,0\n40,10,-1,0\n24,1,11,12\n10,0,0,0\n13,0,13,15\n11,2,14,0\n10,0,0,0\n10,5,0,0\n"
     "0\n\n" 65536
     (atEnd Broken 2 (left (0 ∷ 0 ∷ 0 ∷ 1 ∷ 0 ∷ 2 ∷ 0 ∷ 0 ∷ 0 ∷ 0 ∷ 11 ∷ 0 ∷ 0 ∷ 0 ∷ 0 ∷ 0 ∷ []) (none ∷ []) (1 ∷ []) ([] ∷ [])))
     "what,name,at,value\nbroken,0,0,2\nvar,2,0,\nstop,10,0,1\n"
     -- −7 / 2 is −3
-    ∷ entry "1,1,0,0\n22,0,2,3\n10,0,0,0\n13,3,4,5\n10,-7,0,0\n10,2,0,0\n"
+    ∷ markedCase "1,1,0,0\n22,0,2,3\n10,0,0,0\n13,3,4,5\n10,-7,0,0\n10,2,0,0\n"
     "\n" 65536
     (atEnd Ended 1 (left (0 ∷ 2 ∷ 0 ∷ 0 ∷ 0 ∷ 0 ∷ []) (some (negsuc 2) ∷ []) [] []))
     "what,name,at,value\nended,0,0,1\nvar,0,0,-3\n"
     -- −7 REM 2 is −1
-    ∷ entry "1,1,0,0\n22,0,2,3\n10,0,0,0\n13,4,4,5\n10,-7,0,0\n10,2,0,0\n"
+    ∷ markedCase "1,1,0,0\n22,0,2,3\n10,0,0,0\n13,4,4,5\n10,-7,0,0\n10,2,0,0\n"
     "\n" 65536
     (atEnd Ended 1 (left (0 ∷ 2 ∷ 0 ∷ 0 ∷ 0 ∷ 0 ∷ []) (some (negsuc 0) ∷ []) [] []))
     "what,name,at,value\nended,0,0,1\nvar,0,0,-1\n"
     -- −2147483648 REM −1 is 0
-    ∷ entry "1,1,0,0\n22,0,2,3\n10,0,0,0\n13,4,4,5\n10,-2147483648,0,0\n10,-1,0,0\n"
+    ∷ markedCase "1,1,0,0\n22,0,2,3\n10,0,0,0\n13,4,4,5\n10,-2147483648,0,0\n10,-1,0,0\n"
     "\n" 65536
     (atEnd Ended 1 (left (0 ∷ 2 ∷ 0 ∷ 0 ∷ 0 ∷ 0 ∷ []) (some (pos 0) ∷ []) [] []))
     "what,name,at,value\nended,0,0,1\nvar,0,0,0\n"
     -- with / reason 3
-    ∷ entry "1,1,0,0\n22,0,2,3\n10,0,0,0\n13,3,4,5\n10,-2147483648,0,0\n10,-1,0,0\n"
+    ∷ markedCase "1,1,0,0\n22,0,2,3\n10,0,0,0\n13,3,4,5\n10,-2147483648,0,0\n10,-1,0,0\n"
     "\n" 65536
     (atEnd Broken 1 (left (0 ∷ 13 ∷ 0 ∷ 0 ∷ 0 ∷ 0 ∷ []) (none ∷ []) [] []))
     "what,name,at,value\nbroken,0,0,1\nvar,0,0,\nstop,1,0,3\n"
     -- 2147483647 + 1 reason 3
-    ∷ entry "1,1,0,0\n22,0,2,3\n10,0,0,0\n13,0,4,5\n10,2147483647,0,0\n10,1,0,0\n"
+    ∷ markedCase "1,1,0,0\n22,0,2,3\n10,0,0,0\n13,0,4,5\n10,2147483647,0,0\n10,1,0,0\n"
     "\n" 65536
     (atEnd Broken 1 (left (0 ∷ 13 ∷ 0 ∷ 0 ∷ 0 ∷ 0 ∷ []) (none ∷ []) [] []))
     "what,name,at,value\nbroken,0,0,1\nvar,0,0,\nstop,1,0,3\n"
     -- PLUS gives −2147483648
-    ∷ entry "1,1,0,0\n22,0,2,3\n10,0,0,0\n13,5,4,5\n10,2147483647,0,0\n10,1,0,0\n"
+    ∷ markedCase "1,1,0,0\n22,0,2,3\n10,0,0,0\n13,5,4,5\n10,2147483647,0,0\n10,1,0,0\n"
     "\n" 65536
     (atEnd Ended 1 (left (0 ∷ 2 ∷ 0 ∷ 0 ∷ 0 ∷ 0 ∷ []) (some (negsuc 2147483647) ∷ []) [] []))
     "what,name,at,value\nended,0,0,1\nvar,0,0,-2147483648\n"
     -- 0 AND (1/0) is 0
-    ∷ entry "1,1,0,0\n22,0,2,3\n10,0,0,0\n13,14,4,5\n10,0,0,0\n13,3,6,7\n10,1,0,0\n10,0,0,0\n"
+    ∷ markedCase "1,1,0,0\n22,0,2,3\n10,0,0,0\n13,14,4,5\n10,0,0,0\n13,3,6,7\n10,1,0,0\n10,0,0,0\n"
     "\n" 65536
     (atEnd Ended 1 (left (0 ∷ 2 ∷ 0 ∷ 0 ∷ 0 ∷ 0 ∷ 0 ∷ 0 ∷ []) (some (pos 0) ∷ []) [] []))
     "what,name,at,value\nended,0,0,1\nvar,0,0,0\n"
     -- PAR of x:=1 and y:=x is 7
-    ∷ entry "1,1,0,0\n1,1,0,0\n31,3,0,0\n40,4,7,0\n22,0,5,6\n10,0,0,0\n10,1,0,0\n40,8,-1,0\n22,1,9,10\n10,0,0,0\n11,0,11,0\n10,0,0,0\n"
+    ∷ markedCase "1,1,0,0\n1,1,0,0\n31,3,0,0\n40,4,7,0\n22,0,5,6\n10,0,0,0\n10,1,0,0\n40,8,-1,0\n22,1,9,10\n10,0,0,0\n11,0,11,0\n10,0,0,0\n"
     "\n" 65536
     (refused (7, 2))
     "refused,7,2,0\n"
     -- PAR of a[0]:=1 and a[1]:=2 is accepted
-    ∷ entry "1,2,0,0\n31,2,0,0\n40,3,6,0\n22,0,4,5\n10,0,0,0\n10,1,0,0\n40,7,-1,0\n22,0,8,9\n10,1,0,0\n10,2,0,0\n"
+    ∷ markedCase "1,2,0,0\n31,2,0,0\n40,3,6,0\n22,0,4,5\n10,0,0,0\n10,1,0,0\n40,7,-1,0\n22,0,8,9\n10,1,0,0\n10,2,0,0\n"
     "\n" 65536
     (atEnd Ended 2 (left (0 ∷ 2 ∷ 0 ∷ 2 ∷ 0 ∷ 0 ∷ 0 ∷ 2 ∷ 0 ∷ 0 ∷ []) (some (pos 1) ∷ some (pos 2) ∷ []) [] []))
     "what,name,at,value\nended,0,0,2\nvar,0,0,1\nvar,0,1,2\n"
     -- PAR of c!1 and c?x ends in 1 step
-    ∷ entry "1,1,0,0\n2,1,0,0\n31,3,0,0\n40,4,7,0\n24,1,5,6\n10,0,0,0\n10,1,0,0\n40,8,-1,0\n23,1,9,10\n10,0,0,0\n11,0,11,0\n10,0,0,0\n"
+    ∷ markedCase "1,1,0,0\n2,1,0,0\n31,3,0,0\n40,4,7,0\n24,1,5,6\n10,0,0,0\n10,1,0,0\n40,8,-1,0\n23,1,9,10\n10,0,0,0\n11,0,11,0\n10,0,0,0\n"
     "\n" 65536
     (atEnd Ended 1 (left (0 ∷ 0 ∷ 2 ∷ 0 ∷ 2 ∷ 0 ∷ 0 ∷ 0 ∷ 2 ∷ 0 ∷ 0 ∷ 0 ∷ []) (some (pos 1) ∷ []) [] []))
     "what,name,at,value\nended,0,0,1\nvar,0,0,1\n"
     -- SEQ of the same is stuck at 0
-    ∷ entry "1,1,0,0\n2,1,0,0\n30,3,0,0\n40,4,7,0\n24,1,5,6\n10,0,0,0\n10,1,0,0\n40,8,-1,0\n23,1,9,10\n10,0,0,0\n11,0,11,0\n10,0,0,0\n"
+    ∷ markedCase "1,1,0,0\n2,1,0,0\n30,3,0,0\n40,4,7,0\n24,1,5,6\n10,0,0,0\n10,1,0,0\n40,8,-1,0\n23,1,9,10\n10,0,0,0\n11,0,11,0\n10,0,0,0\n"
     "\n" 65536
     (atEnd Stuck 0 (left (0 ∷ 0 ∷ 1 ∷ 0 ∷ 1 ∷ 0 ∷ 0 ∷ 0 ∷ 0 ∷ 0 ∷ 0 ∷ 0 ∷ []) (none ∷ []) [] []))
     "what,name,at,value\nstuck,0,0,0\nvar,0,0,\n"
     -- An empty PAR with budget 0 is ended
-    ∷ entry "31,-1,0,0\n"
+    ∷ markedCase "31,-1,0,0\n"
     "\n" 0
     (atEnd Ended 0 (left (2 ∷ []) [] [] []))
     "what,name,at,value\nended,0,0,0\n"
     ∷ []
 
--- every entry is answered as the paper expects, and printed so byte for byte
+-- every case is answered as the paper expects, and printed so byte for byte
 abbrev pub MarkedCases : Type 0
-MarkedCases = (map answered entries ≡ map (λ (e : Entry). e .expected) entries) × (map printedFor entries ≡ map (λ (e : Entry). bytes (e .prints)) entries)
+MarkedCases = (map answered markedCases ≡ map (λ (e : MarkedCase). e .expected) markedCases) × (map printedFor markedCases ≡ map (λ (e : MarkedCase). bytes (e .prints)) markedCases)

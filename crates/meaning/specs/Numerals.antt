@@ -1,29 +1,27 @@
 -- Whole numbers in base ten ("from −2147483648 to 2147483647, with no leading zeros, no plus and no `-0`").
-use mathlib.Core.Path.{_≡_}
 use mathlib.Core.Bool.{Bool, _&&_}
 use mathlib.Core.List.{List, [], _∷_}
 use mathlib.Core.Option.{Option, none, some}
-use Prim.Native.Nat.{ℕ, zero, suc, _+_, _-_, _*_, _/_, _%_, _<_}
+use Prim.Native.Nat.{ℕ, zero, suc, _+_, _-_, _*_, _/_, _%_}
 use lib.IntN.{ℤ, pos, negsuc}
-use lib.Signed.{mag}
 use lib.Dec.{eqb, leb, ltb}
-use Rattle.meaning.specs.Texts.{hyphen, digit0}
 use Rattle.meaning.specs.Basics.{ifElse}
+use Rattle.meaning.specs.Texts.{hyphen, digit0}
 
 -- whether a byte is one of `0` to `9`
 abbrev pub isDigit : ℕ → Bool
 isDigit b = leb digit0 b && leb b (digit0 + 9)
 
 -- the number that digits add to one read so far
-unfoldable pub digits : ℕ → List ℕ → Option ℕ
-digits acc [] = some acc
-digits acc (b ∷ bs) = let rest = digits (acc * 10 + (b - digit0)) bs in ifElse (isDigit b) rest none
+unfoldable pub digitsValue : ℕ → List ℕ → Option ℕ
+digitsValue acc [] = some acc
+digitsValue acc (b ∷ bs) = let rest = digitsValue (acc * 10 + (b - digit0)) bs in ifElse (isDigit b) rest none
 
 -- digits with no leading zero, any number of them but none
 unfoldable pub natural : List ℕ → Option ℕ
 natural [] = none
-natural (b ∷ []) = digits 0 (b ∷ [])
-natural (b ∷ c ∷ cs) = let more = digits 0 (b ∷ c ∷ cs) in ifElse (eqb b digit0) none more
+natural (b ∷ []) = digitsValue 0 (b ∷ [])
+natural (b ∷ c ∷ cs) = let more = digitsValue 0 (b ∷ c ∷ cs) in ifElse (eqb b digit0) none more
 
 -- a number without a sign, if 32 signed bits hold it
 abbrev pub unsigned : Option ℕ → Option ℤ
@@ -56,11 +54,3 @@ decimal n = digitsOnto (suc n) n []
 unfoldable pub printed : ℤ → List ℕ
 printed (pos n) = decimal n
 printed (negsuc n) = hyphen ∷ decimal (suc n)
-
--- a printed number is read as itself
-unfoldable pub ReadsBack : Type 0
-ReadsBack = (z : ℤ) → mag z < 2147483648 → number (printed z) ≡ some z
-
--- a field that is read as a number is that number printed: no number has two forms
-unfoldable pub OneForm : Type 0
-OneForm = (bs : List ℕ) (z : ℤ) → number bs ≡ some z → bs ≡ printed z

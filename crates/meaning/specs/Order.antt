@@ -10,7 +10,7 @@ use lib.ListN.{length, getD, set, replicate, drop}
 use lib.Dec.{leb, eqb}
 use Rattle.meaning.specs.declared.Outcome.{Outcome}
 use Rattle.meaning.specs.declared.Outcome.the-variants.{Ended, Stuck, Broken}
-use Rattle.meaning.specs.Rows.{ifElse}
+use Rattle.meaning.specs.Basics.{ifElse}
 use Rattle.meaning.specs.Tree.{Process}
 use Rattle.meaning.specs.State.{State, Program, program, whole, anyOf}
 use Rattle.meaning.specs.Labels.{Label, orderRow, Ascending}
@@ -26,7 +26,7 @@ isStopped n = leb 10 n
 unfoldable pub outcomeAtRest : Program → State → Outcome
 outcomeAtRest P s = ifElse (eqb (getD (s .states) (P .root) 0) 2) Ended (ifElse (anyOf isStopped (s .states)) Broken Stuck)
 
--- "The choice for a step is divided by the number of ready steps, and the remainder picks, from 0. When the list is used up, 0 is meant"
+-- "Choices are 16-bit numbers. The choice for a step is divided by the number of ready steps, and the remainder picks, from 0. When the list is used up, 0 is meant"
 unfoldable pub chosenStep : List ℕ → Label → List Label → Label
 chosenStep choices x l = getD (x ∷ l) (getD choices 0 0 % length (x ∷ l)) x
 
@@ -46,7 +46,7 @@ module _ (P : Program) where
     -- "Each step is ready in the state that the one before it left, after settling, and nothing else changes that state"
     pub data Order : State → List Label → State → Type 0 where
       halt : {s : State} → Order s [] s
-      then : {s t u : State} {x : Label} {l : List Label} → Step P sheet s x t → Order t l u → Order s (x ∷ l) u
+      next-step : {s t u : State} {x : Label} {l : List Label} → Step P sheet s x t → Order t l u → Order s (x ∷ l) u
 
     -- "At rest no step is ready"
     abbrev pub Rest : State → Type 0

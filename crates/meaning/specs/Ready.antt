@@ -5,12 +5,14 @@ use mathlib.Core.List.{List, [], _∷_, _++_, map}
 use Prim.Native.Nat.{ℕ, zero, suc}
 use lib.ListN.{length, getD}
 use lib.Dec.{eqb}
-use Rattle.meaning.specs.Rows.{ifElse}
-use Rattle.meaning.specs.Tree.{actionOf, membersIn, rowsBeneath}
-use Rattle.meaning.specs.State.{Message, State, Program, processAt, writeCell, StateChange, Effect}
-pub use Rattle.meaning.specs.Labels.{Label, own, pass, take, takeFrom, label-discrete, orderRow}
+use Rattle.meaning.specs.Basics.{ifElse}
+use Rattle.meaning.specs.Tree.{actionOf, processesIn, rowsBeneath}
+use Rattle.meaning.specs.Values.{Message}
+use Rattle.meaning.specs.State.{State, Program, processAt, writeCell, StateChange, Effect}
+use Rattle.meaning.specs.Labels.{Label, own, pass, takeOption, takeWithOutput, orderRow}
+use Rattle.meaning.specs.Readings.{Sheet}
 use Rattle.meaning.specs.Settle.{settled}
-use Rattle.meaning.specs.Intent.{Sheet, Offer, openOffer, inputOffer, Intent, waits, moves, inputsFrom, outputsTo, selects, intent}
+use Rattle.meaning.specs.Intent.{Offer, openOffer, inputOffer, Intent, waits, moves, inputsFrom, outputsTo, selects, intent}
 
 -- are all these rows idle
 abbrev pub allIdle : List ℕ → List ℕ → Bool
@@ -18,9 +20,9 @@ allIdle [] s = true
 allIdle (r ∷ l) s = eqb (getD s r 0) 0 && allIdle l s
 
 -- the rows from r on that are running
-abbrev pub running : ℕ → List ℕ → List ℕ
-running r [] = []
-running r (x ∷ s) = let l = running (suc r) s in ifElse (eqb x 1) (r ∷ l) l
+abbrev pub runningFrom : ℕ → List ℕ → List ℕ
+runningFrom r [] = []
+runningFrom r (x ∷ s) = let l = runningFrom (suc r) s in ifElse (eqb x 1) (r ∷ l) l
 
 -- what a row does that would do w by itself
 abbrev pub ownEffect : ℕ → Intent → Option Effect
@@ -37,23 +39,23 @@ pub record WaitingInput : Type 0 where
   pub change : StateChange
 
 -- a value passes to the cell of a waiting input, where the elements are the same, and the output o ends
-abbrev pub meeting : Bool → WaitingInput → ℕ → Message → Option Effect
-meeting false w o z = none
-meeting true w o z = some (record { changes = w .change ∷ record { by = o; at = o; become = 2 } ∷ []; writes = writeCell (w .cell) z ∷ [] })
+abbrev pub communicationWhere : Bool → WaitingInput → ℕ → Message → Option Effect
+communicationWhere false w o z = none
+communicationWhere true w o z = some (record { changes = w .change ∷ record { by = o; at = o; become = 2 } ∷ []; writes = writeCell (w .cell) z ∷ [] })
 
 -- a waiting input, and what the row o would do
-abbrev pub meetEffect : WaitingInput → ℕ → Intent → Option Effect
-meetEffect w o waits = none
-meetEffect w o (moves y v ws) = none
-meetEffect w o (inputsFrom f c) = none
-meetEffect w o (outputsTo f z) = meeting (eqb (w .element) f) w o z
-meetEffect w o (selects l) = none
+abbrev pub communicationEffect : WaitingInput → ℕ → Intent → Option Effect
+communicationEffect w o waits = none
+communicationEffect w o (moves y v ws) = none
+communicationEffect w o (inputsFrom f c) = none
+communicationEffect w o (outputsTo f z) = communicationWhere (eqb (w .element) f) w o z
+communicationEffect w o (selects l) = none
 
 -- "an input and an output on the same channel element: the value passes, both end"
 abbrev pub passEffect : ℕ → ℕ → Intent → Intent → Option Effect
 passEffect i o waits u = none
 passEffect i o (moves x v ws) u = none
-passEffect i o (inputsFrom e a) u = meetEffect (record { element = e; cell = a; change = record { by = i; at = i; become = 2 } }) o u
+passEffect i o (inputsFrom e a) u = communicationEffect (record { element = e; cell = a; change = record { by = i; at = i; become = 2 } }) o u
 passEffect i o (outputsTo e v) u = none
 passEffect i o (selects l) u = none
 
@@ -64,7 +66,7 @@ takeEffect r (inputOffer j q e a) = none
 
 abbrev pub takeFromEffect : ℕ → ℕ → Intent → Offer → Option Effect
 takeFromEffect r o u (openOffer j q ws) = none
-takeFromEffect r o u (inputOffer j q e a) = meetEffect (record { element = e; cell = a; change = record { by = r; at = q; become = 1 } }) o u
+takeFromEffect r o u (inputOffer j q e a) = communicationEffect (record { element = e; cell = a; change = record { by = r; at = q; become = 1 } }) o u
 
 abbrev pub optionRow : Offer → ℕ
 optionRow (openOffer j q ws) = j
@@ -86,8 +88,8 @@ offerEffect j f (selects l) = offerEffectAt j f l
 abbrev pub effectOf : Label → (ℕ → Intent) → Option Effect
 effectOf (own r) w = ownEffect r (w r)
 effectOf (pass i o) w = passEffect i o (w i) (w o)
-effectOf (take r j) w = offerEffect j (takeEffect r) (w r)
-effectOf (takeFrom r j o) w = offerEffect j (takeFromEffect r o (w o)) (w r)
+effectOf (takeOption r j) w = offerEffect j (takeEffect r) (w r)
+effectOf (takeWithOutput r j o) w = offerEffect j (takeFromEffect r o (w o)) (w r)
 
 -- a running row, with what it would do
 pub record RunningRow : Type 0 where
@@ -109,8 +111,8 @@ outputsAt e (b ∷ l) = outputAt e (b .row) (b .intent) ++ outputsAt e l
 
 abbrev pub offered : ℕ → List RunningRow → List Offer → List Label
 offered r runningRows [] = []
-offered r runningRows (openOffer j q ws ∷ l) = take r j ∷ offered r runningRows l
-offered r runningRows (inputOffer j q e a ∷ l) = map (takeFrom r j) (outputsAt e runningRows) ++ offered r runningRows l
+offered r runningRows (openOffer j q ws ∷ l) = takeOption r j ∷ offered r runningRows l
+offered r runningRows (inputOffer j q e a ∷ l) = map (takeWithOutput r j) (outputsAt e runningRows) ++ offered r runningRows l
 
 -- the steps of row r, which would do w
 abbrev pub stepsOf : List RunningRow → ℕ → Intent → List Label
@@ -136,15 +138,15 @@ byRow (suc k) j l = stepsAt j l ++ byRow k (suc j) l
 
 module _ (P : Program) (sheet : Sheet) where
   -- "in a running row"; "A WHILE, IF or ALT has a step only while every row beneath it is idle"
-  unfoldable pub live : ℕ → State → Bool
-  live r s = eqb (getD (s .states) r 0) 1 && allIdle (rowsBeneath (membersIn (processAt P r))) (s .states)
+  unfoldable pub isLive : ℕ → State → Bool
+  isLive r s = eqb (getD (s .states) r 0) 1 && allIdle (rowsBeneath (processesIn (processAt P r))) (s .states)
 
   -- what row r would do: nothing, where it is not at work
   unfoldable pub intentAt : State → ℕ → Intent
-  intentAt s r = let w = intent sheet (actionOf (processAt P r)) r (s .store) in ifElse (live r s) w waits
+  intentAt s r = let w = intent sheet (actionOf (processAt P r)) r (s .store) in ifElse (isLive r s) w waits
 
   unfoldable pub runningRows : State → List RunningRow
-  runningRows s = map (λ (r : ℕ). record { row = r; intent = intentAt s r }) (running 0 (s .states))
+  runningRows s = map (λ (r : ℕ). record { row = r; intent = intentAt s r }) (runningFrom 0 (s .states))
 
   -- all ready steps, in row order
   unfoldable pub ready : State → List Label

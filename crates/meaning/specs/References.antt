@@ -5,7 +5,7 @@ use mathlib.Core.Option.{some}
 use Prim.Native.Nat.{ℕ, _<_}
 use lib.IntN.{ℤ, pos}
 use Rattle.meaning.specs.Rows.{rowCount, fieldAt, kindAt}
-use Rattle.meaning.specs.Kinds.{Field, unused, value, within, elements, capacity, variable, channel, reference, link, Shape, shapeOf}
+use Rattle.meaning.specs.Kinds.{Field, unused, literalValue, within, elements, capacity, variable, channel, reference, link, Shape, shapeOf}
 
 -- a field of a row: a, b or c
 pub data Place : Type 0 where
@@ -36,7 +36,7 @@ module _ (rows : List ℤ) where
   -- a field of row r refers to row t, rightly; "such a name is not counted as a reference"
   unfoldable pub RefersBy : ℕ → Field → ℤ → ℕ → Type 0
   RefersBy r unused z t = ⊥
-  RefersBy r value z t = ⊥
+  RefersBy r literalValue z t = ⊥
   RefersBy r (within lo hi) z t = ⊥
   RefersBy r elements z t = ⊥
   RefersBy r capacity z t = ⊥

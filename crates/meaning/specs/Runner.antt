@@ -1,16 +1,14 @@
 -- The sheet runner: from standard input to standard output ("A run on paper").
-use mathlib.Core.Path.{_≡_}
-use mathlib.Core.List.{List, [], _∷_, _++_}
+use mathlib.Core.List.{List, [], _∷_, _++_, flatten}
 use Prim.Native.Nat.{ℕ, _+_}
 use lib.IntN.{ℤ}
-use lib.ListN.{take}
+use Rattle.meaning.specs.Basics.{ifElse}
 use Rattle.meaning.specs.Limits.{maxTable, maxSheet, maxBudget}
 use Rattle.meaning.specs.Texts.{bytes}
-use Rattle.meaning.specs.Basics.{ifElse, concat}
 use Rattle.meaning.specs.Lines.{lines, same}
 use Rattle.meaning.specs.TableBytes.{rowsOf}
 use Rattle.meaning.specs.Answers.{Result, refused, ran, resultOfBytes}
-use Rattle.meaning.specs.Printing.{runLines, refusedLine, lineBytes, page}
+use Rattle.meaning.specs.Printing.{runLines, refusedLine, lineBytes, printedLines}
 
 -- the line `=`
 abbrev pub separator : List ℕ
@@ -24,12 +22,12 @@ tablePart (l ∷ ls) = ifElse (same l separator) [] (l ++ tablePart ls)
 -- "then readings"; without that line "the readings are no bytes"
 unfoldable pub sheetPart : List (List ℕ) → List ℕ
 sheetPart [] = []
-sheetPart (l ∷ ls) = ifElse (same l separator) (concat ls) (sheetPart ls)
+sheetPart (l ∷ ls) = ifElse (same l separator) (flatten ls) (sheetPart ls)
 
 -- what is printed: "A refusal prints one line only, without the line of names"
 abbrev pub printedResult : List ℤ → Result → List ℕ
 printedResult rows (refused f) = lineBytes (refusedLine f)
-printedResult rows (ran r) = page (runLines rows r)
+printedResult rows (ran r) = printedLines (runLines rows r)
 
 -- "Budget 65,536, no choices"
 unfoldable pub runner : List ℕ → List ℕ
@@ -42,7 +40,3 @@ runner input =
 -- how many bytes of standard input settle everything: a table at its limit, the line `=`, and a sheet one byte too long
 abbrev pub enough : ℕ
 enough = maxTable + 2 + (maxSheet + 1)
-
--- what comes after them changes nothing
-unfoldable pub Bounded : Type 0
-Bounded = (input : List ℕ) → runner (take enough input) ≡ runner input

@@ -4,16 +4,17 @@ use mathlib.Core.Option.{none}
 use mathlib.Core.List.{List, [], _∷_, map}
 use Prim.Native.Nat.{ℕ, zero, suc}
 use lib.ListN.{set, replicate}
-use Rattle.meaning.specs.Tree.{Action, stop, skip, sequence, parallel, assign, receive, send, conditional, loop, alternation, Process, node, Members, empty, also, rowOf, rowsBeneath}
+use Rattle.meaning.specs.Tree.{Action, stop, skip, sequence, parallel, assign, input, output, conditional, loop, alternation, Process, node, Processes, empty, also, rowOf, rowsBeneath}
 use Rattle.meaning.specs.State.{State, Program, whole, changeStates, writeAll, Effect}
-pub use Rattle.meaning.specs.State.{stateOf, makeIdle, anyOf}
+use Rattle.meaning.specs.State.{stateOf, makeIdle, anyOf}
 
--- the state of each member
-abbrev pub statesOf : Members → List ℕ → List ℕ
+-- the state of each process
+-- the state of each process
+abbrev pub statesOf : Processes → List ℕ → List ℕ
 statesOf empty s = []
 statesOf (also p ms) s = stateOf s p ∷ statesOf ms s
 
--- how a running process starts its members: each in its turn, every one, or none without a step
+-- how a running process starts those beneath it: each in its turn, every one, or none without a step
 pub data Mode : Type 0 where
   inTurn together byStep : Mode
 
@@ -23,19 +24,19 @@ mode skip = inTurn
 mode sequence = inTurn
 mode parallel = together
 mode (assign v e f) = byStep
-mode (receive i) = byStep
-mode (send c e f) = byStep
+mode (input i) = byStep
+mode (output c e f) = byStep
 mode (conditional ts) = byStep
 mode (loop e b) = byStep
 mode (alternation bs) = byStep
 
--- may an idle member be started
+-- may an idle one be started
 abbrev pub starts : Mode → Bool
 starts inTurn = true
 starts together = true
 starts byStep = false
 
--- how the members after one that is left in state n are walked
+-- how the processes after one that is left in state n are walked
 abbrev pub nextMode : Mode → ℕ → Mode
 nextMode inTurn zero = byStep
 nextMode inTurn (suc zero) = byStep
@@ -61,7 +62,7 @@ abbrev pub allOf : (ℕ → Bool) → List ℕ → Bool
 allOf f [] = true
 allOf f (x ∷ l) = f x && allOf f l
 
--- do members in these states close their process: "when all members have ended"; of an IF, ALT or WHILE, when the one that was started has
+-- do these states close the process above: "when all members have ended"; of an IF, ALT or WHILE, when the one that was started has
 abbrev pub complete : Mode → List ℕ → Bool
 complete inTurn l = allOf isEnded l
 complete together l = allOf isEnded l
@@ -74,8 +75,8 @@ endsWhenClosed skip = true
 endsWhenClosed sequence = true
 endsWhenClosed parallel = true
 endsWhenClosed (assign v e f) = true
-endsWhenClosed (receive i) = true
-endsWhenClosed (send c e f) = true
+endsWhenClosed (input i) = true
+endsWhenClosed (output c e f) = true
 endsWhenClosed (conditional ts) = true
 endsWhenClosed (loop e b) = false
 endsWhenClosed (alternation bs) = true
@@ -92,14 +93,14 @@ visit zero false r g s = s
 visit (suc zero) b r g s = g s
 visit (suc (suc n)) b r g s = s
 
--- a running process settles; so do members, walked by a mode
+-- a running process settles; so do those beneath it, walked by a mode
 unfoldable mutual
   pub settleRunning : Process → List ℕ → List ℕ
-  settleRunning (node a r ms) s = let t = settleMembers ms (mode a) s in let c = closing (complete (mode a) (statesOf ms t)) (endsWhenClosed a) r (rowsBeneath ms) t in c
+  settleRunning (node a r ms) s = let t = settleEach ms (mode a) s in let c = closing (complete (mode a) (statesOf ms t)) (endsWhenClosed a) r (rowsBeneath ms) t in c
 
-  pub settleMembers : Members → Mode → List ℕ → List ℕ
-  settleMembers empty m s = s
-  settleMembers (also p ms) m s = let t = visit (stateOf s p) (starts m) (rowOf p) (λ u. settleRunning p u) s in settleMembers ms (nextMode m (stateOf t p)) t
+  pub settleEach : Processes → Mode → List ℕ → List ℕ
+  settleEach empty m s = s
+  settleEach (also p ms) m s = let t = visit (stateOf s p) (starts m) (rowOf p) (λ u. settleRunning p u) s in settleEach ms (nextMode m (stateOf t p)) t
 
 -- a process that may be started is started if it is idle; a running one settles
 unfoldable pub settle : Process → Bool → List ℕ → List ℕ

@@ -3,55 +3,55 @@ use mathlib.Core.Path.{_≡_}
 use mathlib.Core.List.{List}
 use Prim.Native.Nat.{ℕ}
 use lib.ListN.{getD, set}
-use Rattle.meaning.specs.Tree.{Expr, IfChoice, AltOption, Action, skip, sequence, parallel, conditional, loop, alternation, Process, node, Members, empty, also, rowOf, rowsBeneath}
+use Rattle.meaning.specs.Tree.{Expr, IfChoice, AltOption, Action, skip, sequence, parallel, conditional, loop, alternation, Process, node, Processes, empty, also, rowOf, rowsBeneath}
 use Rattle.meaning.specs.State.{stateOf, makeIdle}
 
--- a process is one of the members
-pub data Among (q : Process) : Members → Type 0 where
-  first : {ms : Members} → Among q (also q ms)
-  later : {p : Process} {ms : Members} → Among q ms → Among q (also p ms)
+-- a process is one of some processes
+pub data Among (q : Process) : Processes → Type 0 where
+  among-first : {ms : Processes} → Among q (also q ms)
+  among-later : {p : Process} {ms : Processes} → Among q ms → Among q (also p ms)
 
--- every member is in a state
-pub data All (n : ℕ) (s : List ℕ) : Members → Type 0 where
-  no-more : All n s empty
-  and-then : {p : Process} {ms : Members} → stateOf s p ≡ n → All n s ms → All n s (also p ms)
+-- every one of them is in a state
+pub data All (n : ℕ) (s : List ℕ) : Processes → Type 0 where
+  all-none : All n s empty
+  all-more : {p : Process} {ms : Processes} → stateOf s p ≡ n → All n s ms → All n s (also p ms)
 
--- a process is the first of the members that has not ended
-pub data Next (s : List ℕ) (q : Process) : Members → Type 0 where
-  here : {ms : Members} → Next s q (also q ms)
-  after : {p : Process} {ms : Members} → stateOf s p ≡ 2 → Next s q ms → Next s q (also p ms)
+-- a process is the first of them that has not ended
+pub data Next (s : List ℕ) (q : Process) : Processes → Type 0 where
+  next-here : {ms : Processes} → Next s q (also q ms)
+  next-after : {p : Process} {ms : Processes} → stateOf s p ≡ 2 → Next s q ms → Next s q (also p ms)
 
 -- a process is the whole process, or stands beneath it
 pub data Inside (whole : Process) : Process → Type 0 where
   itself : Inside whole whole
-  beneath : {a : Action} {r : ℕ} {ms : Members} {q : Process} → Inside whole (node a r ms) → Among q ms → Inside whole q
+  beneath : {a : Action} {r : ℕ} {ms : Processes} {q : Process} → Inside whole (node a r ms) → Among q ms → Inside whole q
 
 -- a running process that stands in the whole process
-abbrev pub Runs : Process → List ℕ → Action → ℕ → Members → Type 0
+abbrev pub Runs : Process → List ℕ → Action → ℕ → Processes → Type 0
 Runs whole s a r ms = Inside whole (node a r ms) × (getD s r 0 ≡ 1)
 
 module _ (whole : Process) where
   -- one change of settling, from row states to row states
   pub data Settles (s : List ℕ) : List ℕ → Type 0 where
     -- "a started SKIP ends"
-    skip-ends : {r : ℕ} {ms : Members} → Runs whole s skip r ms → Settles s (set s r 2)
+    skip-ends : {r : ℕ} {ms : Processes} → Runs whole s skip r ms → Settles s (set s r 2)
     -- "a SEQ starts its first member, and each next when the last ends"
-    seq-starts : {r : ℕ} {ms : Members} {q : Process} → Runs whole s sequence r ms → Next s q ms → stateOf s q ≡ 0 → Settles s (set s (rowOf q) 1)
+    seq-starts : {r : ℕ} {ms : Processes} {q : Process} → Runs whole s sequence r ms → Next s q ms → stateOf s q ≡ 0 → Settles s (set s (rowOf q) 1)
     -- "a PAR starts all"
-    par-starts : {r : ℕ} {ms : Members} {q : Process} → Runs whole s parallel r ms → Among q ms → stateOf s q ≡ 0 → Settles s (set s (rowOf q) 1)
+    par-starts : {r : ℕ} {ms : Processes} {q : Process} → Runs whole s parallel r ms → Among q ms → stateOf s q ≡ 0 → Settles s (set s (rowOf q) 1)
     -- "both end when all members have ended, at once if none"
-    seq-ends : {r : ℕ} {ms : Members} → Runs whole s sequence r ms → All 2 s ms → Settles s (set s r 2)
-    par-ends : {r : ℕ} {ms : Members} → Runs whole s parallel r ms → All 2 s ms → Settles s (set s r 2)
+    seq-ends : {r : ℕ} {ms : Processes} → Runs whole s sequence r ms → All 2 s ms → Settles s (set s r 2)
+    par-ends : {r : ℕ} {ms : Processes} → Runs whole s parallel r ms → All 2 s ms → Settles s (set s r 2)
     -- "an IF or ALT ends with its chosen process"
-    if-ends : {ts : List IfChoice} {r : ℕ} {ms : Members} {q : Process} → Runs whole s (conditional ts) r ms → Among q ms → stateOf s q ≡ 2 → Settles s (set s r 2)
-    alt-ends : {bs : List AltOption} {r : ℕ} {ms : Members} {q : Process} → Runs whole s (alternation bs) r ms → Among q ms → stateOf s q ≡ 2 → Settles s (set s r 2)
+    if-ends : {ts : List IfChoice} {r : ℕ} {ms : Processes} {q : Process} → Runs whole s (conditional ts) r ms → Among q ms → stateOf s q ≡ 2 → Settles s (set s r 2)
+    alt-ends : {bs : List AltOption} {r : ℕ} {ms : Processes} {q : Process} → Runs whole s (alternation bs) r ms → Among q ms → stateOf s q ≡ 2 → Settles s (set s r 2)
     -- "when a WHILE's body ends, every row beneath the WHILE becomes idle"
-    while-again : {e : Expr} {b r : ℕ} {ms : Members} {q : Process} → Runs whole s (loop e b) r ms → Among q ms → stateOf s q ≡ 2 → Settles s (makeIdle (rowsBeneath ms) s)
+    while-again : {e : Expr} {b r : ℕ} {ms : Processes} {q : Process} → Runs whole s (loop e b) r ms → Among q ms → stateOf s q ≡ 2 → Settles s (makeIdle (rowsBeneath ms) s)
 
   -- any number of changes
   pub data Settling : List ℕ → List ℕ → Type 0 where
-    rest : {s : List ℕ} → Settling s s
-    then : {s t u : List ℕ} → Settles s t → Settling t u → Settling s u
+    no-change : {s : List ℕ} → Settling s s
+    next-change : {s t u : List ℕ} → Settles s t → Settling t u → Settling s u
 
   -- no rule applies
   abbrev pub Final : List ℕ → Type 0

@@ -5,8 +5,8 @@ use mathlib.Core.Option.{Option, none, some}
 use Prim.Native.Nat.{ℕ}
 use lib.IntN.{ℤ}
 use lib.Dec.{ltb}
-use Rattle.meaning.specs.Limits.{maxBudget}
 use Rattle.meaning.specs.Basics.{ifElse}
+use Rattle.meaning.specs.Limits.{maxBudget}
 use Rattle.meaning.specs.Refusals.{Stage}
 use Rattle.meaning.specs.TableBytes.{bytesFault, rowsOf, numbersFault}
 use Rattle.meaning.specs.Verdict.{formFault, treeFault, limitFault}
@@ -28,9 +28,9 @@ pub data Table : Type 0 where
   ofBytes : List ℕ → Table
 
 -- its rows
-abbrev pub rowsIn : Table → List ℤ
-rowsIn (ofNumbers rows) = rows
-rowsIn (ofBytes table) = rowsOf table
+abbrev pub rowsGiven : Table → List ℤ
+rowsGiven (ofNumbers rows) = rows
+rowsGiven (ofBytes table) = rowsOf table
 
 -- "a table, a readings sheet, a list of choices and a step budget", with the buffers that are lent, if any are
 pub record Call : Type 0 where
@@ -52,7 +52,7 @@ inBytes stage (ofBytes table) = stage table
 
 -- one that looks at its rows
 abbrev pub inRows : Stage (List ℤ) → Stage Table
-inRows stage t = stage (rowsIn t)
+inRows stage t = stage (rowsGiven t)
 
 -- one that looks at the table of a call
 abbrev pub onTable : Stage Table → Stage Call
@@ -103,7 +103,7 @@ tableStages = inputStages ++ map inRows rowStages
 abbrev pub callStages : Limits → List (Stage Call)
 callStages l =
     -- 10, "line, 0 if too long": "readings not as above"
-    (λ c. sheetFault (rowsIn (c .table)) (c .sheet))
+    (λ c. sheetFault (rowsGiven (c .table)) (c .sheet))
     -- 11, place 0: "budget above 65,536"
     ∷ (λ c. budgetFault (l .budget) (c .budget))
     ∷ []

@@ -1,17 +1,13 @@
 -- The state of a run: cells, places in the readings and output lists (data), and row states. What a step changes.
 use mathlib.Core.Bool.{Bool, false, _||_}
-use mathlib.Core.Option.{Option, none}
+use mathlib.Core.Option.{none}
 use mathlib.Core.List.{List, [], _∷_, map}
 use Prim.Native.Nat.{ℕ}
 use lib.IntN.{ℤ}
 use lib.ListN.{getD, set}
-use Rattle.meaning.specs.Rows.{root}
-use Rattle.meaning.specs.Declarations.{totalCells, totalPorts}
-use Rattle.meaning.specs.Tree.{Process, Part, parts, orStop, rowOf}
-
--- what a cell, a reading and a channel's message is: a number, or none ("A missing sample must stay missing")
-abbrev pub Message : Type 0
-Message = Option ℤ
+use Rattle.meaning.specs.Declarations.{root, totalCells, hostChannels}
+use Rattle.meaning.specs.Tree.{Process, Content, contents, orStop, rowOf}
+use Rattle.meaning.specs.Values.{Message}
 
 -- cells, each none (unset) or a number; how many values each role 1 channel has given; what each role 2 channel has been given
 pub record Store : Type 0 where
@@ -49,11 +45,11 @@ pub record Program : Type 0 where
 unfoldable pub program : List ℤ → Program
 program rows =
     record {
-      processes = map (λ (p : Part). orStop (p .process)) (parts rows);
+      processes = map (λ (p : Content). orStop (p .process)) (contents rows);
       root = root rows;
       cells = totalCells rows;
-      inputs = totalPorts 1 rows;
-      outputs = totalPorts 2 rows;
+      inputs = hostChannels 1 rows;
+      outputs = hostChannels 2 rows;
     }
 
 module _ (P : Program) where

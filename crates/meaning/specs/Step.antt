@@ -1,96 +1,96 @@
 -- Steps as rules, one for each line of the paper's list, and the state after settling. They name no list of ready steps, no order and no walk.
 use mathlib.Core.Path.{_≡_}
 use mathlib.Core.Bool.{true, false}
-use mathlib.Core.Option.{Option, none, some}
+use mathlib.Core.Option.{none, some}
 use mathlib.Core.List.{List, [], _∷_, _++_, List·Memᴰ}
 use Prim.Native.Nat.{ℕ, suc, _+_, _<_}
 use lib.IntN.{ℤ}
-use lib.ListN.{length, getD}
+use lib.ListN.{length, getD, getElem?}
 use Rattle.meaning.specs.declared.Value.the-variants.{Number, Missing}
 use Rattle.meaning.specs.declared.Index.{Index}
 use Rattle.meaning.specs.declared.Index.the-variants.{At, Fails}
 use Rattle.meaning.specs.Declarations.{Variable, Channel}
-use Rattle.meaning.specs.Tree.{Expr, Receive, IfChoice, AltOption, Action, assign, receive, send, conditional, loop, alternation, node, Members, rowsBeneath}
-use Rattle.meaning.specs.Values.{isTrue, value, index}
-use Rattle.meaning.specs.State.{Message, Store, State, Program, processAt, whole, Write, writeCell, writePlace, writeOutput, StateChange, changeStates, writeAll, Effect}
-use Rattle.meaning.specs.Labels.{Label, own, pass, take, takeFrom}
-use Rattle.meaning.specs.Readings.{Sheet, entry}
+use Rattle.meaning.specs.Tree.{Expr, ChannelInput, IfChoice, AltOption, Action, assign, input, output, conditional, loop, alternation, node, Processes, rowsBeneath}
+use Rattle.meaning.specs.Values.{Message, isTrue, value, index}
+use Rattle.meaning.specs.State.{Store, State, Program, processAt, whole, Write, writeCell, writePlace, writeOutput, StateChange, changeStates, writeAll, Effect}
+use Rattle.meaning.specs.Labels.{Label, own, pass, takeOption, takeWithOutput}
+use Rattle.meaning.specs.Readings.{Sheet}
 use Rattle.meaning.specs.SettlingRules.{SettlesTo}
 
 -- the subscripts of an input, and of an output or assignment, and an expression's truth, in a store of cells
-abbrev pub channelOf : List (Option ℤ) → Receive → Index
-channelOf cells i = index cells (i .channel .first) (i .channel .size) (i .subscript)
+abbrev pub channelElement : List Message → ChannelInput → Index
+channelElement cells i = index cells (i .channel .first) (i .channel .size) (i .subscript)
 
-abbrev pub targetOf : List (Option ℤ) → Receive → Index
-targetOf cells i = index cells (i .target .name .first) (i .target .name .size) (i .target .subscript)
+abbrev pub targetCell : List Message → ChannelInput → Index
+targetCell cells i = index cells (i .target .name .first) (i .target .name .size) (i .target .subscript)
 
-pub data Holds (cells : List (Option ℤ)) (e : Expr) : Type 0 where
+pub data Holds (cells : List Message) (e : Expr) : Type 0 where
   holds : {x : ℤ} → value cells e ≡ Number x → isTrue x ≡ true → Holds cells e
 
-pub data Refuted (cells : List (Option ℤ)) (e : Expr) : Type 0 where
+pub data Refuted (cells : List Message) (e : Expr) : Type 0 where
   refuted : {x : ℤ} → value cells e ≡ Number x → isTrue x ≡ false → Refuted cells e
 
 -- an input that lacks a value: its channel subscript's, then its target subscript's
-pub data LacksIn (cells : List (Option ℤ)) (i : Receive) (k : ℕ) : Type 0 where
-  channel-lacks : channelOf cells i ≡ Fails k → LacksIn cells i k
-  target-lacks : {e : ℕ} → channelOf cells i ≡ At e → targetOf cells i ≡ Fails k → LacksIn cells i k
+pub data LacksIn (cells : List Message) (i : ChannelInput) (k : ℕ) : Type 0 where
+  channel-lacks : channelElement cells i ≡ Fails k → LacksIn cells i k
+  target-lacks : {e : ℕ} → channelElement cells i ≡ At e → targetCell cells i ≡ Fails k → LacksIn cells i k
 
 -- the first true choice, and the row of its process
-pub data FirstTrue (cells : List (Option ℤ)) : List IfChoice → ℕ → Type 0 where
-  this : {t : IfChoice} {l : List IfChoice} → Holds cells (t .boolean) → FirstTrue cells (t ∷ l) (t .process)
-  skip-false : {t : IfChoice} {l : List IfChoice} {q : ℕ} → Refuted cells (t .boolean) → FirstTrue cells l q → FirstTrue cells (t ∷ l) q
+pub data FirstTrue (cells : List Message) : List IfChoice → ℕ → Type 0 where
+  true-first : {t : IfChoice} {l : List IfChoice} → Holds cells (t .boolean) → FirstTrue cells (t ∷ l) (t .process)
+  false-before : {t : IfChoice} {l : List IfChoice} {q : ℕ} → Refuted cells (t .boolean) → FirstTrue cells l q → FirstTrue cells (t ∷ l) q
 
 -- a choice with no value before any true one
-pub data LacksTest (cells : List (Option ℤ)) : List IfChoice → ℕ → Type 0 where
-  this : {t : IfChoice} {l : List IfChoice} {k : ℕ} → value cells (t .boolean) ≡ Missing k → LacksTest cells (t ∷ l) k
-  skip-false : {t : IfChoice} {l : List IfChoice} {k : ℕ} → Refuted cells (t .boolean) → LacksTest cells l k → LacksTest cells (t ∷ l) k
+pub data LacksTest (cells : List Message) : List IfChoice → ℕ → Type 0 where
+  test-lacks : {t : IfChoice} {l : List IfChoice} {k : ℕ} → value cells (t .boolean) ≡ Missing k → LacksTest cells (t ∷ l) k
+  false-before-lack : {t : IfChoice} {l : List IfChoice} {k : ℕ} → Refuted cells (t .boolean) → LacksTest cells l k → LacksTest cells (t ∷ l) k
 
 -- an option that lacks a value: "boolean first; if false the rest of that option isn't looked at"
-pub data LacksBranch (cells : List (Option ℤ)) (b : AltOption) (k : ℕ) : Type 0 where
-  boolean-lacks : value cells (b .guard .boolean) ≡ Missing k → LacksBranch cells b k
-  input-lacks : {i : Receive} → Holds cells (b .guard .boolean) → b .guard .input ≡ some i → LacksIn cells i k → LacksBranch cells b k
+pub data LacksGuard (cells : List Message) (b : AltOption) (k : ℕ) : Type 0 where
+  boolean-lacks : value cells (b .guard .boolean) ≡ Missing k → LacksGuard cells b k
+  input-lacks : {i : ChannelInput} → Holds cells (b .guard .boolean) → b .guard .input ≡ some i → LacksIn cells i k → LacksGuard cells b k
 
 -- an option that lacks none
-pub data Complete (cells : List (Option ℤ)) (b : AltOption) : Type 0 where
+pub data Complete (cells : List Message) (b : AltOption) : Type 0 where
   closed : Refuted cells (b .guard .boolean) → Complete cells b
   open-skip : Holds cells (b .guard .boolean) → b .guard .input ≡ none → Complete cells b
-  open-input : {i : Receive} {e a : ℕ} → Holds cells (b .guard .boolean) → b .guard .input ≡ some i → channelOf cells i ≡ At e → targetOf cells i ≡ At a → Complete cells b
+  open-input : {i : ChannelInput} {e a : ℕ} → Holds cells (b .guard .boolean) → b .guard .input ≡ some i → channelElement cells i ≡ At e → targetCell cells i ≡ At a → Complete cells b
 
 -- the first option that lacks a value; and options of which none does
-pub data LacksOption (cells : List (Option ℤ)) : List AltOption → ℕ → Type 0 where
-  this : {b : AltOption} {l : List AltOption} {k : ℕ} → LacksBranch cells b k → LacksOption cells (b ∷ l) k
+pub data LacksOption (cells : List Message) : List AltOption → ℕ → Type 0 where
+  option-lacks : {b : AltOption} {l : List AltOption} {k : ℕ} → LacksGuard cells b k → LacksOption cells (b ∷ l) k
   pass-over : {b : AltOption} {l : List AltOption} {k : ℕ} → Complete cells b → LacksOption cells l k → LacksOption cells (b ∷ l) k
 
-pub data AllComplete (cells : List (Option ℤ)) : List AltOption → Type 0 where
-  no-more : AllComplete cells []
-  and-then : {b : AltOption} {l : List AltOption} → Complete cells b → AllComplete cells l → AllComplete cells (b ∷ l)
+pub data AllComplete (cells : List Message) : List AltOption → Type 0 where
+  complete-none : AllComplete cells []
+  complete-more : {b : AltOption} {l : List AltOption} → Complete cells b → AllComplete cells l → AllComplete cells (b ∷ l)
 
 -- "an action, test or guard that needs a value which doesn't exist"
-pub data Lacks (cells : List (Option ℤ)) : Action → ℕ → Type 0 where
+pub data Lacks (cells : List Message) : Action → ℕ → Type 0 where
   assign-subscript : {v : Variable} {e f : Expr} {k : ℕ} → index cells (v .first) (v .size) e ≡ Fails k → Lacks cells (assign v e f) k
   assign-value : {v : Variable} {e f : Expr} {a k : ℕ} → index cells (v .first) (v .size) e ≡ At a → value cells f ≡ Missing k → Lacks cells (assign v e f) k
-  input-subscript : {i : Receive} {k : ℕ} → LacksIn cells i k → Lacks cells (receive i) k
-  output-subscript : {c : Channel} {e f : Expr} {k : ℕ} → index cells (c .first) (c .size) e ≡ Fails k → Lacks cells (send c e f) k
-  output-value : {c : Channel} {e f : Expr} {a k : ℕ} → index cells (c .first) (c .size) e ≡ At a → value cells f ≡ Missing k → Lacks cells (send c e f) k
+  input-subscript : {i : ChannelInput} {k : ℕ} → LacksIn cells i k → Lacks cells (input i) k
+  output-subscript : {c : Channel} {e f : Expr} {k : ℕ} → index cells (c .first) (c .size) e ≡ Fails k → Lacks cells (output c e f) k
+  output-value : {c : Channel} {e f : Expr} {a k : ℕ} → index cells (c .first) (c .size) e ≡ At a → value cells f ≡ Missing k → Lacks cells (output c e f) k
   while-test : {e : Expr} {b k : ℕ} → value cells e ≡ Missing k → Lacks cells (loop e b) k
   if-test : {ts : List IfChoice} {k : ℕ} → LacksTest cells ts k → Lacks cells (conditional ts) k
   alt-guard : {bs : List AltOption} {k : ℕ} → LacksOption cells bs k → Lacks cells (alternation bs) k
 
 -- an input that could take place from an inner channel: its element and its cell; and from the host: its cell, the reading, and the place after it
-pub data Inner (x : Store) (i : Receive) (e a : ℕ) : Type 0 where
-  inner : i .channel .host ≡ false → channelOf (x .cells) i ≡ At e → targetOf (x .cells) i ≡ At a → Inner x i e a
+pub data InnerInput (x : Store) (i : ChannelInput) (e a : ℕ) : Type 0 where
+  inner-input : i .channel .host ≡ false → channelElement (x .cells) i ≡ At e → targetCell (x .cells) i ≡ At a → InnerInput x i e a
 
-pub data Host (sheet : Sheet) (x : Store) (i : Receive) (a : ℕ) (v : Message) (n : ℕ) : Type 0 where
-  host : {e : ℕ} → i .channel .host ≡ true → channelOf (x .cells) i ≡ At e → targetOf (x .cells) i ≡ At a
-      → getD (x .places) (i .channel .port) 0 ≡ n → entry (getD sheet (i .channel .port) []) n ≡ some v → Host sheet x i a v n
+pub data HostInput (sheet : Sheet) (x : Store) (i : ChannelInput) (a : ℕ) (v : Message) (n : ℕ) : Type 0 where
+  host-input : {e : ℕ} → i .channel .host ≡ true → channelElement (x .cells) i ≡ At e → targetCell (x .cells) i ≡ At a
+      → getD (x .places) (i .channel .number) 0 ≡ n → getElem? (getD sheet (i .channel .number) []) n ≡ some v → HostInput sheet x i a v n
 
 -- an output that could take place to an inner channel
-pub data Sends (x : Store) (c : Channel) (e f : Expr) (d : ℕ) : Message → Type 0 where
-  sends : {v : ℤ} → c .host ≡ false → index (x .cells) (c .first) (c .size) e ≡ At d → value (x .cells) f ≡ Number v → Sends x c e f d (some v)
+pub data InnerOutput (x : Store) (c : Channel) (e f : Expr) (d : ℕ) : Message → Type 0 where
+  inner-output : {v : ℤ} → c .host ≡ false → index (x .cells) (c .first) (c .size) e ≡ At d → value (x .cells) f ≡ Number v → InnerOutput x c e f d (some v)
 
 -- row r is running with action a, and every row beneath it is idle
 pub data Live (P : Program) (s : State) (r : ℕ) (a : Action) : Type 0 where
-  live : {q : ℕ} {ms : Members} → processAt P r ≡ node a q ms → getD (s .states) r 0 ≡ 1
+  live : {q : ℕ} {ms : Processes} → processAt P r ≡ node a q ms → getD (s .states) r 0 ≡ 1
       → ((b : ℕ) → List·Memᴰ b (rowsBeneath ms) → getD (s .states) b 0 ≡ 0) → Live P s r a
 
 -- the changes of a step: of row states, each made by a running row, and of data
@@ -117,30 +117,30 @@ module _ (P : Program) (sheet : Sheet) where
     if-true : {r q : ℕ} {ts : List IfChoice} → Live P s r (conditional ts) → FirstTrue (s .store .cells) ts q
         → Allows s (own r) (effect (becomes r q 1 ∷ []) [])
     -- an input and an output on the same channel element: the value passes, both end
-    communication : {r o d a : ℕ} {i : Receive} {c : Channel} {e f : Expr} {m : Message} → Live P s r (receive i) → Live P s o (send c e f)
-        → Inner (s .store) i d a → Sends (s .store) c e f d m
+    communication : {r o d a : ℕ} {i : ChannelInput} {c : Channel} {e f : Expr} {m : Message} → Live P s r (input i) → Live P s o (output c e f)
+        → InnerInput (s .store) i d a → InnerOutput (s .store) c e f d m
         → Allows s (pass r o) (effect (becomes r r 2 ∷ becomes o o 2 ∷ []) (writeCell a m ∷ []))
     -- a host read, if values are left
-    host-read : {r a n : ℕ} {i : Receive} {v : Message} → Live P s r (receive i) → Host sheet (s .store) i a v n
-        → Allows s (own r) (effect (becomes r r 2 ∷ []) (writeCell a v ∷ writePlace (i .channel .port) (suc n) ∷ []))
+    host-read : {r a n : ℕ} {i : ChannelInput} {v : Message} → Live P s r (input i) → HostInput sheet (s .store) i a v n
+        → Allows s (own r) (effect (becomes r r 2 ∷ []) (writeCell a v ∷ writePlace (i .channel .number) (suc n) ∷ []))
     -- a host write, if capacity is left
-    host-write : {r d : ℕ} {c : Channel} {e f : Expr} {z : ℤ} {l : List Message} → Live P s r (send c e f) → c .host ≡ true
+    host-write : {r d : ℕ} {c : Channel} {e f : Expr} {z : ℤ} {l : List Message} → Live P s r (output c e f) → c .host ≡ true
         → index (s .store .cells) (c .first) (c .size) e ≡ At d → value (s .store .cells) f ≡ Number z
-        → getD (s .store .outputs) (c .port) [] ≡ l → length l < c .capacity
-        → Allows s (own r) (effect (becomes r r 2 ∷ []) (writeOutput (c .port) (l ++ (some z ∷ [])) ∷ []))
+        → getD (s .store .outputs) (c .number) [] ≡ l → length l < c .capacity
+        → Allows s (own r) (effect (becomes r r 2 ∷ []) (writeOutput (c .number) (l ++ (some z ∷ [])) ∷ []))
     -- an ALT taking an option whose boolean is true and whose guard is SKIP
     alt-skip : {r : ℕ} {bs : List AltOption} {b : AltOption} → Live P s r (alternation bs) → AllComplete (s .store .cells) bs → List·Memᴰ b bs
         → Holds (s .store .cells) (b .guard .boolean) → b .guard .input ≡ none
-        → Allows s (take r (b .row)) (effect (becomes r (b .process) 1 ∷ []) [])
+        → Allows s (takeOption r (b .row)) (effect (becomes r (b .process) 1 ∷ []) [])
     -- or whose input could now take place, from the host
-    alt-read : {r a n : ℕ} {bs : List AltOption} {b : AltOption} {i : Receive} {v : Message} → Live P s r (alternation bs) → AllComplete (s .store .cells) bs → List·Memᴰ b bs
-        → Holds (s .store .cells) (b .guard .boolean) → b .guard .input ≡ some i → Host sheet (s .store) i a v n
-        → Allows s (take r (b .row)) (effect (becomes r (b .process) 1 ∷ []) (writeCell a v ∷ writePlace (i .channel .port) (suc n) ∷ []))
+    alt-read : {r a n : ℕ} {bs : List AltOption} {b : AltOption} {i : ChannelInput} {v : Message} → Live P s r (alternation bs) → AllComplete (s .store .cells) bs → List·Memᴰ b bs
+        → Holds (s .store .cells) (b .guard .boolean) → b .guard .input ≡ some i → HostInput sheet (s .store) i a v n
+        → Allows s (takeOption r (b .row)) (effect (becomes r (b .process) 1 ∷ []) (writeCell a v ∷ writePlace (i .channel .number) (suc n) ∷ []))
     -- or from an output
-    alt-communication : {r o d a : ℕ} {bs : List AltOption} {b : AltOption} {i : Receive} {c : Channel} {e f : Expr} {m : Message}
-        → Live P s r (alternation bs) → AllComplete (s .store .cells) bs → List·Memᴰ b bs → Live P s o (send c e f)
-        → Holds (s .store .cells) (b .guard .boolean) → b .guard .input ≡ some i → Inner (s .store) i d a → Sends (s .store) c e f d m
-        → Allows s (takeFrom r (b .row) o) (effect (becomes r (b .process) 1 ∷ becomes o o 2 ∷ []) (writeCell a m ∷ []))
+    alt-communication : {r o d a : ℕ} {bs : List AltOption} {b : AltOption} {i : ChannelInput} {c : Channel} {e f : Expr} {m : Message}
+        → Live P s r (alternation bs) → AllComplete (s .store .cells) bs → List·Memᴰ b bs → Live P s o (output c e f)
+        → Holds (s .store .cells) (b .guard .boolean) → b .guard .input ≡ some i → InnerInput (s .store) i d a → InnerOutput (s .store) c e f d m
+        → Allows s (takeWithOutput r (b .row) o) (effect (becomes r (b .process) 1 ∷ becomes o o 2 ∷ []) (writeCell a m ∷ []))
     -- a stop
     stopping : {r k : ℕ} {a : Action} → Live P s r a → Lacks (s .store .cells) a k
         → Allows s (own r) (effect (becomes r r (10 + k) ∷ []) [])

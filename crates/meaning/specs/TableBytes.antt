@@ -1,6 +1,6 @@
 -- A table's bytes: its lines, refusals 2 and 3, and its rows.
 use mathlib.Core.Bool.{Bool, not, _&&_, _||_}
-use mathlib.Core.List.{List, [], map, tail}
+use mathlib.Core.List.{List, [], map, tail, flatten}
 use mathlib.Core.Option.{Option, none, some, Option·getD, Option·map}
 use Prim.Native.Nat.{ℕ, zero, suc, _+_, _/_, _%_, min}
 use lib.IntN.{ℤ}
@@ -8,18 +8,18 @@ use lib.ListN.{length, getD}
 use lib.Dec.{leb, ltb, eqb}
 use Rattle.meaning.specs.Limits.{maxRows, maxTable}
 use Rattle.meaning.specs.Texts.{bytes}
-use Rattle.meaning.specs.Basics.{ifElse, isSome, concat, lowest}
+use Rattle.meaning.specs.Basics.{ifElse, isSome, lowest}
 use Rattle.meaning.specs.Lines.{lines, readLine, same}
 use Rattle.meaning.specs.Numerals.{number}
-pub use Rattle.meaning.specs.Refusals.{Refusal}
+use Rattle.meaning.specs.Refusals.{Refusal}
 
 -- "The first line is `kind,a,b,c`"
 abbrev pub header : List ℕ
 header = bytes "kind,a,b,c\n"
 
 -- "one row of four whole numbers": what a line holds, if it is one
-unfoldable pub rowOf : List ℕ → Option (List ℤ)
-rowOf line = readLine number 4 line
+unfoldable pub readRow : List ℕ → Option (List ℤ)
+readRow line = readLine number 4 line
 
 -- line L, from 1; a missing one has no bytes
 abbrev pub lineAt : List (List ℕ) → ℕ → List ℕ
@@ -34,7 +34,7 @@ overlong table = ltb maxTable (length table)
 abbrev pub malformed : Bool → List (List ℕ) → ℕ → Bool
 malformed long ls zero = long
 malformed long ls (suc zero) = not (same (lineAt ls 1) header)
-malformed long ls (suc (suc i)) = leb (suc (suc i)) (length ls) && not (isSome (rowOf (lineAt ls (suc (suc i)))))
+malformed long ls (suc (suc i)) = leb (suc (suc i)) (length ls) && not (isSome (readRow (lineAt ls (suc (suc i)))))
 
 -- 3: "in bytes, line 1,026 exists"
 abbrev pub oneTooMany : List (List ℕ) → ℕ → Bool
@@ -53,7 +53,7 @@ bytesFault table =
 
 -- the numbers of a table's lines after the first, for bytes that are not refused
 unfoldable pub rowsOf : List ℕ → List ℤ
-rowsOf table = concat (map (λ l. Option·getD (rowOf l) []) (tail (lines table)))
+rowsOf table = flatten (map (λ l. Option·getD (readRow l) []) (tail (lines table)))
 
 -- 3, "rows lent as numbers, not four to each" or more than 1,024: "whole rows, 1,024 at most"
 unfoldable pub numbersFault : List ℤ → Option Refusal

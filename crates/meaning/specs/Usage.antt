@@ -6,25 +6,26 @@ use Prim.Native.Nat.{ℕ, zero, suc, _+_}
 use lib.IntN.{ℤ, pos, negsuc}
 use lib.Dec.{ltb, eqb}
 use Rattle.meaning.specs.Basics.{ifElse, common}
-use Rattle.meaning.specs.Tree.{Expr, literal, element, monadic, dyadic, noExpr, Receive, IfChoice, AltOption, Action, stop, skip, sequence, parallel, assign, receive, send, conditional, loop, alternation, Process, node, Members, empty, also, Part, parts}
+use Rattle.meaning.specs.Refusals.{Refusal}
+use Rattle.meaning.specs.Tree.{Expr, literal, element, monadic, dyadic, noExpr, ChannelInput, IfChoice, AltOption, Action, stop, skip, sequence, parallel, assign, input, output, conditional, loop, alternation, Process, node, Processes, empty, also, Content, contents}
 
 -- n numbers from first on
-unfoldable pub range : ℕ → ℕ → List ℕ
-range first zero = []
-range first (suc n) = first ∷ range (suc first) n
+unfoldable pub numbersFrom : ℕ → ℕ → List ℕ
+numbersFrom first zero = []
+numbersFrom first (suc n) = first ∷ numbersFrom (suc first) n
 
-abbrev pub when : Bool → ℕ → List ℕ
-when true a = a ∷ []
-when false a = []
+abbrev pub onlyIf : Bool → ℕ → List ℕ
+onlyIf true a = a ∷ []
+onlyIf false a = []
 
 -- "With a literal subscript only that number of that name counts, and nothing if it is outside the array; with any other, every number of the name"
 unfoldable pub countsFor : ℕ → ℕ → Expr → List ℕ
-countsFor first n (literal (pos k)) = when (ltb k n) (first + k)
+countsFor first n (literal (pos k)) = onlyIf (ltb k n) (first + k)
 countsFor first n (literal (negsuc k)) = []
-countsFor first n (element v e) = range first n
-countsFor first n (monadic op e) = range first n
-countsFor first n (dyadic op e f) = range first n
-countsFor first n noExpr = range first n
+countsFor first n (element v e) = numbersFrom first n
+countsFor first n (monadic op e) = numbersFrom first n
+countsFor first n (dyadic op e f) = numbersFrom first n
+countsFor first n noExpr = numbersFrom first n
 
 -- the cells that stand in an expression, subscripts included
 unfoldable pub standsIn : Expr → List ℕ
@@ -39,21 +40,21 @@ standsInChoices [] = []
 standsInChoices (t ∷ l) = standsIn (t .boolean) ++ standsInChoices l
 
 -- of an input: the cells of its target, the cells that it uses, the elements of its channel
-abbrev pub changesBy : Receive → List ℕ
+abbrev pub changesBy : ChannelInput → List ℕ
 changesBy i = countsFor (i .target .name .first) (i .target .name .size) (i .target .subscript)
 
-abbrev pub usesBy : Receive → List ℕ
+abbrev pub usesBy : ChannelInput → List ℕ
 usesBy i = changesBy i ++ (standsIn (i .subscript) ++ standsIn (i .target .subscript))
 
-abbrev pub inputsBy : Receive → List ℕ
+abbrev pub inputsBy : ChannelInput → List ℕ
 inputsBy i = countsFor (i .channel .first) (i .channel .size) (i .subscript)
 
 -- the inputs of guards: "Guard inputs count as inputs"
-abbrev pub ofGuard : (Receive → List ℕ) → Option Receive → List ℕ
+abbrev pub ofGuard : (ChannelInput → List ℕ) → Option ChannelInput → List ℕ
 ofGuard f none = []
 ofGuard f (some i) = f i
 
-abbrev pub ofGuards : (Receive → List ℕ) → List AltOption → List ℕ
+abbrev pub ofGuards : (ChannelInput → List ℕ) → List AltOption → List ℕ
 ofGuards f [] = []
 ofGuards f (b ∷ l) = ofGuard f (b .guard .input) ++ ofGuards f l
 
@@ -68,8 +69,8 @@ changes skip = []
 changes sequence = []
 changes parallel = []
 changes (assign v e f) = countsFor (v .first) (v .size) e
-changes (receive i) = changesBy i
-changes (send c e f) = []
+changes (input i) = changesBy i
+changes (output c e f) = []
 changes (conditional ts) = []
 changes (loop e b) = []
 changes (alternation bs) = ofGuards changesBy bs
@@ -81,44 +82,44 @@ uses skip = []
 uses sequence = []
 uses parallel = []
 uses (assign v e f) = countsFor (v .first) (v .size) e ++ (standsIn e ++ standsIn f)
-uses (receive i) = usesBy i
-uses (send c e f) = standsIn e ++ standsIn f
+uses (input i) = usesBy i
+uses (output c e f) = standsIn e ++ standsIn f
 uses (conditional ts) = standsInChoices ts
 uses (loop e b) = standsIn e
 uses (alternation bs) = standsInGuards bs ++ ofGuards usesBy bs
 
 -- the channel elements input from
-abbrev pub inputs : Action → List ℕ
-inputs stop = []
-inputs skip = []
-inputs sequence = []
-inputs parallel = []
-inputs (assign v e f) = []
-inputs (receive i) = inputsBy i
-inputs (send c e f) = []
-inputs (conditional ts) = []
-inputs (loop e b) = []
-inputs (alternation bs) = ofGuards inputsBy bs
+abbrev pub inputElements : Action → List ℕ
+inputElements stop = []
+inputElements skip = []
+inputElements sequence = []
+inputElements parallel = []
+inputElements (assign v e f) = []
+inputElements (input i) = inputsBy i
+inputElements (output c e f) = []
+inputElements (conditional ts) = []
+inputElements (loop e b) = []
+inputElements (alternation bs) = ofGuards inputsBy bs
 
 -- the channel elements output to
-abbrev pub outputs : Action → List ℕ
-outputs stop = []
-outputs skip = []
-outputs sequence = []
-outputs parallel = []
-outputs (assign v e f) = []
-outputs (receive i) = []
-outputs (send c e f) = countsFor (c .first) (c .size) e
-outputs (conditional ts) = []
-outputs (loop e b) = []
-outputs (alternation bs) = []
+abbrev pub outputElements : Action → List ℕ
+outputElements stop = []
+outputElements skip = []
+outputElements sequence = []
+outputElements parallel = []
+outputElements (assign v e f) = []
+outputElements (input i) = []
+outputElements (output c e f) = countsFor (c .first) (c .size) e
+outputElements (conditional ts) = []
+outputElements (loop e b) = []
+outputElements (alternation bs) = []
 
 -- over a process "with all beneath" it
 unfoldable mutual
   pub gather : Process → (Action → List ℕ) → List ℕ
   gather (node a r ms) f = f a ++ gatherAll ms f
 
-  pub gatherAll : Members → (Action → List ℕ) → List ℕ
+  pub gatherAll : Processes → (Action → List ℕ) → List ℕ
   gatherAll empty f = []
   gatherAll (also p ms) f = gather p f ++ gatherAll ms f
 
@@ -127,26 +128,24 @@ unfoldable pub cellClash : Process → Process → Bool
 cellClash p q = common (gather p changes) (gather q uses) || common (gather q changes) (gather p uses)
 
 unfoldable pub inputClash : Process → Process → Bool
-inputClash p q = common (gather p inputs) (gather q inputs)
+inputClash p q = common (gather p inputElements) (gather q inputElements)
 
 unfoldable pub outputClash : Process → Process → Bool
-outputClash p q = common (gather p outputs) (gather q outputs)
+outputClash p q = common (gather p outputElements) (gather q outputElements)
 
--- two components of a PAR, with their numbers
+-- two components of a PAR
 pub record Pair : Type 0 where
-  pub i : ℕ
-  pub j : ℕ
   pub one : Process
   pub other : Process
 
-abbrev pub pairsWith : ℕ → Process → ℕ → Members → List Pair
-pairsWith i p j empty = []
-pairsWith i p j (also q ms) = record { i = i; j = j; one = p; other = q } ∷ pairsWith i p (suc j) ms
+abbrev pub pairsWith : Process → Processes → List Pair
+pairsWith p empty = []
+pairsWith p (also q ms) = record { one = p; other = q } ∷ pairsWith p ms
 
--- the pairs of components numbered from i on
-abbrev pub pairs : ℕ → Members → List Pair
-pairs i empty = []
-pairs i (also p ms) = pairsWith i p (suc i) ms ++ pairs (suc i) ms
+-- the pairs of components, each with those after it
+abbrev pub pairs : Processes → List Pair
+pairs empty = []
+pairs (also p ms) = pairsWith p ms ++ pairs ms
 
 -- a possible clash: the refusal number, the PAR's row, the two components
 pub record Comparison : Type 0 where
@@ -154,30 +153,30 @@ pub record Comparison : Type 0 where
   pub row : ℕ
   pub pair : Pair
 
-abbrev pub ofPar : ℕ → Action → ℕ → Members → List Comparison
-ofPar number parallel r ms = map (λ (q : Pair). record { number = number; row = r; pair = q }) (pairs 0 ms)
+abbrev pub ofPar : ℕ → Action → ℕ → Processes → List Comparison
+ofPar number parallel r ms = map (λ (q : Pair). record { number = number; row = r; pair = q }) (pairs ms)
 ofPar number stop r ms = []
 ofPar number skip r ms = []
 ofPar number sequence r ms = []
 ofPar number (assign v e f) r ms = []
-ofPar number (receive i) r ms = []
-ofPar number (send c e f) r ms = []
+ofPar number (input i) r ms = []
+ofPar number (output c e f) r ms = []
 ofPar number (conditional ts) r ms = []
 ofPar number (loop e b) r ms = []
 ofPar number (alternation bs) r ms = []
 
-abbrev pub ofProcess : ℕ → Option Process → List Comparison
-ofProcess number none = []
-ofProcess number (some (node a r ms)) = ofPar number a r ms
+abbrev pub comparisonsIn : ℕ → Option Process → List Comparison
+comparisonsIn number none = []
+comparisonsIn number (some (node a r ms)) = ofPar number a r ms
 
 -- the cases of a number, by the PAR's row
-abbrev pub comparisonsOf : ℕ → List Part → List Comparison
+abbrev pub comparisonsOf : ℕ → List Content → List Comparison
 comparisonsOf number [] = []
-comparisonsOf number (p ∷ l) = ofProcess number (p .process) ++ comparisonsOf number l
+comparisonsOf number (p ∷ l) = comparisonsIn number (p .process) ++ comparisonsOf number l
 
 -- "a 7 anywhere goes before an 8, an 8 before a 9"
 unfoldable pub comparisons : List ℤ → List Comparison
-comparisons rows = let l = parts rows in comparisonsOf 7 l ++ (comparisonsOf 8 l ++ comparisonsOf 9 l)
+comparisons rows = let l = contents rows in comparisonsOf 7 l ++ (comparisonsOf 8 l ++ comparisonsOf 9 l)
 
 unfoldable pub clashes : Comparison → Bool
 clashes c =
@@ -189,10 +188,10 @@ unfoldable pub firstClash : List Comparison → Option Comparison
 firstClash [] = none
 firstClash (c ∷ l) = let later = firstClash l in ifElse (clashes c) (some c) later
 
-abbrev pub refusal : Option Comparison → Option (ℕ × ℕ)
-refusal none = none
-refusal (some c) = some (c .number, c .row)
+abbrev pub refusalOf : Option Comparison → Option Refusal
+refusalOf none = none
+refusalOf (some c) = some (c .number, c .row)
 
 -- "lowest PAR with a clash of that sort": the number and the PAR's row
-unfoldable pub usageFault : List ℤ → Option (ℕ × ℕ)
-usageFault rows = refusal (firstClash (comparisons rows))
+unfoldable pub usageFault : List ℤ → Option Refusal
+usageFault rows = refusalOf (firstClash (comparisons rows))

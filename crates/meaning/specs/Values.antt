@@ -1,5 +1,6 @@
 -- Values: operators over the whole numbers, reasons for no value, and the value of an expression in a store of cells.
--- Reasons: 1 an unset cell is read; 2 a subscript is outside the array; 3 the result doesn't fit; 4 a zero divisor.
+-- "Reasons for no value, the first met: 1 an unset cell is read; 2 a subscript is outside the array; 3 the result doesn't fit; 4 a zero divisor."
+-- The paper has no reason 0: it stands where an operator or expression is none, which no accepted table has.
 use mathlib.Core.Bool.{Bool, true, false, not, _&&_, _||_}
 use mathlib.Core.Option.{Option, none, some}
 use mathlib.Core.List.{List, [], _∷_}
@@ -15,17 +16,21 @@ use Rattle.meaning.specs.declared.Index.the-variants.{At, Fails}
 use Rattle.meaning.specs.Basics.{ifElse, eqZ}
 use Rattle.meaning.specs.Tree.{Expr, literal, element, monadic, dyadic, noExpr}
 
+-- what a cell, a reading and a channel's message is: a number, or none ("A missing sample must stay missing")
+abbrev pub Message : Type 0
+Message = Option ℤ
+
 -- z where 32 signed bits hold it, else reason 3
 unfoldable pub fitted : ℤ → Value
 fitted z = ifElse (ltZ z (negsuc 2147483647)) (Missing 3) (ifElse (ltZ (pos 2147483647) z) (Missing 3) (Number z))
 
 -- of a number between −2 ^ 32 and 2 ^ 32, the one that differs by 0 or 2 ^ 32 and fits in 32 signed bits
-abbrev pub turned : ℤ → ℤ
-turned r = ifElse (ltZ r (negsuc 2147483647)) (r +ℤ pos 4294967296) (ifElse (ltZ (pos 2147483647) r) (r -ℤ pos 4294967296) r)
+abbrev pub signed32 : ℤ → ℤ
+signed32 r = ifElse (ltZ r (negsuc 2147483647)) (r +ℤ pos 4294967296) (ifElse (ltZ (pos 2147483647) r) (r -ℤ pos 4294967296) r)
 
 -- "PLUS, MINUS and TIMES wrap"
 unfoldable pub wrapped : ℤ → ℤ
-wrapped z = turned (remZ z (pos 4294967296))
+wrapped z = signed32 (remZ z (pos 4294967296))
 
 -- "0 is false and any other value true"
 abbrev pub isTrue : ℤ → Bool
@@ -93,16 +98,16 @@ inArray first n (Number (negsuc i)) = Fails 2
 inArray first n (Missing k) = Fails k
 
 -- what a cell gives: "an unset cell is read"
-abbrev pub cellValue : Option ℤ → Value
+abbrev pub cellValue : Message → Value
 cellValue none = Missing 1
 cellValue (some x) = Number x
 
-abbrev pub readCell : List (Option ℤ) → Index → Value
+abbrev pub readCell : List Message → Index → Value
 readCell cells (At i) = cellValue (getD cells i none)
 readCell cells (Fails k) = Missing k
 
 -- the value of an expression, or the first reason met
-unfoldable pub value : List (Option ℤ) → Expr → Value
+unfoldable pub value : List Message → Expr → Value
 value cells (literal x) = Number x
 value cells (element v e) = readCell cells (inArray (v .first) (v .size) (value cells e))
 value cells (monadic op e) = whenNumber (value cells e) (monadicOf op)
@@ -110,5 +115,5 @@ value cells (dyadic op e f) = let w = value cells f in dyadicOf op (value cells 
 value cells noExpr = Missing 0
 
 -- the one of n, from first on, that a subscript means
-unfoldable pub index : List (Option ℤ) → ℕ → ℕ → Expr → Index
+unfoldable pub index : List Message → ℕ → ℕ → Expr → Index
 index cells first n e = inArray first n (value cells e)

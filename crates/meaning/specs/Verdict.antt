@@ -5,12 +5,12 @@ use mathlib.Core.Option.{Option, none, some, Option·map}
 use Prim.Native.Nat.{ℕ, zero, suc, _+_}
 use lib.IntN.{ℤ, pos, negsuc}
 use lib.Dec.{leb, ltb, eqb}
-use Rattle.meaning.specs.Limits.{maxCells, maxElements, maxPorts, maxCapacity, minNumber, maxNumber}
-use Rattle.meaning.specs.Rows.{rowCount, fieldAt, kindAt, declares, declarations}
-use Rattle.meaning.specs.Declarations.{sumBelow, hasRole, cellsAt, elementsAt, portsAt, capacityAt}
-use Rattle.meaning.specs.Basics.{ifElse, eqZ, inside, any, among, lowest}
-use Rattle.meaning.specs.TableBytes.{Refusal}
-use Rattle.meaning.specs.Kinds.{Field, unused, value, within, elements, capacity, variable, channel, reference, link, Shape, shapeOf, processes}
+use Rattle.meaning.specs.Limits.{maxCells, maxElements, maxHostChannels, maxCapacity, minNumber, maxNumber}
+use Rattle.meaning.specs.Rows.{rowCount, fieldAt, kindAt}
+use Rattle.meaning.specs.Declarations.{declares, declarations, sumBelow, hasRole, cellsAt, elementsAt, hostChannelsAt, capacityAt}
+use Rattle.meaning.specs.Basics.{ifElse, eqZ, inside, anyPasses, among, lowest}
+use Rattle.meaning.specs.Refusals.{Refusal}
+use Rattle.meaning.specs.Kinds.{Field, unused, literalValue, within, elements, capacity, variable, channel, reference, link, Shape, shapeOf, processes}
 
 -- 4 ---------------------------------------------------------------------------------------------------------------------------
 
@@ -20,28 +20,28 @@ names d test (pos r) = ltb r d && test r
 names d test (negsuc r) = false
 
 -- what a field of row r may hold as far as 4 says; a reference is the matter of 5
-unfoldable pub holds : List ℤ → ℕ → ℕ → Field → ℤ → Bool
-holds rows d r unused z = eqZ z (pos 0)
-holds rows d r value z = inside minNumber maxNumber z
-holds rows d r (within lo hi) z = inside lo hi z
-holds rows d r elements z = inside (pos 1) (pos 64) z && (eqZ (fieldAt rows r 2) (pos 0) || eqZ z (pos 1))
-holds rows d r capacity z = inside (pos 0) (pos 256) z && (eqZ (fieldAt rows r 2) (pos 2) || eqZ z (pos 0))
-holds rows d r variable z = names d (λ q. eqb (kindAt rows q) 1) z
-holds rows d r (channel roles) z = names d (λ q. any (λ role. hasRole role rows q) roles) z
-holds rows d r (reference kinds) z = true
-holds rows d r (link kinds) z = true
+unfoldable pub mayHold : List ℤ → ℕ → ℕ → Field → ℤ → Bool
+mayHold rows d r unused z = eqZ z (pos 0)
+mayHold rows d r literalValue z = inside minNumber maxNumber z
+mayHold rows d r (within lo hi) z = inside lo hi z
+mayHold rows d r elements z = inside (pos 1) (pos 64) z && (eqZ (fieldAt rows r 2) (pos 0) || eqZ z (pos 1))
+mayHold rows d r capacity z = inside (pos 0) (pos 256) z && (eqZ (fieldAt rows r 2) (pos 2) || eqZ z (pos 0))
+mayHold rows d r variable z = names d (λ q. eqb (kindAt rows q) 1) z
+mayHold rows d r (channel roles) z = names d (λ q. anyPasses (λ role. hasRole role rows q) roles) z
+mayHold rows d r (reference kinds) z = true
+mayHold rows d r (link kinds) z = true
 
 -- a row is as the shape of its kind says
 abbrev pub fits : List ℤ → ℕ → ℕ → Option Shape → Bool
 fits rows d r none = false
-fits rows d r (some s) = holds rows d r (s .a) (fieldAt rows r 1) && holds rows d r (s .b) (fieldAt rows r 2) && holds rows d r (s .c) (fieldAt rows r 3)
+fits rows d r (some s) = mayHold rows d r (s .a) (fieldAt rows r 1) && mayHold rows d r (s .b) (fieldAt rows r 2) && mayHold rows d r (s .c) (fieldAt rows r 3)
 
 -- "unknown kind, late declaration, operator or value out of range, a name that is no declaration of the sort and role given, unused field not 0"
-abbrev pub misformed : List ℤ → ℕ → ℕ → Bool
-misformed rows d r = (declares rows r && leb d r) || not (fits rows d r (shapeOf (kindAt rows r)))
+abbrev pub formFaultAt : List ℤ → ℕ → ℕ → Bool
+formFaultAt rows d r = (declares rows r && leb d r) || not (fits rows d r (shapeOf (kindAt rows r)))
 
 unfoldable pub formFault : List ℤ → Option Refusal
-formFault rows = let d = declarations rows in Option·map (λ r. (4, r)) (lowest (misformed rows d) (rowCount rows))
+formFault rows = let d = declarations rows in Option·map (λ r. (4, r)) (lowest (formFaultAt rows d) (rowCount rows))
 
 -- 5 ---------------------------------------------------------------------------------------------------------------------------
 
@@ -53,7 +53,7 @@ refers rows r kinds (negsuc i) = false
 -- what a field of row r may hold as far as 5 says: "'First' and 'next' may be −1 for none"
 unfoldable pub leads : List ℤ → ℕ → Field → ℤ → Bool
 leads rows r unused z = true
-leads rows r value z = true
+leads rows r literalValue z = true
 leads rows r (within lo hi) z = true
 leads rows r elements z = true
 leads rows r capacity z = true
@@ -69,7 +69,7 @@ targetOf rows r kinds (negsuc i) = []
 
 unfoldable pub target : List ℤ → ℕ → Field → ℤ → List ℕ
 target rows r unused z = []
-target rows r value z = []
+target rows r literalValue z = []
 target rows r (within lo hi) z = []
 target rows r elements z = []
 target rows r capacity z = []
@@ -102,24 +102,24 @@ leadsBy rows r none = true
 leadsBy rows r (some s) = leads rows r (s .a) (fieldAt rows r 1) && leads rows r (s .b) (fieldAt rows r 2) && leads rows r (s .c) (fieldAt rows r 3)
 
 -- "reference wrong"
-abbrev pub misleads : List ℤ → ℕ → Bool
-misleads rows r = not (leadsBy rows r (shapeOf (kindAt rows r)))
+abbrev pub referenceWrong : List ℤ → ℕ → Bool
+referenceWrong rows r = not (leadsBy rows r (shapeOf (kindAt rows r)))
 
 -- "a root that is no process"
 abbrev pub wrongRoot : List ℤ → ℕ → ℕ → Bool
 wrongRoot rows d r = eqb r d && not (among (kindAt rows r) processes)
 
 -- "a row referred to other than once (the root: never)"; refs are the rows that rows refer to
-abbrev pub miscounted : List ℕ → ℕ → ℕ → Bool
-miscounted refs d r = not (eqb (occurrences r refs) (ifElse (eqb r d) 0 1))
+abbrev pub notReferredOnce : List ℕ → ℕ → ℕ → Bool
+notReferredOnce refs d r = not (eqb (occurrences r refs) (ifElse (eqb r d) 0 1))
 
 -- a row at fault: "reference wrong", "a root that is no process, or a row referred to other than once"
-abbrev pub misplaced : List ℤ → ℕ → List ℕ → ℕ → Bool
-misplaced rows d refs r = misleads rows r || wrongRoot rows d r || miscounted refs d r
+abbrev pub rowFaultAt : List ℤ → ℕ → List ℕ → ℕ → Bool
+rowFaultAt rows d refs r = referenceWrong rows r || wrongRoot rows d r || notReferredOnce refs d r
 
 -- a place at fault: a row after the declarations, "or the count of rows if there is no root"
 abbrev pub treeFaultAt : List ℤ → ℕ → List ℕ → ℕ → Bool
-treeFaultAt rows d refs r = (eqb r (rowCount rows) && eqb d r) || (leb d r && ltb r (rowCount rows) && misplaced rows d refs r)
+treeFaultAt rows d refs r = (eqb r (rowCount rows) && eqb d r) || (leb d r && ltb r (rowCount rows) && rowFaultAt rows d refs r)
 
 unfoldable pub treeFault : List ℤ → Option Refusal
 treeFault rows =
@@ -138,8 +138,8 @@ abbrev pub overLimit : List ℤ → ℕ → Bool
 overLimit rows r =
     passes (cellsAt rows) maxCells r
     || passes (elementsAt rows) maxElements r
-    || passes (portsAt 1 rows) maxPorts r
-    || passes (portsAt 2 rows) maxPorts r
+    || passes (hostChannelsAt 1 rows) maxHostChannels r
+    || passes (hostChannelsAt 2 rows) maxHostChannels r
     || passes (capacityAt rows) maxCapacity r
 
 -- "declaration that passes a limit"

@@ -30,12 +30,12 @@ pub enum Node {
     Alt(usize),
     Member(usize, usize),
     Choice(usize, usize, usize),
-    Option(usize, usize, usize),
+    OptionRow(usize, usize, usize),
     Guard(usize, usize),
     Other,
 }
 
-// How a run ends: at rest (ended, stuck or broken), or with its budget used and a step ready.
+// How a run ends: at rest ("ended if the root has ended, broken if a row is stopped, else stuck"), or spent ("the steps equal the budget and one is ready").
 pub enum Outcome {
     Ended,
     Stuck,

@@ -7,12 +7,12 @@ use lib.ListN.{length, getD, set, length-set, replicate}
 use lib.Seq.{getD-set-same, getD-set-other}
 use lib.Dec.{ltb, eqb}
 use borrow.Author.Tests.{eqb-true, eqb-false, ltb-true, le-ltb, lt-ltb, eq-eqb, ne-eqb}
-use Rattle.meaning.specs.Basics.{ifElse, any, among}
+use Rattle.meaning.specs.Basics.{ifElse, anyPasses, among}
 use Rattle.notes.specs.Marks.{firstNote, noteAt}
 
 -- none is due
 pub noted-none : (j note old : ℕ) (l : List ℕ) → l ≡ [] → firstNote (among j l) note old ≡ old
-unfolding any
+unfolding anyPasses
 noted-none j note old l e = rw e
 
 stays : (t : Bool) (note : ℕ) → firstNote t note note ≡ note
@@ -30,25 +30,25 @@ kept-by false false note (suc n) h = refl
 module _ (j t note : ℕ) (m owners : List ℕ) (l : j < length owners) where
   -- row t has a note, or no place for one
   pub note-kept : (t < length owners → getD owners t 0 ≡ 0 → ⊥) → firstNote (among j (t ∷ m)) note (getD owners j 0) ≡ firstNote (among j m) note (getD owners j 0)
-  unfolding any
+  unfolding anyPasses
   note-kept h = go (eqb j t) refl
     where
-      go : (s : Bool) → eqb j t ≡ s → firstNote (s || any (eqb j) m) note (getD owners j 0) ≡ firstNote (any (eqb j) m) note (getD owners j 0)
+      go : (s : Bool) → eqb j t ≡ s → firstNote (s || anyPasses (eqb j) m) note (getD owners j 0) ≡ firstNote (anyPasses (eqb j) m) note (getD owners j 0)
       go false e = refl
       go true e =
           let q : j ≡ t = eqb-true j t e in
-          kept-by true (any (eqb j) m) note (getD owners j 0) (λ z. h (rw q at l) (rw q at z))
+          kept-by true (anyPasses (eqb j) m) note (getD owners j 0) (λ z. h (rw q at l) (rw q at z))
 
   -- row t gets its note
   pub note-made : t < length owners → getD owners t 0 ≡ 0 → firstNote (among j (t ∷ m)) note (getD owners j 0) ≡ firstNote (among j m) note (getD (set owners t note) j 0)
-  unfolding any
+  unfolding anyPasses
   note-made h z = go (eqb j t) refl
     where
-      go : (s : Bool) → eqb j t ≡ s → firstNote (s || any (eqb j) m) note (getD owners j 0) ≡ firstNote (any (eqb j) m) note (getD (set owners t note) j 0)
-      go false e = ap (firstNote (any (eqb j) m) note) (sym (getD-set-other owners t j note 0 (λ q. eqb-false j t e q)))
+      go : (s : Bool) → eqb j t ≡ s → firstNote (s || anyPasses (eqb j) m) note (getD owners j 0) ≡ firstNote (anyPasses (eqb j) m) note (getD (set owners t note) j 0)
+      go false e = ap (firstNote (anyPasses (eqb j) m) note) (sym (getD-set-other owners t j note 0 (λ q. eqb-false j t e q)))
       go true e =
           let q : j ≡ t = eqb-true j t e in
-          rw (q, z, getD-set-same owners t note 0 h) (sym (stays (any (eqb t) m) note))
+          rw (q, z, getD-set-same owners t note 0 h) (sym (stays (anyPasses (eqb t) m) note))
 
   -- so with what the code leaves
   pub note-given : firstNote (among j (t ∷ m)) note (getD owners j 0) ≡ firstNote (among j m) note (getD (noteAt owners t note) j 0)

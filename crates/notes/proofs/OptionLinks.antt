@@ -7,13 +7,13 @@ use lib.IntN.{ℤ}
 use Rattle.meaning.specs.Basics.{among, lowest}
 use Rattle.meaning.specs.declared.Node.{Node}
 use Rattle.meaning.specs.Rows.{rowCount, fieldAt, naturalAt, kindAt}
-use Rattle.meaning.specs.Tree.{Part, partOf, partAt, orStop, actionOf}
+use Rattle.meaning.specs.Tree.{Content, contentOf, contentAt, orStop, actionOf}
 use Rattle.meaning.specs.State.{program, processAt}
 use Rattle.agreement.proofs.OptionRows.{rowsOfOptions, optionRows}
 use Rattle.agreement.proofs.TableTree.{part-past, process-is}
-use Rattle.layout.specs.Operands.{operandAt}
-use Rattle.layout.proofs.RowNodes.{nodeOf}
-use Rattle.layout.proofs.Parts.{higherPart, part-of-kind, operand-part}
+use Rattle.base_layout.specs.Operands.{operandAt}
+use Rattle.base_layout.proofs.RowNodes.{nodeOf}
+use Rattle.base_layout.proofs.Parts.{higherContent, part-of-kind, operand-part}
 use Rattle.agreement.proofs.Separate.{processes-length}
 use Rattle.machine.specs.RowSteps.{altOf}
 use Rattle.offers.proofs.KindCases.{kind-cases}
@@ -21,10 +21,10 @@ use Rattle.offers.proofs.KindCases.{kind-cases}
 module _ (rows : List ℤ) where
   -- the rows of the options from row t on
   abbrev pub optionsFrom : ℕ → List ℕ
-  optionsFrom t = rowsOfOptions (partAt rows t .branches)
+  optionsFrom t = rowsOfOptions (contentAt rows t .options)
 
   pub options-past : (t : ℕ) → rowCount rows ≤ t → optionsFrom t ≡ []
-  options-past t l = ap (λ (p : Part). rowsOfOptions (p .branches)) (part-past rows t l)
+  options-past t l = ap (λ (p : Content). rowsOfOptions (p .options)) (part-past rows t l)
 
   -- is row j an option of row r
   abbrev pub isOptionOf : ℕ → ℕ → Bool
@@ -37,24 +37,24 @@ module _ (rows : List ℤ) where
 
   module _ (t : ℕ) (h : t < rowCount rows) where
     pub options-here : kindAt rows t ≡ 42 → optionsFrom t ≡ t ∷ optionsFrom (operandAt rows t 2)
-    options-here e = ap (λ (p : Part). rowsOfOptions (p .branches)) (part-of-kind rows t 42 h e) ∙ ap (λ (p : Part). t ∷ rowsOfOptions (p .branches)) (operand-part rows t 2)
+    options-here e = ap (λ (p : Content). rowsOfOptions (p .options)) (part-of-kind rows t 42 h e) ∙ ap (λ (p : Content). t ∷ rowsOfOptions (p .options)) (operand-part rows t 2)
 
     pub options-none : (kindAt rows t ≡ 42 → ⊥) → optionsFrom t ≡ []
     options-none n =
-        ap (λ (p : Part). rowsOfOptions (p .branches)) (part-of-kind rows t (kindAt rows t) h refl)
-        ∙ kind-cases (λ (m : Node). rowsOfOptions (partOf rows t (higherPart rows t) m .branches) ≡ []) (kindAt rows t) _ _ _ _
+        ap (λ (p : Content). rowsOfOptions (p .options)) (part-of-kind rows t (kindAt rows t) h refl)
+        ∙ kind-cases (λ (m : Node). rowsOfOptions (contentOf rows t (higherContent rows t) m .options) ≡ []) (kindAt rows t) _ _ _ _
         (λ e. refl) (λ e. refl) (λ e. refl) (λ e. refl) (λ e. refl) (λ e. refl) (λ e. refl) (λ e. refl) (λ e. refl) (λ e. refl)
         (λ e. refl) (λ e. refl) (λ e. refl) (λ e. refl) (λ e. refl) (λ e. refl) (λ e. absurd (n e)) (λ e. refl) refl
 
     -- an ALT has those from its first option on, any other row none
     pub alt-options : kindAt rows t ≡ 34 → optionRows (actionOf (processAt (program rows) t)) ≡ optionsFrom (operandAt rows t 1)
     alt-options e =
-        rw (process-is rows t) (ap (λ (p : Part). optionRows (actionOf (orStop (p .process)))) (part-of-kind rows t 34 h e)
-        ∙ ap (λ (p : Part). rowsOfOptions (p .branches)) (operand-part rows t 1))
+        rw (process-is rows t) (ap (λ (p : Content). optionRows (actionOf (orStop (p .process)))) (part-of-kind rows t 34 h e)
+        ∙ ap (λ (p : Content). rowsOfOptions (p .options)) (operand-part rows t 1))
 
     pub no-options : (kindAt rows t ≡ 34 → ⊥) → optionRows (actionOf (processAt (program rows) t)) ≡ []
     no-options n =
-        rw (process-is rows t) (ap (λ (p : Part). optionRows (actionOf (orStop (p .process)))) (part-of-kind rows t (kindAt rows t) h refl)
-        ∙ kind-cases (λ (m : Node). optionRows (actionOf (orStop (partOf rows t (higherPart rows t) m .process))) ≡ []) (kindAt rows t) _ _ _ _
+        rw (process-is rows t) (ap (λ (p : Content). optionRows (actionOf (orStop (p .process)))) (part-of-kind rows t (kindAt rows t) h refl)
+        ∙ kind-cases (λ (m : Node). optionRows (actionOf (orStop (contentOf rows t (higherContent rows t) m .process))) ≡ []) (kindAt rows t) _ _ _ _
         (λ e. refl) (λ e. refl) (λ e. refl) (λ e. refl) (λ e. refl) (λ e. refl) (λ e. refl) (λ e. refl) (λ e. refl) (λ e. refl)
         (λ e. refl) (λ e. refl) (λ e. refl) (λ e. absurd (n e)) (λ e. refl) (λ e. refl) (λ e. refl) (λ e. refl) refl)

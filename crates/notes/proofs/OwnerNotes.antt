@@ -6,7 +6,7 @@ use lib.IntN.{ℤ}
 use lib.ListN.{getD}
 use Rattle.meaning.specs.Basics.{among, lowest}
 use Rattle.meaning.specs.Rows.{rowCount, kindAt}
-use Rattle.layout.specs.Operands.{operandAt}
+use Rattle.base_layout.specs.Operands.{operandAt}
 use Rattle.notes.specs.Marks.{rowNote, firstNote}
 use Rattle.notes.proofs.Below.{lowest-next}
 use Rattle.notes.proofs.OptionLinks.{optionsFrom, isOptionOf, alt-options, no-options}

@@ -7,7 +7,7 @@ use lib.IntN.{ℤ}
 use lib.ListN.{length, getD, set}
 use lib.Dec.{ltb, eqb}
 use Rattle.meaning.specs.Basics.{ifElse}
-use Rattle.meaning.specs.Usage.{range}
+use Rattle.meaning.specs.Usage.{numbersFrom}
 use Rattle.meaning.specs.State.{program}
 use Rattle.machine.specs.RowSteps.{altOf}
 
@@ -28,4 +28,4 @@ noteAt notes t note = ifElse (ltb t (length notes) && eqb (getD notes t 0) 0) (s
 
 -- a note for each of n rows: the ALT that the row is an option of
 unfoldable pub ownerNotes : List ℤ → ℕ → List ℕ
-ownerNotes rows n = map (λ j. rowNote (altOf (program rows) j)) (range 0 n)
+ownerNotes rows n = map (λ j. rowNote (altOf (program rows) j)) (numbersFrom 0 n)

@@ -4,11 +4,11 @@ ghost use Prim.Native.Nat.{ℕ, _+_, _<_, _≤_};
 ghost use lib.ListN.{length, getD, replicate};
 ghost use Rattle.meaning.specs.Basics.{among};
 ghost use Rattle.meaning.specs.Rows.{rowCount};
-ghost use Rattle.meaning.specs.Tree.{partAt};
+ghost use Rattle.meaning.specs.Tree.{contentAt};
 ghost use Rattle.agreement.specs.RowsOfSteps.{rowsOfOptions};
 ghost use Rattle.notes.specs.Marks.{firstNote, noteAt, ownerNotes};
-use layout::nodes::natural;
-use layout::nodes::operand;
+use base_layout::nodes::natural;
+use base_layout::nodes::operand;
 
 // Notes `note` at row t, where there is none yet.
 pub fn note_at(notes: &mut [u16], t: usize, note: u16)
@@ -36,7 +36,7 @@ pub fn clear_notes(notes: &mut [u16])
 
 // Notes `note` at every option from row `first` on that has no note yet.
 fn note_options(rows: &[i32], first: usize, note: u16, owners: &mut [u16])
-    ensures { λ _. ⌜ ((j : ℕ) → j < length (now (owners .entry)) → getD (now (owners .exit)) j 0 ≡ firstNote (among j (rowsOfOptions (partAt (now (rows .entry)) first .branches))) note (getD (now (owners .entry)) j 0)) ⌝ }
+    ensures { λ _. ⌜ ((j : ℕ) → j < length (now (owners .entry)) → getD (now (owners .exit)) j 0 ≡ firstNote (among j (rowsOfOptions (contentAt (now (rows .entry)) first .options))) note (getD (now (owners .entry)) j 0)) ⌝ }
 {
     let mut t = first;
     while t < rows.len() / 4 {

@@ -11,12 +11,12 @@ use lib.Seq.{getD-set-same, getD-set-other}
 use lib.Dec.{eqb}
 use Rattle.meaning.specs.Basics.{ifElse, allBelow}
 use Rattle.meaning.specs.Rows.{rowCount}
-use Rattle.meaning.specs.Intent.{Sheet}
+use Rattle.meaning.specs.Readings.{Sheet}
 use Rattle.offers.specs.Held.{KeptReadings}
 use Rattle.rowlist.proofs.Agreeing.{below-none, below-next, below-same}
 use Rattle.stepping.specs.Acts.{actCode, sentCode, noteSender, workingDoes, Noted}
 use Rattle.stepping.proofs.ActNotes.{acts-next, noted-start, noted-next}
-use Rattle.noting.specs.Kept.{mayStep, Room, Kept}
+use Rattle.noting.specs.Kept.{mayStep, NotesRoom, RowsNoted}
 
 -- the rows below r + 1 that may step, when what row r would do is noted
 pub may-next : (acts owners : List ℕ) (r x : ℕ) → r < length acts
@@ -58,7 +58,7 @@ module _ (rows values : List ℤ) (marks places counts states owners : List ℕ)
         sent = λ sheet K j h. ap (λ (o : List ℕ). getD o j 0) b ∙ acts-next (λ i. sentCode (workingDoes rows sheet values marks places counts states i)) sent r ls (F .sent sheet K) s (codes sheet K .1) j h;
       }
 
-  pub filled-all : (acts sent waiting list : List ℕ) (m : ℕ) → Filled (rowCount rows) acts sent waiting list m → Room (rowCount rows) acts sent waiting → rowCount rows ≤ length list
-      → (sheet : Sheet) → KeptReadings rows sheet readings given lines → Kept rows sheet values marks places counts states owners acts sent waiting list m
+  pub filled-all : (acts sent waiting list : List ℕ) (m : ℕ) → Filled (rowCount rows) acts sent waiting list m → NotesRoom (rowCount rows) acts sent waiting → rowCount rows ≤ length list
+      → (sheet : Sheet) → KeptReadings rows sheet readings given lines → RowsNoted rows sheet values marks places counts states owners acts sent waiting list m
   filled-all acts sent waiting list m F room l sheet K =
       record { room = room; noted = F .noted sheet K; sent = F .sent sheet K; work = (F .work, omega (arith, F .few, l), l) }

@@ -10,22 +10,23 @@ use Rattle.meaning.specs.declared.Value.{Value}
 use Rattle.meaning.specs.declared.Value.the-variants.{Number, Missing}
 use Rattle.meaning.specs.declared.Index.{Index}
 use Rattle.meaning.specs.declared.Index.the-variants.{At, Fails}
-use Rattle.meaning.specs.Rows.{ifElse, rowCount, naturalAt, kindAt}
+use Rattle.meaning.specs.Basics.{ifElse}
+use Rattle.meaning.specs.Rows.{rowCount, naturalAt, kindAt}
 use Rattle.meaning.specs.Declarations.{variableAt}
 use Rattle.meaning.specs.Values.{isTrue, value, index}
-use Rattle.meaning.specs.Tree.{Part, empty, orStop, membersIn}
+use Rattle.meaning.specs.Tree.{Content, empty, orStop, processesIn}
 use Rattle.meaning.specs.State.{program, processAt}
-use Rattle.meaning.specs.Intent.{Sheet}
+use Rattle.meaning.specs.Readings.{Sheet}
+use Rattle.meaning.specs.Buffers.{decoded}
 use Rattle.agreement.proofs.TableTree.{process-is}
-use Rattle.layout.proofs.Parts.{part-of-kind}
-use Rattle.evaluation.specs.Cells.{decoded}
+use Rattle.base_layout.proofs.Parts.{part-of-kind}
 use Rattle.offers.specs.Rows.{operandExpr}
 use Rattle.intents.specs.declared.Does.{Does}
 use Rattle.intents.specs.declared.Does.the-variants.{Waits, Starts, Ends}
 use Rattle.intents.specs.Does.{assigned, tested, doesOf}
 use Rattle.intents.specs.Rows.{assignmentAt, whileAt}
 use Rattle.intents.proofs.Actions.{actionAt, past-does, assignment-does, while-does, other-does}
-use Rattle.machine.specs.RowSteps.{liveByMembers}
+use Rattle.machine.specs.RowSteps.{liveByProcesses}
 use Rattle.notes.proofs.WorkingRows.{running-with}
 use Rattle.stepping.specs.Acts.{actCode, sentCode, workingDoes}
 
@@ -49,11 +50,11 @@ tested-steps body (Number x) = go (isTrue x)
 module _ (rows : List ℤ) (r : ℕ) (states : List ℕ) where
   -- the numbers act and s are those of a row that has a step whenever it is at work
   abbrev pub StepCodes : ℕ → ℕ → Type 0
-  StepCodes act s = (act ≡ ifElse (liveByMembers (program rows) r states) 1 0) × (s ≡ 0)
+  StepCodes act s = (act ≡ ifElse (liveByProcesses (program rows) r states) 1 0) × (s ≡ 0)
 
   -- an assignment has no members
-  no-members : r < rowCount rows → kindAt rows r ≡ 22 → membersIn (processAt (program rows) r) ≡ empty
-  no-members l e = ap membersIn (process-is rows r ∙ ap (λ (p : Part). orStop (p .process)) (part-of-kind rows r 22 l e))
+  no-members : r < rowCount rows → kindAt rows r ≡ 22 → processesIn (processAt (program rows) r) ≡ empty
+  no-members l e = ap processesIn (process-is rows r ∙ ap (λ (p : Content). orStop (p .process)) (part-of-kind rows r 22 l e))
 
   -- so it is at work where it is running
   running-codes : r < rowCount rows → kindAt rows r ≡ 22 → {n : ℕ} → n ≡ getD states r 0 → n ≡ 1 → StepCodes 1 0
@@ -69,7 +70,7 @@ module _ (rows : List ℤ) (r : ℕ) (states : List ℕ) where
 
     of-waiting : does ≡ Waits → Coded 0 0
     unfolding workingDoes
-    of-waiting e = rw e (go (liveByMembers (program rows) r states))
+    of-waiting e = rw e (go (liveByProcesses (program rows) r states))
       where
         go : (t : Bool) → (0 ≡ actCode (ifElse t Waits Waits)) × (0 ≡ sentCode (ifElse t Waits Waits))
         go true = (refl, refl)
@@ -77,7 +78,7 @@ module _ (rows : List ℤ) (r : ℕ) (states : List ℕ) where
 
     of-stepping : (d : Does) → does ≡ d → Steps d → {act s : ℕ} → StepCodes act s → Coded act s
     unfolding workingDoes
-    of-stepping d e w (a, z) = rw (e, a, z) (go (liveByMembers (program rows) r states))
+    of-stepping d e w (a, z) = rw (e, a, z) (go (liveByProcesses (program rows) r states))
       where
         go : (t : Bool) → (ifElse t 1 0 ≡ actCode (ifElse t d Waits)) × (0 ≡ sentCode (ifElse t d Waits))
         go true = (sym (w .0), sym (w .1))

@@ -9,7 +9,7 @@ use lib.ListN.{length, getD}
 use lib.Dec.{eqb}
 use Rattle.meaning.specs.Basics.{lowest}
 use Rattle.meaning.specs.Rows.{rowCount}
-use Rattle.meaning.specs.Intent.{Sheet}
+use Rattle.meaning.specs.Readings.{Sheet}
 use Rattle.settling.specs.Touched.{Listed}
 use Rattle.notes.specs.Marks.{rowNote}
 use Rattle.rowlist.specs.InOrder.{InOrder}
@@ -32,22 +32,22 @@ abbrev pub Affected : List ℕ → List ℕ → ℕ → Type 0
 Affected touched parents j = Listed touched j ⊎ ((r : ℕ) × Listed touched r × (getD parents r 0 ≡ suc j))
 
 -- the lists are long enough for n rows, and for every element
-pub record Room (n : ℕ) (actsHeld sentHeld waitingHeld : List ℕ) : Type 0 where
+pub record NotesRoom (n : ℕ) (actsHeld sentHeld waitingHeld : List ℕ) : Type 0 where
   pub acts : n ≤ length actsHeld
   pub sent : n ≤ length sentHeld
   pub waiting : length waitingHeld ≡ 256
 
 module _ (rows : List ℤ) (sheet : Sheet) (values : List ℤ) (marks places counts states owners : List ℕ) where
   -- what each row would do now is noted
-  pub record Kept (acts sentHeld waiting list : List ℕ) (count : ℕ) : Type 0 where
-    pub room : Room (rowCount rows) acts sentHeld waiting
+  pub record RowsNoted (acts sentHeld waiting list : List ℕ) (count : ℕ) : Type 0 where
+    pub room : NotesRoom (rowCount rows) acts sentHeld waiting
     pub noted : Noted rows sheet values marks places counts states (rowCount rows) acts waiting
     pub sent : (j : ℕ) → j < rowCount rows → getD sentHeld j 0 ≡ sentCode (workingDoes rows sheet values marks places counts states j)
     pub work : InOrder (mayStep acts owners) (rowCount rows) list count
 
   -- what each row would do now is noted, but for rows that a step affected
   pub record Stale (touched parents acts sent waiting list : List ℕ) (count : ℕ) : Type 0 where
-    pub room : Room (rowCount rows) acts sent waiting
+    pub room : NotesRoom (rowCount rows) acts sent waiting
     pub right : (j : ℕ) → j < rowCount rows → Affected touched parents j
         ⊎ ((getD acts j 0 ≡ actCode (workingDoes rows sheet values marks places counts states j)) × (getD sent j 0 ≡ sentCode (workingDoes rows sheet values marks places counts states j)))
     pub waits : WaitsNoted (rowCount rows) sent waiting

@@ -5,15 +5,16 @@ ghost use mathlib.Core.List.{[], _∷_, _++_};
 ghost use Prim.Native.Nat.{_+_, _<_, _≤_};
 ghost use lib.ListN.{length, set, take};
 ghost use lib.Dec.{eqb};
-ghost use Rattle.meaning.specs.Rows.{ifElse, rowCount};
+ghost use Rattle.meaning.specs.Basics.{ifElse};
+ghost use Rattle.meaning.specs.Rows.{rowCount};
 ghost use Rattle.meaning.specs.State.{program};
-ghost use Rattle.meaning.specs.Intent.{Sheet};
-ghost use Rattle.layout.specs.Names.{Named};
+ghost use Rattle.meaning.specs.Readings.{Sheet};
+ghost use Rattle.base_layout.specs.Names.{Named};
 ghost use Rattle.offers.specs.Held.{KeptReadings};
-ghost use Rattle.machine.specs.RowSteps.{liveByMembers};
+ghost use Rattle.machine.specs.RowSteps.{liveByProcesses};
 ghost use Rattle.stepping.specs.Acts.{actCode, sentCode, noteSender, workingDoes};
-ghost use Rattle.noting.specs.Kept.{Room, Kept};
-use layout::nodes::natural;
+ghost use Rattle.noting.specs.Kept.{NotesRoom, RowsNoted};
+use base_layout::nodes::natural;
 use notes::owners::clear_notes;
 use notes::owners::note_at;
 use notes::working::live;
@@ -66,7 +67,7 @@ fn working_codes<'a>(
 
 // What row r would do, if it has a step by itself whenever it is at work.
 fn step_codes<'a>(rows: &'a [i32], states: &'a [u8], r: usize) -> Codes
-    ensures { λ c. ⌜ (c .act ≡ ifElse (liveByMembers (program (now (rows .entry))) r (now (states .entry))) 1 0) × (c .sent ≡ 0) ⌝ }
+    ensures { λ c. ⌜ (c .act ≡ ifElse (liveByProcesses (program (now (rows .entry))) r (now (states .entry))) 1 0) × (c .sent ≡ 0) ⌝ }
 {
     if live(rows, states, r) {
         return Codes { act: 1, sent: 0 };
@@ -180,8 +181,8 @@ pub fn note_all<'a>(
     list: &mut [u16],
 ) -> usize
     requires named { ⌜ Named (now rows) (now names) ⌝ }
-    requires room { ⌜ (rowCount (now rows) ≤ 1024) × Room (rowCount (now rows)) (now acts) (now sent) (now waiting) × (rowCount (now rows) ≤ length (now list)) ⌝ }
-    ensures { λ m. ⌜ ((sheet : Sheet) → KeptReadings (now (rows .entry)) sheet (now (readings .entry)) (now (given .entry)) lines → Kept (now (rows .entry)) sheet (now (values .entry)) (now (marks .entry)) (now (places .entry)) (now (counts .entry)) (now (states .entry)) (now (owners .entry)) (now (acts .exit)) (now (sent .exit)) (now (waiting .exit)) (now (list .exit)) m) ⌝ }
+    requires room { ⌜ (rowCount (now rows) ≤ 1024) × NotesRoom (rowCount (now rows)) (now acts) (now sent) (now waiting) × (rowCount (now rows) ≤ length (now list)) ⌝ }
+    ensures { λ m. ⌜ ((sheet : Sheet) → KeptReadings (now (rows .entry)) sheet (now (readings .entry)) (now (given .entry)) lines → RowsNoted (now (rows .entry)) sheet (now (values .entry)) (now (marks .entry)) (now (places .entry)) (now (counts .entry)) (now (states .entry)) (now (owners .entry)) (now (acts .exit)) (now (sent .exit)) (now (waiting .exit)) (now (list .exit)) m) ⌝ }
 {
     clear_notes(waiting);
     let mut m = 0;

@@ -10,7 +10,7 @@ use Rattle.meaning.specs.TableBytes.{bytesFault, rowsOf}
 use Rattle.meaning.specs.Answers.{Reply}
 use Rattle.occam_table.specs.Packing.{answerNumber}
 use Rattle.occam_table.specs.Exports.{Packed, packed}
-use Rattle.lending.specs.Replies.{past}
+use Rattle.write_buffers.specs.Replies.{past}
 use Rattle.occam_table.specs.RowsLent.{rowsLent}
 
 pub packed-reply : (n : ℕ) (r q : Reply) → n ≡ answerNumber (r .answer) → r ≡ q → _≡_ {A = Packed} (record { number = n; buffers = r .buffers }) (packed q)

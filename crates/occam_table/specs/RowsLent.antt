@@ -6,8 +6,9 @@ use lib.IntN.{ℤ}
 use lib.ListN.{length}
 use lib.Dec.{ltb}
 use Rattle.meaning.specs.Basics.{ifElse}
-use Rattle.meaning.specs.TableBytes.{Refusal, bytesFault, rowsOf}
-use Rattle.lending.specs.Replies.{past}
+use Rattle.meaning.specs.Refusals.{Refusal}
+use Rattle.meaning.specs.TableBytes.{bytesFault, rowsOf}
+use Rattle.write_buffers.specs.Replies.{past}
 
 -- how many numbers, with the numbers at the start; 0 and nothing written if the bytes are refused
 abbrev pub rowsBy : Option Refusal → List ℤ → List ℤ → ℕ × List ℤ

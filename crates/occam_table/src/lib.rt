@@ -11,18 +11,18 @@ mod packing; // packing.rt: answers as one number
 use meaning::Verdict;
 
 // The public entries of Rattle callers: the verdict, the run, the strip of a host channel.
-pub use checking::check_rows;
-pub use checking::check_table;
-pub use entries::run_rows;
-pub use entries::run_table;
-pub use strips::strip;
+pub use call_table::run_rows;
+pub use call_table::run_table;
+pub use check_verdict::check_rows;
+pub use check_verdict::check_table;
+pub use write_strips::strip;
 
 // The verdict on rows lent as numbers.
 #[no_mangle]
 pub extern "C" fn occam_check_rows(rows: &[i32]) -> u64
     ensures { λ n. ⌜ n ≡ verdictNumber (verdictOf (check (now (rows .entry)))) ⌝ }
 {
-    packing::verdict_number(checking::check_rows(rows))
+    packing::verdict_number(check_verdict::check_rows(rows))
 }
 
 // The verdict on a table's bytes.
@@ -30,7 +30,7 @@ pub extern "C" fn occam_check_rows(rows: &[i32]) -> u64
 pub extern "C" fn occam_check_table(table: &[u8]) -> u64
     ensures { λ n. ⌜ n ≡ verdictNumber (verdictOf (checkBytes (now (table .entry)))) ⌝ }
 {
-    packing::verdict_number(checking::check_table(table))
+    packing::verdict_number(check_verdict::check_table(table))
 }
 
 // A run of rows lent as numbers.
@@ -49,7 +49,7 @@ pub extern "C" fn occam_run_rows(
 ) -> u64
     ensures { λ n. ⌜ record { number = n; buffers = record { cells = now (cells .exit); marks = now (marks .exit); states = now (states .exit); places = now (places .exit); numbers = now (numbers .exit); counts = now (counts .exit) } } ≡ packed (reply (record { rows = now (rows .entry); sheet = now (sheet .entry); choices = now (choices .entry); budget = budget }) (record { cells = now (cells .entry); marks = now (marks .entry); states = now (states .entry); places = now (places .entry); numbers = now (numbers .entry); counts = now (counts .entry) })) ⌝ }
 {
-    packing::answer_number(entries::run_rows(
+    packing::answer_number(call_table::run_rows(
         rows,
         sheet,
         choices,
@@ -79,7 +79,7 @@ pub extern "C" fn occam_run_table(
 ) -> u64
     ensures { λ n. ⌜ record { number = n; buffers = record { cells = now (cells .exit); marks = now (marks .exit); states = now (states .exit); places = now (places .exit); numbers = now (numbers .exit); counts = now (counts .exit) } } ≡ packed (replyToBytes (now (table .entry)) (now (sheet .entry)) (now (choices .entry)) budget (record { cells = now (cells .entry); marks = now (marks .entry); states = now (states .entry); places = now (places .entry); numbers = now (numbers .entry); counts = now (counts .entry) })) ⌝ }
 {
-    packing::answer_number(entries::run_table(
+    packing::answer_number(call_table::run_table(
         table,
         sheet,
         choices,
@@ -102,14 +102,14 @@ pub extern "C" fn occam_read_rows(table: &[u8], rows: &mut [i32]) -> u64
     if rows.len() < 4096 {
         return 0;
     }
-    let read = table::read_table(table);
+    let read = read_table::read_table(table);
     let verdict = read.verdict;
     match verdict {
         Verdict::Rejected(_, _) => 0,
         Verdict::Accepted => {
             let n = 4 * read.count;
             let held = read.rows;
-            lending::copying::copy_numbers(&held[..n], rows);
+            write_buffers::copying::copy_numbers(&held[..n], rows);
             n as u64
         }
     }
@@ -120,6 +120,6 @@ pub extern "C" fn occam_read_rows(table: &[u8], rows: &mut [i32]) -> u64
 pub extern "C" fn occam_strip(rows: &[i32], channel: usize) -> u64
     ensures { λ n. ⌜ n ≡ stripNumber (now (rows .entry)) channel ⌝ }
 {
-    let span = strips::span_of(rows, channel, 65535);
+    let span = write_strips::span_of(rows, channel, 65535);
     span.start as u64 + 65536 * (span.size as u64)
 }

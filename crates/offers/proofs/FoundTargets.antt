@@ -7,23 +7,22 @@ use Rattle.meaning.specs.declared.Index.{Index}
 use Rattle.meaning.specs.declared.Index.the-variants.{Fails}
 use Rattle.meaning.specs.Rows.{rowCount, naturalAt, kindAt}
 use Rattle.meaning.specs.Declarations.{variableAt}
-use Rattle.meaning.specs.Tree.{partAt}
-use Rattle.meaning.specs.Values.{value, index, inArray}
-use Rattle.meaning.specs.State.{Message}
-use Rattle.layout.specs.declared.Extent as extent
-use Rattle.layout.specs.Names.{Named, variableIn, extentOf}
-use Rattle.layout.specs.Operands.{operandAt}
-use Rattle.layout.proofs.Parts.{part-past}
+use Rattle.meaning.specs.Tree.{contentAt}
+use Rattle.meaning.specs.Values.{Message, inArray, value, index}
+use Rattle.base_layout.specs.declared.Extent as extent
+use Rattle.base_layout.specs.Names.{Named, variableIn, extentOf}
+use Rattle.base_layout.specs.Operands.{operandAt}
+use Rattle.base_layout.proofs.Parts.{part-past}
 use Rattle.offers.specs.Rows.{targetIndex, operandExpr}
 use Rattle.offers.proofs.RowParts.{target-at, no-target}
 
 module _ (rows : List ℤ) (cells : List Message) (r : ℕ) where
   -- past the table, and at other kinds, there is no target
-  pub target-past : rowCount rows ≤ r → Fails 0 ≡ targetIndex cells (partAt rows r .target)
+  pub target-past : rowCount rows ≤ r → Fails 0 ≡ targetIndex cells (contentAt rows r .target)
   unfolding index value inArray
   target-past h = rw (part-past rows r h)
 
-  pub target-other : r < rowCount rows → (kindAt rows r ≡ 11 → ⊥) → Fails 0 ≡ targetIndex cells (partAt rows r .target)
+  pub target-other : r < rowCount rows → (kindAt rows r ≡ 11 → ⊥) → Fails 0 ≡ targetIndex cells (contentAt rows r .target)
   unfolding index value inArray
   target-other h n = rw (no-target rows r h n)
 
@@ -33,13 +32,13 @@ module _ (rows : List ℤ) (cells : List Message) (r : ℕ) where
 
     -- the one that a subscript means, of a variable and an operand that were found
     pub found-index : {a b : ℕ} {v : extent.Extent} {i : Index} → a ≡ naturalAt rows r 1 → v ≡ extentOf (variableIn names a) → b ≡ operandAt rows r 2
-        → i ≡ index cells (v .first) (v .size) (partAt rows b .expr)
+        → i ≡ index cells (v .first) (v .size) (contentAt rows b .expr)
         → i ≡ index cells (variableAt rows (naturalAt rows r 1) .first) (variableAt rows (naturalAt rows r 1) .size) (operandExpr rows r 2)
     found-index {a} {b} {v} p q s t =
         t
-        ∙ ap (λ (b : ℕ). index cells (v .first) (v .size) (partAt rows b .expr)) s
+        ∙ ap (λ (b : ℕ). index cells (v .first) (v .size) (contentAt rows b .expr)) s
         ∙ ap (λ (v : extent.Extent). index cells (v .first) (v .size) (operandExpr rows r 2)) (named-extent p q)
 
     pub target-found : r < rowCount rows → kindAt rows r ≡ 11 → {a b : ℕ} {v : extent.Extent} {i : Index} → a ≡ naturalAt rows r 1 → v ≡ extentOf (variableIn names a) → b ≡ operandAt rows r 2
-        → i ≡ index cells (v .first) (v .size) (partAt rows b .expr) → i ≡ targetIndex cells (partAt rows r .target)
+        → i ≡ index cells (v .first) (v .size) (contentAt rows b .expr) → i ≡ targetIndex cells (contentAt rows r .target)
     target-found h k p q s t = found-index p q s t ∙ ap (targetIndex cells) (sym (target-at rows r h k))

@@ -6,9 +6,9 @@ use lib.IntN.{ℤ}
 use lib.Dec.{eqb}
 use borrow.Author.Tests.{eqb-true}
 use Rattle.meaning.specs.declared.Node.{Node}
-use Rattle.meaning.specs.declared.Node.the-variants.{Literal, Element, Monadic, Dyadic, Stop, Skip, Assignment, Input, Output, Seq, Par, If, While, Alt, Member, Choice, Option, Guard, Other}
-use Rattle.meaning.specs.Rows.{ifElse}
-use Rattle.layout.proofs.RowNodes.{nodeOf}
+use Rattle.meaning.specs.declared.Node.the-variants.{Literal, Element, Monadic, Dyadic, Stop, Skip, Assignment, Input, Output, Seq, Par, If, While, Alt, Member, Choice, OptionRow, Guard, Other}
+use Rattle.meaning.specs.Basics.{ifElse}
+use Rattle.base_layout.proofs.RowNodes.{nodeOf}
 
 module _ (Q : Node → Type 0) (k : ℕ) where
   either : (j : ℕ) (m n : Node) → (k ≡ j → Q m) → Q n → Q (ifElse (eqb k j) m n)
@@ -21,7 +21,7 @@ module _ (Q : Node → Type 0) (k : ℕ) where
   pub kind-cases : (x : ℤ) (a b c : ℕ) → (k ≡ 10 → Q (Literal x)) → (k ≡ 11 → Q (Element a b)) → (k ≡ 12 → Q (Monadic a b)) → (k ≡ 13 → Q (Dyadic a b c))
       → (k ≡ 20 → Q Stop) → (k ≡ 21 → Q Skip) → (k ≡ 22 → Q (Assignment a b c)) → (k ≡ 23 → Q (Input a b c)) → (k ≡ 24 → Q (Output a b c))
       → (k ≡ 30 → Q (Seq a)) → (k ≡ 31 → Q (Par a)) → (k ≡ 32 → Q (If a)) → (k ≡ 33 → Q (While a b)) → (k ≡ 34 → Q (Alt a))
-      → (k ≡ 40 → Q (Member a b)) → (k ≡ 41 → Q (Choice a b c)) → (k ≡ 42 → Q (Option a b c)) → (k ≡ 43 → Q (Guard a b)) → Q Other → Q (nodeOf k x a b c)
+      → (k ≡ 40 → Q (Member a b)) → (k ≡ 41 → Q (Choice a b c)) → (k ≡ 42 → Q (OptionRow a b c)) → (k ≡ 43 → Q (Guard a b)) → Q Other → Q (nodeOf k x a b c)
   kind-cases x a b c literal element monadic dyadic stop skip assignment input output seq par if′ while′ alt member choice option guard other =
       either 10 _ _ literal
       (either 11 _ _ element

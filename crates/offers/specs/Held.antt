@@ -4,24 +4,25 @@ use mathlib.Core.Option.{none, some}
 use mathlib.Core.List.{List, [], _∷_}
 use Prim.Native.Nat.{ℕ, suc, _+_, _*_, _<_}
 use lib.IntN.{ℤ, pos}
-use lib.ListN.{length, getD}
+use lib.ListN.{length, getD, getElem?}
 use lib.Dec.{ltb}
 use Rattle.meaning.specs.Basics.{isSome}
-use Rattle.meaning.specs.Declarations.{totalPorts}
+use Rattle.meaning.specs.Declarations.{hostChannels}
 use Rattle.meaning.specs.Tree.{AltOption}
-use Rattle.meaning.specs.State.{Message, Store, Write, writeCell, writePlace}
-use Rattle.meaning.specs.Buffers.{mark, numberIn}
+use Rattle.meaning.specs.Values.{Message}
+use Rattle.meaning.specs.State.{Store, Write, writeCell, writePlace}
+use Rattle.meaning.specs.Readings.{Sheet}
+use Rattle.meaning.specs.Buffers.{mark, numberIn, cellOf, decoded}
 use Rattle.meaning.specs.Intent as meaning
-use Rattle.meaning.specs.Intent.{Sheet, entry, openOffer, inputOffer, Looked, fails, offers}
-use Rattle.evaluation.specs.Cells.{cellOf, decoded}
+use Rattle.meaning.specs.Intent.{openOffer, inputOffer, OptionsResult, fails, offers}
 use Rattle.offers.specs.declared.Offer.{Offer}
 use Rattle.offers.specs.declared.Offer.the-variants.{Lacks, Nothing, Open, Reads as Read, Inputs}
 
 -- the arrays hold the readings of a table's role 1 channels: a reading is left below the number of lines, and its number and mark (0 where it is absent) are kept at port * 128 + line
 pub record KeptReadings (rows : List ℤ) (sheet : Sheet) (readings : List ℤ) (given : List ℕ) (lines : ℕ) : Type 0 where
-  pub left : (p n : ℕ) → p < totalPorts 1 rows → isSome (entry (getD sheet p []) n) ≡ ltb n lines
-  pub number : (p n : ℕ) → p < totalPorts 1 rows → (m : Message) → entry (getD sheet p []) n ≡ some m → getD readings (p * 128 + n) (pos 0) ≡ numberIn m
-  pub marked : (p n : ℕ) → p < totalPorts 1 rows → (m : Message) → entry (getD sheet p []) n ≡ some m → getD given (p * 128 + n) 0 ≡ mark m
+  pub left : (p n : ℕ) → p < hostChannels 1 rows → isSome (getElem? (getD sheet p []) n) ≡ ltb n lines
+  pub number : (p n : ℕ) → p < hostChannels 1 rows → (m : Message) → getElem? (getD sheet p []) n ≡ some m → getD readings (p * 128 + n) (pos 0) ≡ numberIn m
+  pub marked : (p n : ℕ) → p < hostChannels 1 rows → (m : Message) → getElem? (getD sheet p []) n ≡ some m → getD given (p * 128 + n) 0 ≡ mark m
 
 -- the arrays hold a store, but for what the output lists contain: its cells, places, and the lengths of its output lists
 pub record Held (x : Store) (values : List ℤ) (marks : List ℕ) (placesHeld : List ℕ) (countsHeld : List ℕ) : Type 0 where
@@ -34,14 +35,14 @@ abbrev pub readWrites : Store → ℕ → ℤ → ℕ → ℕ → List Write
 readWrites x a v m p = writeCell a (cellOf v m) ∷ writePlace p (suc (getD (x .places) p 0)) ∷ []
 
 -- what an option offers, looked at by itself
-abbrev pub lookedAs : Store → AltOption → Offer → Looked
-lookedAs x b (Lacks k) = fails k
-lookedAs x b Nothing = offers []
-lookedAs x b Open = offers (openOffer (b .row) (b .process) [] ∷ [])
-lookedAs x b (Read a v m p) = offers (openOffer (b .row) (b .process) (readWrites x a v m p) ∷ [])
-lookedAs x b (Inputs e a) = offers (inputOffer (b .row) (b .process) e a ∷ [])
+abbrev pub optionOffers : Store → AltOption → Offer → OptionsResult
+optionOffers x b (Lacks k) = fails k
+optionOffers x b Nothing = offers []
+optionOffers x b Open = offers (openOffer (b .row) (b .process) [] ∷ [])
+optionOffers x b (Read a v m p) = offers (openOffer (b .row) (b .process) (readWrites x a v m p) ∷ [])
+optionOffers x b (Inputs e a) = offers (inputOffer (b .row) (b .process) e a ∷ [])
 
 -- what options offer that lack no value
-abbrev pub offersIn : Looked → List meaning.Offer
+abbrev pub offersIn : OptionsResult → List meaning.Offer
 offersIn (fails k) = []
 offersIn (offers l) = l

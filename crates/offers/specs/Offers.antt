@@ -4,18 +4,17 @@ use mathlib.Core.Option.{Option, none, some}
 use mathlib.Core.List.{List, []}
 use Prim.Native.Nat.{ℕ, _+_, _*_}
 use lib.IntN.{ℤ, pos}
-use lib.ListN.{getD}
+use lib.ListN.{getD, getElem?}
 use lib.Dec.{ltb}
 use Rattle.meaning.specs.declared.Value.{Value}
 use Rattle.meaning.specs.declared.Value.the-variants.{Number, Missing}
 use Rattle.meaning.specs.declared.Index.{Index}
 use Rattle.meaning.specs.declared.Index.the-variants.{At, Fails}
-use Rattle.meaning.specs.Rows.{ifElse}
-use Rattle.meaning.specs.Tree.{Receive, AltGuard}
-use Rattle.meaning.specs.Values.{isTrue, value, index}
-use Rattle.meaning.specs.State.{Message}
+use Rattle.meaning.specs.Basics.{ifElse}
+use Rattle.meaning.specs.Tree.{ChannelInput, AltGuard}
+use Rattle.meaning.specs.Values.{Message, isTrue, value, index}
+use Rattle.meaning.specs.Readings.{Sheet}
 use Rattle.meaning.specs.Buffers.{mark, numberIn}
-use Rattle.meaning.specs.Intent.{Sheet, entry}
 use Rattle.offers.specs.declared.Offer.{Offer}
 use Rattle.offers.specs.declared.Offer.the-variants.{Lacks, Nothing, Open, Reads as Read, Inputs}
 use Rattle.offers.specs.declared.Lack.{Lack}
@@ -33,8 +32,8 @@ readInto port a none = Nothing
 readInto port a (some m) = Read a (numberIn m) (mark m) port
 
 -- the same from the arrays: channel j's reading at line l is kept at j * 128 + l
-unfoldable pub readAs : List ℕ → List ℤ → List ℕ → ℕ → ℕ → ℕ → Offer
-readAs places readings given lines port a =
+unfoldable pub readFromArrays : List ℕ → List ℤ → List ℕ → ℕ → ℕ → ℕ → Offer
+readFromArrays places readings given lines port a =
     let n = getD places port 0 in
     ifElse (ltb n lines) (Read a (getD readings (port * 128 + n) (pos 0)) (getD given (port * 128 + n) 0) port) Nothing
 
@@ -52,15 +51,15 @@ lackOf (Read a v m p) = NoLack
 lackOf (Inputs e a) = NoLack
 
 module _ (sheet : Sheet) (cells : List Message) (places : List ℕ) where
-  unfoldable pub inputOffered : Receive → Offer
+  unfoldable pub inputOffered : ChannelInput → Offer
   inputOffered i =
       let c = i .channel in
       let v = i .target .name in
-      received (λ a. readInto (c .port) a (entry (getD sheet (c .port) []) (getD places (c .port) 0))) (c .host)
+      received (λ a. readInto (c .number) a (getElem? (getD sheet (c .number) []) (getD places (c .number) 0))) (c .host)
       (index cells (c .first) (c .size) (i .subscript))
       (index cells (v .first) (v .size) (i .target .subscript))
 
-  abbrev pub guardInput : Option Receive → Offer
+  abbrev pub guardInput : Option ChannelInput → Offer
   guardInput none = Open
   guardInput (some i) = inputOffered i
 

@@ -4,18 +4,18 @@ ghost use Prim.Native.Nat.{_<_};
 ghost use lib.IntN.{pos};
 ghost use lib.ListN.{getD};
 ghost use Rattle.meaning.specs.Rows.{rowCount};
-ghost use Rattle.meaning.specs.Tree.{partAt};
+ghost use Rattle.meaning.specs.Tree.{contentAt};
 ghost use Rattle.meaning.specs.State.{Store};
-ghost use Rattle.meaning.specs.Intent.{Sheet};
+ghost use Rattle.meaning.specs.Readings.{Sheet};
 ghost use Rattle.meaning.specs.Intent as meaning;
+ghost use Rattle.meaning.specs.Buffers.{decoded};
 ghost use mathlib.Core.List.{[], _∷_};
-ghost use Rattle.layout.specs.Names.{Named};
-ghost use Rattle.evaluation.specs.Cells.{decoded};
-ghost use Rattle.offers.specs.Rows.{receiveAt, optionAt, targetIndex};
-ghost use Rattle.offers.specs.Offers.{lackOf, readAs, received, inputOffered, guardInput, guardOffered};
-ghost use Rattle.offers.specs.Held.{KeptReadings, Held, lookedAs};
-use layout::nodes::natural;
-use layout::nodes::operand;
+ghost use Rattle.base_layout.specs.Names.{Named};
+ghost use Rattle.offers.specs.Rows.{inputAt, optionAt, targetIndex};
+ghost use Rattle.offers.specs.Offers.{lackOf, readFromArrays, received, inputOffered, guardInput, guardOffered};
+ghost use Rattle.offers.specs.Held.{KeptReadings, Held, optionOffers};
+use base_layout::nodes::natural;
+use base_layout::nodes::operand;
 use meaning::Index;
 use meaning::Value;
 
@@ -75,7 +75,7 @@ fn next_reading<'a>(
     port: u32,
     cell: usize,
 ) -> Offer
-    ensures { λ o. ⌜ o ≡ readAs (now (places .entry)) (now (readings .entry)) (now (given .entry)) lines port cell ⌝ }
+    ensures { λ o. ⌜ o ≡ readFromArrays (now (places .entry)) (now (readings .entry)) (now (given .entry)) lines port cell ⌝ }
 {
     let n = count(places, port as usize) as usize;
     if lines <= n {
@@ -96,7 +96,7 @@ fn received<'a>(
     element: Index,
     target: Index,
 ) -> Offer
-    ensures { λ o. ⌜ o ≡ received (readAs (now (places .entry)) (now (readings .entry)) (now (given .entry)) lines port) host element target ⌝ }
+    ensures { λ o. ⌜ o ≡ received (readFromArrays (now (places .entry)) (now (readings .entry)) (now (given .entry)) lines port) host element target ⌝ }
 {
     match element {
         Index::Fails(k) => Offer::Lacks(k),
@@ -121,13 +121,13 @@ fn target<'a>(
     r: usize,
 ) -> Index
     requires { ⌜ Named (now rows) (now names) ⌝ }
-    ensures { λ i. ⌜ i ≡ targetIndex (decoded (now (values .entry)) (now (marks .entry))) (partAt (now (rows .entry)) r .target) ⌝ }
+    ensures { λ i. ⌜ i ≡ targetIndex (decoded (now (values .entry)) (now (marks .entry))) (contentAt (now (rows .entry)) r .target) ⌝ }
 {
     if rows.len() / 4 <= r {
         return Index::Fails(0);
     }
     if natural(rows, r, 0) == 11 {
-        let v = layout::variable_at(names, natural(rows, r, 1));
+        let v = base_layout::variable_at(names, natural(rows, r, 1));
         return evaluation::index(
             rows,
             names,
@@ -155,9 +155,9 @@ pub fn input_offer<'a>(
 ) -> Offer
     requires named { ⌜ Named (now rows) (now names) ⌝ }
     requires row { ⌜ r < rowCount (now rows) ⌝ }
-    ensures { λ o. ⌜ ((sheet : Sheet) → KeptReadings (now (rows .entry)) sheet (now (readings .entry)) (now (given .entry)) lines → o ≡ inputOffered sheet (decoded (now (values .entry)) (now (marks .entry))) (now (places .entry)) (receiveAt (now (rows .entry)) r)) ⌝ }
+    ensures { λ o. ⌜ ((sheet : Sheet) → KeptReadings (now (rows .entry)) sheet (now (readings .entry)) (now (given .entry)) lines → o ≡ inputOffered sheet (decoded (now (values .entry)) (now (marks .entry))) (now (places .entry)) (inputAt (now (rows .entry)) r)) ⌝ }
 {
-    let c = layout::source_at(names, natural(rows, r, 1));
+    let c = base_layout::source_at(names, natural(rows, r, 1));
     let e = evaluation::index(
         rows,
         names,
@@ -168,7 +168,7 @@ pub fn input_offer<'a>(
         operand(rows, r, 2),
     );
     let t = target(rows, names, values, marks, operand(rows, r, 3));
-    received(places, readings, given, lines, c.host, c.port, e, t)
+    received(places, readings, given, lines, c.host, c.number, e, t)
 }
 
 // What the input comes to that a guard refers to at row `first`; a SKIP is open.
@@ -184,7 +184,7 @@ fn guarded_input<'a>(
     first: usize,
 ) -> Offer
     requires { ⌜ Named (now rows) (now names) ⌝ }
-    ensures { λ o. ⌜ ((sheet : Sheet) → KeptReadings (now (rows .entry)) sheet (now (readings .entry)) (now (given .entry)) lines → o ≡ guardInput sheet (decoded (now (values .entry)) (now (marks .entry))) (now (places .entry)) (partAt (now (rows .entry)) first .guard .input)) ⌝ }
+    ensures { λ o. ⌜ ((sheet : Sheet) → KeptReadings (now (rows .entry)) sheet (now (readings .entry)) (now (given .entry)) lines → o ≡ guardInput sheet (decoded (now (values .entry)) (now (marks .entry))) (now (places .entry)) (contentAt (now (rows .entry)) first .guard .input)) ⌝ }
 {
     let mut g = first;
     while g < rows.len() / 4 {
@@ -223,7 +223,7 @@ fn guard_offer<'a>(
     g: usize,
 ) -> Offer
     requires { ⌜ Named (now rows) (now names) ⌝ }
-    ensures { λ o. ⌜ ((sheet : Sheet) → KeptReadings (now (rows .entry)) sheet (now (readings .entry)) (now (given .entry)) lines → o ≡ guardOffered sheet (decoded (now (values .entry)) (now (marks .entry))) (now (places .entry)) (partAt (now (rows .entry)) g .guard)) ⌝ }
+    ensures { λ o. ⌜ ((sheet : Sheet) → KeptReadings (now (rows .entry)) sheet (now (readings .entry)) (now (given .entry)) lines → o ≡ guardOffered sheet (decoded (now (values .entry)) (now (marks .entry))) (now (places .entry)) (contentAt (now (rows .entry)) g .guard)) ⌝ }
 {
     if rows.len() / 4 <= g {
         return Offer::Nothing;
@@ -246,7 +246,7 @@ fn guard_offer<'a>(
             match v {
                 Value::Missing(k) => Offer::Lacks(k),
                 Value::Number(x) => {
-                    if numbers::is_true(x) {
+                    if base_numbers::is_true(x) {
                         return guarded_input(
                             rows,
                             names,
@@ -282,7 +282,7 @@ pub fn option_offer<'a>(
     requires named { ⌜ Named (now rows) (now names) ⌝ }
     requires row { ⌜ j < rowCount (now rows) ⌝ }
     ensures exact { λ o. ⌜ ((sheet : Sheet) → KeptReadings (now (rows .entry)) sheet (now (readings .entry)) (now (given .entry)) lines → o ≡ guardOffered sheet (decoded (now (values .entry)) (now (marks .entry))) (now (places .entry)) (optionAt (now (rows .entry)) j .guard)) ⌝ }
-    ensures stands { λ o. ⌜ ((sheet : Sheet) (x : Store) (counts : _) → KeptReadings (now (rows .entry)) sheet (now (readings .entry)) (now (given .entry)) lines → Held x (now (values .entry)) (now (marks .entry)) (now (places .entry)) counts → lookedAs x (optionAt (now (rows .entry)) j) o ≡ meaning.looks sheet (optionAt (now (rows .entry)) j ∷ []) x) ⌝ }
+    ensures stands { λ o. ⌜ ((sheet : Sheet) (x : Store) (counts : _) → KeptReadings (now (rows .entry)) sheet (now (readings .entry)) (now (given .entry)) lines → Held x (now (values .entry)) (now (marks .entry)) (now (places .entry)) counts → optionOffers x (optionAt (now (rows .entry)) j) o ≡ meaning.optionsResult sheet (optionAt (now (rows .entry)) j ∷ []) x) ⌝ }
 {
     guard_offer(
         rows,

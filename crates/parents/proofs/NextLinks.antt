@@ -4,17 +4,18 @@ use mathlib.Core.Logic.{_⊎_, inl, inr}
 use mathlib.Core.Bool.{Bool, true, false}
 use mathlib.Core.Option.{Option, none, some}
 use mathlib.Core.List.{List}
-use Prim.Native.Nat.{ℕ, zero, suc, _+_, _<_, _≤_}
+use Prim.Native.Nat.{ℕ, _+_, _<_}
 use native.Mathlib.Omega.{arith}
 use lib.IntN.{ℤ}
 use lib.ListN.{length, getD, set}
 use lib.Seq.{getD-set-same, getD-set-other}
-use lib.Dec.{T, ltb, leb, eqb, eqb→eq}
+use lib.Dec.{T, ltb, eqb, eqb→eq}
 use borrow.Author.Tests.{le-ltb, lt-leb, eqb-true, eqb-false, eq-eqb}
 use Rattle.meaning.specs.declared.Node.{Node}
-use Rattle.meaning.specs.declared.Node.the-variants.{Literal, Element, Monadic, Dyadic, Stop, Skip, Assignment, Input, Output, Seq, Par, If, While, Alt, Member, Choice, Option as Alternative, Guard, Other}
+use Rattle.meaning.specs.declared.Node.the-variants.{Literal, Element, Monadic, Dyadic, Stop, Skip, Assignment, Input, Output, Seq, Par, If, While, Alt, Member, Choice, OptionRow, Guard, Other}
 use Rattle.meaning.specs.Basics.{ifElse, lowest, Lowest}
-use Rattle.meaning.specs.Rows.{rowCount, nodeAt}
+use Rattle.meaning.specs.Rows.{rowCount}
+use Rattle.meaning.specs.Nodes.{nodeAt}
 use Rattle.meaning.specs.References.{of-a, of-b, Refers}
 use Rattle.meaning.specs.State.{program}
 use Rattle.meaning.specs.Answers.{check}
@@ -26,19 +27,19 @@ use Rattle.settling.specs.declared.shape.Mode.{Mode}
 use Rattle.settling.specs.declared.shape.Mode.the-variants.{InTurn, Together, ByStep}
 use Rattle.settling.specs.declared.shape.Shape.{Shape}
 use Rattle.settling.specs.declared.shape.Shape.the-variants.{Ending, Repeating, Link, Neither}
-use Rattle.settling.specs.Shapes.{higherRow, shapeOf, shapeAt}
+use Rattle.settling.specs.Shapes.{higherRow, settlingShape, shapeAt}
 use Rattle.machine.specs.Upward.{parentOf}
 use Rattle.notes.specs.Marks.{rowNote}
 use Rattle.notes.proofs.ByRow.{by-row}
-use Rattle.parents.specs.Parents.{inTable, isLinkTo, linkAfter, linkAfterRow, nextLink, ifParent, parentNotes, nextNotes, whereFree, Numbered, NextOf, NextIs}
+use Rattle.parents.specs.Parents.{inTable, isLinkTo, linkAfter, linkAfterRow, nextLink, ifParent, parentNotes, nextNotes, whereFree, ParentsNumbered, NextOf, NextIs}
 
 -- ---- notes after notes
 
 module _ (At : ℕ → ℕ → Type 0) where
-  pub numbered-none : (parents nexts : List ℕ) → Numbered At parents nexts parents nexts
+  pub numbered-none : (parents nexts : List ℕ) → ParentsNumbered At parents nexts parents nexts
   numbered-none parents nexts = record { number = λ j. inl (refl, refl) }
 
-  pub numbered-then : (parents nexts parents₁ nexts₁ parents₂ nexts₂ : List ℕ) → Numbered At parents nexts parents₁ nexts₁ → Numbered At parents₁ nexts₁ parents₂ nexts₂ → Numbered At parents nexts parents₂ nexts₂
+  pub numbered-then : (parents nexts parents₁ nexts₁ parents₂ nexts₂ : List ℕ) → ParentsNumbered At parents nexts parents₁ nexts₁ → ParentsNumbered At parents₁ nexts₁ parents₂ nexts₂ → ParentsNumbered At parents nexts parents₂ nexts₂
   numbered-then parents nexts parents₁ nexts₁ parents₂ nexts₂ f g = record { number = λ j. go j (f .number j) (g .number j) }
     where
       Same : ℕ → List ℕ → List ℕ → List ℕ → List ℕ → Type 0
@@ -52,7 +53,7 @@ module _ (At : ℕ → ℕ → Type 0) where
       go j (inl h) (inl k) = inl (k .0 ∙ h .0, k .1 ∙ h .1)
       go j (inr h) (inl k) = inr (λ z. h .0 (sym (k .0) ∙ z), subst (At j) (sym (k .1)) (h .1))
 
-pub numbered-more : (At By : ℕ → ℕ → Type 0) (parents nexts parents₁ nexts₁ : List ℕ) → ((j n : ℕ) → At j n → By j n) → Numbered At parents nexts parents₁ nexts₁ → Numbered By parents nexts parents₁ nexts₁
+pub numbered-more : (At By : ℕ → ℕ → Type 0) (parents nexts parents₁ nexts₁ : List ℕ) → ((j n : ℕ) → At j n → By j n) → ParentsNumbered At parents nexts parents₁ nexts₁ → ParentsNumbered By parents nexts parents₁ nexts₁
 numbered-more At By parents nexts parents₁ nexts₁ k f = record { number = λ j. go j (f .number j) }
   where
     go : (j : ℕ) → ((getD parents₁ j 0 ≡ getD parents j 0) × (getD nexts₁ j 0 ≡ getD nexts j 0)) ⊎ ((getD parents₁ j 0 ≡ 0 → ⊥) × At j (getD nexts₁ j 0))
@@ -62,7 +63,7 @@ numbered-more At By parents nexts parents₁ nexts₁ k f = record { number = λ
 
 -- a note at row p, where it has no parent yet
 module _ (rows : List ℤ) (p t note next : ℕ) (parents nexts : List ℕ) (here : p < rowCount rows) (lp : p < length parents) (ln : p < length nexts) (real : 0 < note) (e : next ≡ inTable rows t) where
-  one-numbered : Numbered (NextIs rows p t) parents nexts (whereFree parents p parents note) (whereFree parents p nexts next)
+  one-numbered : ParentsNumbered (NextIs rows p t) parents nexts (whereFree parents p parents note) (whereFree parents p nexts next)
   one-numbered = record { number = λ j. go j (eqb (getD parents p 0) 0) (eqb j p) refl }
     where
       go : (j : ℕ) (s b : Bool) → eqb j p ≡ b
@@ -77,7 +78,7 @@ module _ (rows : List ℤ) (p t note next : ℕ) (parents nexts : List ℕ) (her
           )
       go j true false i = inl (getD-set-other parents p j note 0 (eqb-false j p i), getD-set-other nexts p j next 0 (eqb-false j p i))
 
-  pub member-numbered : (parents₁ nexts₁ : List ℕ) → parents₁ ≡ whereFree parents p parents note → nexts₁ ≡ whereFree parents p nexts next → Numbered (NextIs rows p t) parents nexts parents₁ nexts₁
+  pub member-numbered : (parents₁ nexts₁ : List ℕ) → parents₁ ≡ whereFree parents p parents note → nexts₁ ≡ whereFree parents p nexts next → ParentsNumbered (NextIs rows p t) parents nexts parents₁ nexts₁
   member-numbered parents₁ nexts₁ i k = rw (i, k) one-numbered
 
 -- ---- the rows that a link and a WHILE refer to
@@ -110,7 +111,7 @@ module _ (rows : List ℤ) (A : RightRows rows) where
     links : (a b : ℕ) → (a ≡ p → Refers rows t of-a p) → Links (Link a b) × Repeats (Link a b)
     links a b f = (λ q e. let i : a ≡ p = cc in f i, λ e. absurd (let z : _≡_ {A = ℕ} 0 1 = cc in omega arith))
 
-    by-node : (k : Node) → Fields rows t k → Links (shapeOf rows t k) × Repeats (shapeOf rows t k)
+    by-node : (k : Node) → Fields rows t k → Links (settlingShape rows t k) × Repeats (settlingShape rows t k)
     by-node (Literal x) f = neither
     by-node (Element a b) f = neither
     by-node (Monadic a b) f = neither
@@ -128,11 +129,11 @@ module _ (rows : List ℤ) (A : RightRows rows) where
     by-node (Alt a) f = ends ByStep (higherRow rows t a)
     by-node (Member a b) f = links (higherRow rows t a) (higherRow rows t b) (λ i. refers-to rows A t 40 p member-shape of-a l (f .0) tt (f .1 ∙ holds t a p i lp) lp)
     by-node (Choice a b c) f = links (higherRow rows t a) (higherRow rows t b) (λ i. refers-to rows A t 41 p choice-shape of-a l (f .0) tt (f .1 ∙ holds t a p i lp) lp)
-    by-node (Alternative a b c) f = links (higherRow rows t a) (higherRow rows t b) (λ i. refers-to rows A t 42 p option-shape of-a l (f .0) tt (f .1 ∙ holds t a p i lp) lp)
+    by-node (OptionRow a b c) f = links (higherRow rows t a) (higherRow rows t b) (λ i. refers-to rows A t 42 p option-shape of-a l (f .0) tt (f .1 ∙ holds t a p i lp) lp)
     by-node (Guard a b) f = neither
     by-node Other f = neither
 
-    shape-is : shapeAt rows t ≡ shapeOf rows t (nodeAt rows t)
+    shape-is : shapeAt rows t ≡ settlingShape rows t (nodeAt rows t)
     unfolding shapeAt
     shape-is = rw (lt-leb (rowCount rows) t l)
 
@@ -199,7 +200,7 @@ module _ (rows : List ℤ) (parents : List ℕ) (h : (j : ℕ) → getD parents 
   unfolding parentNotes
   parents-are n e = by-row (λ r. rowNote (parentOf (program rows) r)) n parents e (λ j l. h j)
 
-  pub nexts-are : check rows ≡ none → (zeros old nexts : List ℕ) → ((j : ℕ) → getD zeros j 0 ≡ 0) → length nexts ≡ length old → Numbered (NextOf rows) zeros old parents nexts → nexts ≡ nextNotes rows old
+  pub nexts-are : check rows ≡ none → (zeros old nexts : List ℕ) → ((j : ℕ) → getD zeros j 0 ≡ 0) → length nexts ≡ length old → ParentsNumbered (NextOf rows) zeros old parents nexts → nexts ≡ nextNotes rows old
   unfolding nextNotes
   nexts-are ok zeros old nexts z e f = by-row (λ r. ifParent (parentOf (program rows) r) (nextLink rows r) (getD old r 0)) (length old) nexts e (λ j l. go j (parentOf (program rows) j) (h j) (f .number j))
     where

@@ -10,14 +10,14 @@ use lib.ListN.{length, getD, set}
 use lib.Dec.{ltb, eqb}
 use Rattle.meaning.specs.Basics.{ifElse, among, lowest}
 use Rattle.meaning.specs.Rows.{rowCount}
-use Rattle.meaning.specs.Tree.{Members, partAt, membersIn}
-use Rattle.meaning.specs.Usage.{range}
+use Rattle.meaning.specs.Tree.{Processes, contentAt, processesIn}
+use Rattle.meaning.specs.Usage.{numbersFrom}
 use Rattle.meaning.specs.State.{program, processAt}
 use Rattle.settling.specs.declared.shape.Shape.{Shape}
 use Rattle.settling.specs.declared.shape.Shape.the-variants.{Ending, Repeating, Link, Neither}
-use Rattle.settling.specs.Members.{alone}
+use Rattle.settling.specs.Members.{onlyProcess}
 use Rattle.settling.specs.Shapes.{shapeAt}
-use Rattle.machine.specs.Upward.{memberRows, parentOf, membersAfter}
+use Rattle.machine.specs.Upward.{processRows, parentOf, processesAfter}
 use Rattle.notes.specs.Marks.{rowNote, firstNote}
 
 -- row t, or the row after the last where it is past the table
@@ -53,34 +53,34 @@ ifParent (some q) new old = new
 
 -- one more than the parent of each of n rows, 0 where it has none
 unfoldable pub parentNotes : List ℤ → ℕ → List ℕ
-parentNotes rows n = map (λ r. rowNote (parentOf (program rows) r)) (range 0 n)
+parentNotes rows n = map (λ r. rowNote (parentOf (program rows) r)) (numbersFrom 0 n)
 
 -- the next link of each row that has a parent, in place of old numbers
 unfoldable pub nextNotes : List ℤ → List ℕ → List ℕ
-nextNotes rows old = map (λ r. ifParent (parentOf (program rows) r) (nextLink rows r) (getD old r 0)) (range 0 (length old))
+nextNotes rows old = map (λ r. ifParent (parentOf (program rows) r) (nextLink rows r) (getD old r 0)) (numbersFrom 0 (length old))
 
 -- what these notes mean: one more than each row's parent is noted, 0 where it has none, and a row from which the members after it follow
 pub record ParentsNoted (rows : List ℤ) (parents nexts : List ℕ) : Type 0 where
   pub parent : (r : ℕ) → r < rowCount rows → getD parents r 0 ≡ rowNote (parentOf (program rows) r)
-  pub next : (r q : ℕ) → r < rowCount rows → parentOf (program rows) r ≡ some q → partAt rows (getD nexts r 0) .members ≡ membersAfter r (membersIn (processAt (program rows) q))
+  pub next : (r q : ℕ) → r < rowCount rows → parentOf (program rows) r ≡ some q → contentAt rows (getD nexts r 0) .listed ≡ processesAfter r (processesIn (processAt (program rows) q))
 
 -- a number at row p of a list, where row p has no parent yet
 abbrev pub whereFree : List ℕ → ℕ → List ℕ → ℕ → List ℕ
 whereFree parents p l n = ifElse (eqb (getD parents p 0) 0) (set l p n) l
 
 -- the members after a row: new ones, if its parent is due and there is no note of one yet
-abbrev pub firstMembers : Bool → ℕ → Members → Members → Members
-firstMembers false old new kept = kept
-firstMembers true zero new kept = new
-firstMembers true (suc old) new kept = kept
+abbrev pub firstProcesses : Bool → ℕ → Processes → Processes → Processes
+firstProcesses false old new kept = kept
+firstProcesses true zero new kept = new
+firstProcesses true (suc old) new kept = kept
 
 -- a parent is noted at each row of a list that has none yet, and a row from which the members after it follow; other notes stay
-pub record Noted (rows : List ℤ) (list : List ℕ) (after : ℕ → Members) (note : ℕ) (parents nexts parentsLeft nextsLeft : List ℕ) : Type 0 where
+pub record NotedAtEach (rows : List ℤ) (list : List ℕ) (after : ℕ → Processes) (note : ℕ) (parents nexts parentsLeft nextsLeft : List ℕ) : Type 0 where
   pub parent : (j : ℕ) → getD parentsLeft j 0 ≡ firstNote (among j list) note (getD parents j 0)
-  pub next : (j : ℕ) → partAt rows (getD nextsLeft j 0) .members ≡ firstMembers (among j list) (getD parents j 0) (after j) (partAt rows (getD nexts j 0) .members)
+  pub next : (j : ℕ) → contentAt rows (getD nextsLeft j 0) .listed ≡ firstProcesses (among j list) (getD parents j 0) (after j) (contentAt rows (getD nexts j 0) .listed)
 
 -- each row's notes are as they were, or new: a parent, and a number n at row j of which `At j n`
-pub record Numbered (At : ℕ → ℕ → Type 0) (parents nexts parentsLeft nextsLeft : List ℕ) : Type 0 where
+pub record ParentsNumbered (At : ℕ → ℕ → Type 0) (parents nexts parentsLeft nextsLeft : List ℕ) : Type 0 where
   pub number : (j : ℕ) → ((getD parentsLeft j 0 ≡ getD parents j 0) × (getD nextsLeft j 0 ≡ getD nexts j 0)) ⊎ ((getD parentsLeft j 0 ≡ 0 → ⊥) × At j (getD nextsLeft j 0))
 
 module _ (rows : List ℤ) where
@@ -93,13 +93,13 @@ module _ (rows : List ℤ) where
   NextIs p t j n = (j ≡ p) × (p < rowCount rows) × (n ≡ inTable rows t)
 
   -- a parent is noted at row p, if a process stands there, with the members of link t after it
-  abbrev pub MemberNoted : ℕ → ℕ → ℕ → List ℕ → List ℕ → List ℕ → List ℕ → Type 0
-  MemberNoted p t = Noted rows (memberRows (alone (partAt rows p .process))) (λ j. partAt rows t .members)
+  abbrev pub ProcessNoted : ℕ → ℕ → ℕ → List ℕ → List ℕ → List ℕ → List ℕ → Type 0
+  ProcessNoted p t = NotedAtEach rows (processRows (onlyProcess (contentAt rows p .process))) (λ j. contentAt rows t .listed)
 
   -- a parent is noted at each of some members
-  abbrev pub MembersNoted : Members → ℕ → List ℕ → List ℕ → List ℕ → List ℕ → Type 0
-  MembersNoted ms = Noted rows (memberRows ms) (λ j. membersAfter j ms)
+  abbrev pub ProcessesNoted : Processes → ℕ → List ℕ → List ℕ → List ℕ → List ℕ → Type 0
+  ProcessesNoted ms = NotedAtEach rows (processRows ms) (λ j. processesAfter j ms)
 
   -- row r is noted at each member of its process
   abbrev pub RowNoted : ℕ → List ℕ → List ℕ → List ℕ → List ℕ → Type 0
-  RowNoted r = MembersNoted (membersIn (processAt (program rows) r)) (r + 1)
+  RowNoted r = ProcessesNoted (processesIn (processAt (program rows) r)) (r + 1)

@@ -4,9 +4,9 @@ ghost use mathlib.Core.Option.{none};
 ghost use Prim.Native.Nat.{_<_, _≤_};
 ghost use lib.ListN.{length};
 ghost use Rattle.meaning.specs.Rows.{rowCount};
-ghost use Rattle.meaning.specs.Tree.{partAt};
+ghost use Rattle.meaning.specs.Tree.{contentAt};
 ghost use Rattle.meaning.specs.Answers.{check};
-ghost use Rattle.parents.specs.Parents.{inTable, parentNotes, nextNotes, ParentsNoted, whereFree, Numbered, NextOf, NextIs, MemberNoted, MembersNoted, RowNoted};
+ghost use Rattle.parents.specs.Parents.{inTable, parentNotes, nextNotes, ParentsNoted, whereFree, ParentsNumbered, NextOf, NextIs, ProcessNoted, ProcessesNoted, RowNoted};
 use notes::owners::clear_notes;
 use settling::shape::Shape;
 use settling::shape::is_process;
@@ -40,8 +40,8 @@ fn note_member(rows: &[i32], p: usize, t: usize, note: u16, parents: &mut [u16],
     requires few { ⌜ rowCount (now rows) ≤ 1024 ⌝ }
     requires room { ⌜ (rowCount (now rows) ≤ length (now parents)) × (rowCount (now rows) ≤ length (now nexts)) ⌝ }
     requires real { ⌜ 0 < note ⌝ }
-    ensures noted { λ _. ⌜ MemberNoted (now (rows .entry)) p t note (now (parents .entry)) (now (nexts .entry)) (now (parents .exit)) (now (nexts .exit)) ⌝ }
-    ensures numbers { λ _. ⌜ Numbered (NextIs (now (rows .entry)) p t) (now (parents .entry)) (now (nexts .entry)) (now (parents .exit)) (now (nexts .exit)) ⌝ }
+    ensures noted { λ _. ⌜ ProcessNoted (now (rows .entry)) p t note (now (parents .entry)) (now (nexts .entry)) (now (parents .exit)) (now (nexts .exit)) ⌝ }
+    ensures numbers { λ _. ⌜ ParentsNumbered (NextIs (now (rows .entry)) p t) (now (parents .entry)) (now (nexts .entry)) (now (parents .exit)) (now (nexts .exit)) ⌝ }
 {
     if is_process(rows, p) {
         let next = link_note(rows, t);
@@ -54,8 +54,8 @@ fn note_members(rows: &[i32], m: usize, note: u16, parents: &mut [u16], nexts: &
     requires few { ⌜ rowCount (now rows) ≤ 1024 ⌝ }
     requires room { ⌜ (rowCount (now rows) ≤ length (now parents)) × (rowCount (now rows) ≤ length (now nexts)) ⌝ }
     requires real { ⌜ 0 < note ⌝ }
-    ensures noted { λ _. ⌜ MembersNoted (now (rows .entry)) (partAt (now (rows .entry)) m .members) note (now (parents .entry)) (now (nexts .entry)) (now (parents .exit)) (now (nexts .exit)) ⌝ }
-    ensures numbers { λ _. ⌜ Numbered (NextOf (now (rows .entry))) (now (parents .entry)) (now (nexts .entry)) (now (parents .exit)) (now (nexts .exit)) ⌝ }
+    ensures noted { λ _. ⌜ ProcessesNoted (now (rows .entry)) (contentAt (now (rows .entry)) m .listed) note (now (parents .entry)) (now (nexts .entry)) (now (parents .exit)) (now (nexts .exit)) ⌝ }
+    ensures numbers { λ _. ⌜ ParentsNumbered (NextOf (now (rows .entry))) (now (parents .entry)) (now (nexts .entry)) (now (parents .exit)) (now (nexts .exit)) ⌝ }
 {
     let mut t = m;
     while t < rows.len() / 4 {
@@ -84,7 +84,7 @@ fn note_row(rows: &[i32], r: usize, parents: &mut [u16], nexts: &mut [u16])
     requires room { ⌜ (rowCount (now rows) ≤ length (now parents)) × (rowCount (now rows) ≤ length (now nexts)) ⌝ }
     requires inside { ⌜ r < rowCount (now rows) ⌝ }
     ensures noted { λ _. ⌜ RowNoted (now (rows .entry)) r (now (parents .entry)) (now (nexts .entry)) (now (parents .exit)) (now (nexts .exit)) ⌝ }
-    ensures numbers { λ _. ⌜ Numbered (NextOf (now (rows .entry))) (now (parents .entry)) (now (nexts .entry)) (now (parents .exit)) (now (nexts .exit)) ⌝ }
+    ensures numbers { λ _. ⌜ ParentsNumbered (NextOf (now (rows .entry))) (now (parents .entry)) (now (nexts .entry)) (now (parents .exit)) (now (nexts .exit)) ⌝ }
 {
     let s = shape_at(rows, r);
     match s {

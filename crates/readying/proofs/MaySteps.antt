@@ -7,9 +7,9 @@ use native.Mathlib.Omega.{arith}
 use lib.IntN.{ℤ}
 use lib.ListN.{getD}
 use lib.Dec.{eqb}
-use borrow.Author.Tests.{ne-eqb}
 use Rattle.meaning.specs.Basics.{ifElse}
-use Rattle.meaning.specs.Intent.{Sheet}
+use Rattle.meaning.specs.Readings.{Sheet}
+use borrow.Author.Tests.{ne-eqb}
 use Rattle.stepping.specs.Acts.{readyBy, hasStep}
 use Rattle.noting.specs.Kept.{mayStep}
 

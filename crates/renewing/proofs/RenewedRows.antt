@@ -13,7 +13,7 @@ use Rattle.meaning.specs.Basics.{lowest}
 use Rattle.notes.specs.Marks.{rowNote}
 use Rattle.rowlist.specs.InOrder.{InOrder}
 use Rattle.noting.specs.Kept.{mayStep, Single, WaitsNoted}
-use Rattle.renewing.specs.Renewed.{withNote, Right, Renewed, SameLengths}
+use Rattle.renewing.specs.Renewed.{withNote, ActNoted, Renewed, SameLengths}
 use Rattle.rowlist.proofs.Agreeing.{lowest-same}
 use Rattle.renewing.proofs.Agreeing.{lowest-only}
 
@@ -48,7 +48,7 @@ module _ (n r : ℕ) (act output : ℕ → ℕ) (owners acts sent waiting : List
   abbrev sent′ : List ℕ
   sent′ = set sent r y
 
-  row-right : (j : ℕ) → r ≡ j → Right act output acts′ sent′ j
+  row-right : (j : ℕ) → r ≡ j → ActNoted act output acts′ sent′ j
   row-right j e = rw (sym e) (getD-set-same acts r x 0 (omega arith) ∙ ex, getD-set-same sent r y 0 (omega arith) ∙ ey)
 
   row-case : (j : ℕ) → (r ≡ j) ⊎ ((getD acts′ j 0 ≡ getD acts j 0) × (getD sent′ j 0 ≡ getD sent j 0))

@@ -6,7 +6,7 @@ use Prim.Native.Nat.{ℕ, zero, suc, _<_}
 use lib.IntN.{ℤ}
 use lib.ListN.{length, getD, set}
 use Rattle.meaning.specs.Rows.{rowCount}
-use Rattle.meaning.specs.Intent.{Sheet}
+use Rattle.meaning.specs.Readings.{Sheet}
 use Rattle.rowlist.specs.InOrder.{InOrder}
 use Rattle.stepping.specs.Acts.{actCode, sentCode, workingDoes}
 use Rattle.noting.specs.Kept.{mayStep, WaitsNoted, Single}
@@ -31,14 +31,14 @@ pub record Forgotten (n : ℕ) (Meant : ℕ → Type 0) (sent₀ waiting₀ sent
   pub rest : (j : ℕ) → j < n → (Meant j × (getD sent j 0 ≡ 0)) ⊎ (getD sent j 0 ≡ getD sent₀ j 0)
 
 -- what row j would do is noted
-abbrev pub Right : (ℕ → ℕ) → (ℕ → ℕ) → List ℕ → List ℕ → ℕ → Type 0
-Right act output acts sent j = (getD acts j 0 ≡ act j) × (getD sent j 0 ≡ output j)
+abbrev pub ActNoted : (ℕ → ℕ) → (ℕ → ℕ) → List ℕ → List ℕ → ℕ → Type 0
+ActNoted act output acts sent j = (getD acts j 0 ≡ act j) × (getD sent j 0 ≡ output j)
 
 -- what the rows that are meant would do is noted; the others are as they were or right
 pub record Renewed (n : ℕ) (act output : ℕ → ℕ) (owners : List ℕ) (Meant : ℕ → Type 0) (acts₀ sent₀ waiting₀ list₀ : List ℕ) (count₀ : ℕ) (acts sent waiting list : List ℕ) (count : ℕ) : Type 0 where
   pub waits : Single n output → ((j : ℕ) → j < n → (getD sent₀ j 0 ≡ 0) ⊎ (getD sent₀ j 0 ≡ output j)) → WaitsNoted n sent₀ waiting₀ → WaitsNoted n sent waiting
-  pub right : (j : ℕ) → j < n → Meant j → Right act output acts sent j
-  pub rest : (j : ℕ) → j < n → Right act output acts sent j ⊎ ((getD acts j 0 ≡ getD acts₀ j 0) × (getD sent j 0 ≡ getD sent₀ j 0))
+  pub right : (j : ℕ) → j < n → Meant j → ActNoted act output acts sent j
+  pub rest : (j : ℕ) → j < n → ActNoted act output acts sent j ⊎ ((getD acts j 0 ≡ getD acts₀ j 0) × (getD sent j 0 ≡ getD sent₀ j 0))
   pub work : InOrder (mayStep acts₀ owners) n list₀ count₀ → InOrder (mayStep acts owners) n list count
 
 -- the same of what the rows of a table would do

@@ -7,7 +7,7 @@ use native.Mathlib.Omega.{arith}
 use lib.ListN.{length, set, length-set}
 use Rattle.meaning.specs.Basics.{allBelow}
 use Rattle.rowlist.specs.InOrder.{InOrder, SameBut}
-use Rattle.rowlist.specs.Moves.{MovedUp, Placed, MovedDown}
+use Rattle.rowlist.specs.Moves.{MovedUp, PlaceOfRow, MovedDown}
 use Rattle.rowlist.proofs.Splits.{split, each-below, few-below}
 use Rattle.rowlist.proofs.Placing.{counted, one-more, row-there, row-in, row-out}
 
@@ -22,7 +22,7 @@ module _ (f g : ℕ → Bool) (r n : ℕ) (l : r < n) (fr : f r ≡ false) (gr :
 
   module _ (m : ℕ) where
     -- row r has a place
-    pub order-place : InOrder g n old count → count ≤ m → Placed old count r m → ⊥
+    pub order-place : InOrder g n old count → count ≤ m → PlaceOfRow old count r m → ⊥
     order-place (e, b, c) = let p = split f g r n fr gr l same in row-there (allBelow f r) (p .rest) r (each-below f r) (p .above) old count m b (e ∙ p .withRow)
 
     module _ (list : List ℕ) where
@@ -32,7 +32,7 @@ module _ (f g : ℕ → Bool) (r n : ℕ) (l : r < n) (fr : f r ≡ false) (gr :
           let size = length-set list m r ∙ moved .1 in
           (row-in (allBelow f r) (p .rest) r (each-below f r) (p .above) old count m b list (e ∙ p .without) room moved ∙ sym (p .withRow), omega (arith, size), omega (arith, size))
 
-      pub order-out : InOrder g n old count → m < count → Placed old count r m → MovedDown old list count m → InOrder f n list (count - 1)
+      pub order-out : InOrder g n old count → m < count → PlaceOfRow old count r m → MovedDown old list count m → InOrder f n list (count - 1)
       order-out (e, b, c) q placed moved =
           let p = split f g r n fr gr l same in
           (row-out (allBelow f r) (p .rest) r (each-below f r) (p .above) old count m b list (e ∙ p .withRow) q placed moved ∙ sym (p .without), omega (arith, moved .0), omega (arith, moved .0))

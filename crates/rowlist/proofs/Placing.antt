@@ -6,7 +6,7 @@ use native.Mathlib.Omega.{arith}
 use native.Mathlib.Decide.{decLt}
 use lib.ListN.{length, getD, set, take, length-append, length-set, List·getD-append}
 use lib.Seq.{length-take-le, getD-take, getD-set-same, getD-set-other, getD-append-seam, getD-append-add, ext-getD}
-use Rattle.rowlist.specs.Moves.{MovedUp, Placed, MovedDown}
+use Rattle.rowlist.specs.Moves.{MovedUp, PlaceOfRow, MovedDown}
 
 -- the first entries of a list, entry by entry
 module _ (old rows : List ℕ) (count : ℕ) (e : take count old ≡ rows) where
@@ -80,7 +80,7 @@ module _ (low high : List ℕ) (r : ℕ) (under : (k : ℕ) → k < length low �
         go (no s) (no t) = omega arith
 
     -- row r is found
-    pub row-there : take count old ≡ low ++ (r ∷ high) → count ≤ m → Placed old count r m → ⊥
+    pub row-there : take count old ≡ low ++ (r ∷ high) → count ≤ m → PlaceOfRow old count r m → ⊥
     row-there e s (x, y, z) =
         let p : length low < count = omega (arith, counted old (low ++ (r ∷ high)) count e b, one-more low high r, length-append low high) in
         z s (length low) p (entry old (low ++ (r ∷ high)) count e (length low) p ∙ getD-append-seam low r high 0)
@@ -111,7 +111,7 @@ module _ (low high : List ℕ) (r : ℕ) (under : (k : ℕ) → k < length low �
               (getD-set-same list m r 0 (omega (arith, size)) ∙ sym (ap (λ (i : ℕ). getD (low ++ (r ∷ high)) i 0) place ∙ getD-append-seam low r high 0))
 
       -- row r leaves its place, and those past it go one place down
-      pub row-out : take count old ≡ low ++ (r ∷ high) → m < count → Placed old count r m → MovedDown old list count m → take (count - 1) list ≡ low ++ high
+      pub row-out : take count old ≡ low ++ (r ∷ high) → m < count → PlaceOfRow old count r m → MovedDown old list count m → take (count - 1) list ≡ low ++ high
       row-out e q (x, here, z) (size, before, past) =
           first-are list (low ++ high) (count - 1) (omega (arith, size)) (omega (arith, counted old (low ++ (r ∷ high)) count e b, one-more low high r)) (λ k s. go k s (decLt k m))
         where

@@ -14,8 +14,8 @@ MovedUp old list count r m =
     × (0 < m → getD old (m - 1) 0 < r)
 
 -- m is a place of row r among the first `count`, or `count` if row r has none
-abbrev pub Placed : List ℕ → ℕ → ℕ → ℕ → Type 0
-Placed list count r m = (m ≤ count) × (m < count → getD list m 0 ≡ r) × (count ≤ m → (k : ℕ) → k < count → getD list k 0 ≡ r → ⊥)
+abbrev pub PlaceOfRow : List ℕ → ℕ → ℕ → ℕ → Type 0
+PlaceOfRow list count r m = (m ≤ count) × (m < count → getD list m 0 ≡ r) × (count ≤ m → (k : ℕ) → k < count → getD list k 0 ≡ r → ⊥)
 
 -- the rows of the first `count` past place m are one place down
 abbrev pub MovedDown : List ℕ → List ℕ → ℕ → ℕ → Type 0

@@ -4,7 +4,7 @@ ghost use mathlib.Core.Bool.{Bool, true, false};
 ghost use Prim.Native.Nat.{ℕ, _<_, _≤_};
 ghost use lib.ListN.{length};
 ghost use Rattle.rowlist.specs.InOrder.{InOrder, SameBut};
-ghost use Rattle.rowlist.specs.Moves.{MovedUp, Placed, MovedDown};
+ghost use Rattle.rowlist.specs.Moves.{MovedUp, PlaceOfRow, MovedDown};
 
 // From the end on, the rows that are not below r go one place up. The place that is free then.
 fn move_up(list: &mut [u16], count: usize, r: u16) -> usize
@@ -38,7 +38,7 @@ pub fn insert(list: &mut [u16], count: usize, r: u16) -> usize
 // The place of row r among the first `count`, sought from the end; `count` if it is not there.
 fn place_of(list: &[u16], count: usize, r: u16) -> usize
     requires { ⌜ count ≤ length (now list) ⌝ }
-    ensures placed { λ m. ⌜ Placed (now (list .entry)) count r m ⌝ }
+    ensures placed { λ m. ⌜ PlaceOfRow (now (list .entry)) count r m ⌝ }
 {
     let mut i = count;
     while 0 < i {

@@ -5,9 +5,11 @@ use Prim.Native.Nat.{ℕ, zero, suc}
 use lib.ListN.{getD, drop}
 use Rattle.meaning.specs.declared.Outcome.the-variants.{Spent}
 use Rattle.meaning.specs.State.{State, Program}
-use Rattle.meaning.specs.Intent.{Sheet}
-use Rattle.meaning.specs.Ready.{Label, ready, after}
-use Rattle.meaning.specs.Run.{outcomeAtRest, chosenStep, goFrom, go}
+use Rattle.meaning.specs.Labels.{Label}
+use Rattle.meaning.specs.Readings.{Sheet}
+use Rattle.meaning.specs.Order.{outcomeAtRest, chosenStep}
+use Rattle.meaning.specs.Ready.{ready, after}
+use Rattle.meaning.specs.Run.{goFrom, go}
 
 module _ (P : Program) (sheet : Sheet) (n : ℕ) (choices : List ℕ) (s : State) where
   -- at rest

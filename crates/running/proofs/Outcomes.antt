@@ -11,18 +11,17 @@ use lib.ListN.{length, getD, take, drop, replicate}
 use lib.Seq.{take-suc, take-append-le, take-at}
 use lib.Dec.{eqb}
 use Rattle.meaning.specs.declared.Outcome.the-variants.{Ended, Stuck, Broken}
-use Rattle.meaning.specs.Limits.{maxRows}
 use Rattle.meaning.specs.Basics.{ifElse}
-use Rattle.meaning.specs.Rows.{rowCount, root}
-use Rattle.meaning.specs.Settle.{anyOf}
-use Rattle.meaning.specs.State.{State, program}
-use Rattle.meaning.specs.Intent.{Sheet}
-use Rattle.meaning.specs.Ready.{Label}
-use Rattle.meaning.specs.Run.{isStopped, outcomeAtRest}
-use Rattle.meaning.specs.Order.{OrderOf}
+use Rattle.meaning.specs.Limits.{maxRows}
+use Rattle.meaning.specs.Rows.{rowCount}
+use Rattle.meaning.specs.Declarations.{root}
+use Rattle.meaning.specs.State.{State, anyOf, program}
+use Rattle.meaning.specs.Labels.{Label}
+use Rattle.meaning.specs.Readings.{Sheet}
+use Rattle.meaning.specs.Order.{isStopped, outcomeAtRest, OrderOf}
 use Rattle.meaning.specs.Buffers.{Buffers, lent, sized}
 use Rattle.meaning.specs.Answers.{check}
-use Rattle.machine.specs.Held.{Holds}
+use Rattle.machine.specs.Held.{HoldsState}
 use Rattle.machine.proofs.Declared.{room}
 use Rattle.machine.proofs.LentLists.{sized-is, sized-length}
 use Rattle.machine.proofs.HeldLaws.{states-are, read-state}
@@ -61,7 +60,7 @@ taken-states n size l e h =
     ∙ ap (take n) (sized-is size 0 l (omega arith)) ∙ take-at l (replicate (size - length l) 0) n e
 
 -- the array of row states tells the outcome at rest
-pub rest-is : (rows : List ℤ) → check rows ≡ none → (sheet : Sheet) (l : List Label) (s : State) → OrderOf rows sheet l s → (b : Buffers) → Holds rows s b
+pub rest-is : (rows : List ℤ) → check rows ≡ none → (sheet : Sheet) (l : List Label) (s : State) → OrderOf rows sheet l s → (b : Buffers) → HoldsState rows s b
     → restOutcome (root rows) (rowCount rows) (b .states) ≡ outcomeAtRest (program rows) s
 unfolding outcomeAtRest program
 rest-is rows ok sheet l s o b h =

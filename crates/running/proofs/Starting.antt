@@ -6,13 +6,13 @@ use mathlib.Core.List.{List}
 use Prim.Native.Nat.{ℕ}
 use lib.IntN.{ℤ, pos}
 use lib.ListN.{replicate}
-use Rattle.meaning.specs.Rows.{declarations, root}
+use Rattle.meaning.specs.Declarations.{declarations, root}
 use Rattle.meaning.specs.Settle.{settle, start}
 use Rattle.meaning.specs.State.{program, processAt, whole}
 use Rattle.meaning.specs.Answers.{check}
 use Rattle.evaluation.specs.declared.store.State.{State}
 use Rattle.evaluation.specs.Cells.{unsetState}
-use Rattle.machine.specs.Held.{blank, Holds}
+use Rattle.machine.specs.Held.{blank, HoldsState}
 use Rattle.machine.proofs.HeldLaws.{buffers-path}
 use Rattle.machine.proofs.MachineSteps.{start-held}
 use Rattle.taking.specs.Stands.{arraysOf}
@@ -24,8 +24,8 @@ root-is rows r e = e
 
 -- the arrays that a run begins with
 pub started : (rows : List ℤ) → check rows ≡ none → (r : ℕ) → r ≡ root rows → (x : State) → x ≡ unsetState → (states : List ℕ) → states ≡ settle (processAt (program rows) r) true (replicate 1024 0)
-    → Holds rows (start (program rows)) (arraysOf x states (replicate 1024 (pos 0)) (replicate 8 0))
+    → HoldsState rows (start (program rows)) (arraysOf x states (replicate 1024 (pos 0)) (replicate 8 0))
 unfolding blank whole program
 started rows ok r i x z states e =
-    subst (λ (y : State). Holds rows (start (program rows)) (arraysOf y states (replicate 1024 (pos 0)) (replicate 8 0))) (sym z)
+    subst (λ (y : State). HoldsState rows (start (program rows)) (arraysOf y states (replicate 1024 (pos 0)) (replicate 8 0))) (sym z)
     (buffers-path _ _ refl refl (e ∙ ap (λ (k : ℕ). settle (processAt (program rows) k) true (replicate 1024 0)) i) refl refl refl ∙ start-held rows ok)

@@ -14,13 +14,15 @@ use borrow.Author.Tests.{eqb-true, eqb-false, lt-ltb, le-ltb}
 use Rattle.meaning.specs.declared.Outcome.{Outcome}
 use Rattle.meaning.specs.declared.Outcome.the-variants.{Spent}
 use Rattle.meaning.specs.Basics.{ifElse}
-use Rattle.meaning.specs.Rows.{rowCount, root}
+use Rattle.meaning.specs.Rows.{rowCount}
+use Rattle.meaning.specs.Declarations.{root}
 use Rattle.meaning.specs.State.{State, program}
+use Rattle.meaning.specs.Labels.{Label}
+use Rattle.meaning.specs.Readings.{Sheet}
 use Rattle.meaning.specs.Settle.{start}
-use Rattle.meaning.specs.Intent.{Sheet}
-use Rattle.meaning.specs.Ready.{Label, ready, after}
-use Rattle.meaning.specs.Run.{Result, chosenStep, go, run}
-use Rattle.meaning.specs.Order.{halt}
+use Rattle.meaning.specs.Ready.{ready, after}
+use Rattle.meaning.specs.Run.{RunResult, go, run}
+use Rattle.meaning.specs.Order.{chosenStep, halt}
 use Rattle.meaning.specs.Buffers.{Buffers}
 use Rattle.meaning.specs.Answers.{check}
 use Rattle.agreement.proofs.Steps.{ready-allowed}
@@ -29,11 +31,11 @@ use Rattle.agreement.proofs.TableFit.{fit}
 use Rattle.agreement.proofs.Separate.{table-inv}
 use Rattle.agreement.proofs.Beginning.{begins-at-start}
 use Rattle.offers.specs.Held.{KeptReadings}
-use Rattle.machine.specs.Held.{Holds}
+use Rattle.machine.specs.Held.{HoldsState}
 use Rattle.taking.specs.Stands.{StandsAt}
 use Rattle.turns.specs.Turned.{turnFrom, Turned}
 use Rattle.turns.proofs.Picked.{chosen-ready}
-use Rattle.running.specs.Ran.{restOutcome, Reached}
+use Rattle.running.specs.Ran.{restOutcome, ResultReached}
 use Rattle.running.specs.Ending.{isLast, outcomeWith}
 use Rattle.running.proofs.Outcomes.{rest-is}
 use Rattle.running.proofs.Going.{goes-to-rest, goes-no-further, goes-on, chosen-first}
@@ -46,7 +48,7 @@ pub record Underway (rows : List ℤ) (sheet : Sheet) (readings : List ℤ) (giv
 
 module _ (rows : List ℤ) (ok : check rows ≡ none) (sheet : Sheet) (readings : List ℤ) (given : List ℕ) (lines : ℕ) (choices : List ℕ) (budget : ℕ) where
   -- at the start
-  pub underway-start : KeptReadings rows sheet readings given lines → (b : Buffers) → Holds rows (start (program rows)) b → Underway rows sheet readings given lines choices budget 0 b
+  pub underway-start : KeptReadings rows sheet readings given lines → (b : Buffers) → HoldsState rows (start (program rows)) b → Underway rows sheet readings given lines choices budget 0 b
   unfolding run
   underway-start k b h =
       let e : budget ≡ budget - 0 = omega arith in
@@ -61,8 +63,8 @@ module _ (rows : List ℤ) (ok : check rows ≡ none) (sheet : Sheet) (readings 
     s = U .state
 
     -- a state is held after a turn that takes no step
-    stays : (more : Bool) (choice count : ℕ) (c : Buffers) → Turned rows sheet more choice s count c → ready (program rows) sheet s ≡ [] → Holds rows s c
-    stays more choice count c T e = subst (λ (l : List Label). Holds rows (turnFrom rows sheet more choice s l) c) e (T .holds)
+    stays : (more : Bool) (choice count : ℕ) (c : Buffers) → Turned rows sheet more choice s count c → ready (program rows) sheet s ≡ [] → HoldsState rows s c
+    stays more choice count c T e = subst (λ (l : List Label). HoldsState rows (turnFrom rows sheet more choice s l) c) e (T .holds)
 
     none-ready : (l : List Label) → 0 ≡ length l → l ≡ []
     none-ready [] e = refl
@@ -74,39 +76,39 @@ module _ (rows : List ℤ) (ok : check rows ≡ none) (sheet : Sheet) (readings 
 
     -- no step is ready
     at-rest : (more : Bool) (choice count : ℕ) (c : Buffers) → Turned rows sheet more choice s count c → count ≡ 0
-        → (r : ℕ) → r ≡ root rows → (o : Outcome) → o ≡ restOutcome r (rowCount rows) (c .states) → Reached rows (run rows sheet choices budget) o n c
+        → (r : ℕ) → r ≡ root rows → (o : Outcome) → o ≡ restOutcome r (rowCount rows) (c .states) → ResultReached rows (run rows sheet choices budget) o n c
     at-rest more choice count c T z r i o j =
         let e = none-ready (ready (program rows) sheet s) (sym z ∙ T .counted) in
         let h = stays more choice count c T e in
         let q = U .goes ∙ goes-to-rest (program rows) sheet n (drop n choices) s (budget - n) e in
         record {
-          outcome = j ∙ ap (λ (k : ℕ). restOutcome k (rowCount rows) (c .states)) i ∙ rest-is rows ok sheet (U .stands .labels) s (U .stands .order) c h ∙ ap (λ (r : Result). r .outcome) (sym q);
-          steps = ap (λ (r : Result). r .steps) (sym q);
-          arrays = subst (λ (r : Result). Holds rows (r .state) c) (sym q) h;
+          outcome = j ∙ ap (λ (k : ℕ). restOutcome k (rowCount rows) (c .states)) i ∙ rest-is rows ok sheet (U .stands .labels) s (U .stands .order) c h ∙ ap (λ (r : RunResult). r .outcome) (sym q);
+          steps = ap (λ (r : RunResult). r .steps) (sym q);
+          arrays = subst (λ (r : RunResult). HoldsState rows (r .state) c) (sym q) h;
         }
 
     -- a step is ready, and the budget is used
-    spent : (choice count : ℕ) (c : Buffers) → Turned rows sheet (ltb n budget) choice s count c → (count ≡ 0 → ⊥) → n ≡ budget → Reached rows (run rows sheet choices budget) Spent n c
+    spent : (choice count : ℕ) (c : Buffers) → Turned rows sheet (ltb n budget) choice s count c → (count ≡ 0 → ⊥) → n ≡ budget → ResultReached rows (run rows sheet choices budget) Spent n c
     spent choice count c T z d =
         let (x, m, e) = some-ready (ready (program rows) sheet s) (λ y. z (T .counted ∙ y)) in
-        let h : Holds rows s c = rw (le-ltb n budget (omega arith), e) at (T .holds) in
+        let h : HoldsState rows s c = rw (le-ltb n budget (omega arith), e) at (T .holds) in
         let k : budget - n ≡ 0 = omega arith in
         let q = U .goes ∙ ap (λ (b : ℕ). go (program rows) sheet b n (drop n choices) s) k ∙ goes-no-further (program rows) sheet n (drop n choices) s x m e in
-        record { outcome = ap (λ (r : Result). r .outcome) (sym q); steps = ap (λ (r : Result). r .steps) (sym q); arrays = subst (λ (r : Result). Holds rows (r .state) c) (sym q) h }
+        record { outcome = ap (λ (r : RunResult). r .outcome) (sym q); steps = ap (λ (r : RunResult). r .steps) (sym q); arrays = subst (λ (r : RunResult). HoldsState rows (r .state) c) (sym q) h }
 
     -- a run ends: at rest, or with its budget used
     pub run-ends : (count : ℕ) → (count ≡ 0 → Turned rows sheet (ltb n budget) 0 s count b) → (ltb n budget ≡ false → Turned rows sheet (ltb n budget) 0 s count b) → isLast count n budget ≡ true
-        → (r : ℕ) → r ≡ root rows → (o : Outcome) → o ≡ outcomeWith count r (rowCount rows) (b .states) → Reached rows (run rows sheet choices budget) o n b
+        → (r : ℕ) → r ≡ root rows → (o : Outcome) → o ≡ outcomeWith count r (rowCount rows) (b .states) → ResultReached rows (run rows sheet choices budget) o n b
     run-ends count rest used l r i o j = go (eqb count 0) refl
       where
         outcome-is : (t : Bool) → eqb count 0 ≡ t → o ≡ ifElse t (restOutcome r (rowCount rows) (b .states)) Spent
         outcome-is t e = j ∙ ap (λ (t : Bool). ifElse t (restOutcome r (rowCount rows) (b .states)) Spent) e
 
-        go : (t : Bool) → eqb count 0 ≡ t → Reached rows (run rows sheet choices budget) o n b
+        go : (t : Bool) → eqb count 0 ≡ t → ResultReached rows (run rows sheet choices budget) o n b
         go true e = let z = eqb-true count 0 e in at-rest (ltb n budget) 0 count b (rest z) z r i o (outcome-is true e)
         go false e =
             let d = eqb-true n budget (sym (ap (λ (t : Bool). t || eqb n budget) e) ∙ l) in
-            subst (λ (q : Outcome). Reached rows (run rows sheet choices budget) q n b) (sym (outcome-is false e)) (spent 0 count b (used (le-ltb n budget (omega arith))) (eqb-false count 0 e) d)
+            subst (λ (q : Outcome). ResultReached rows (run rows sheet choices budget) q n b) (sym (outcome-is false e)) (spent 0 count b (used (le-ltb n budget (omega arith))) (eqb-false count 0 e) d)
 
     -- a step is ready, and budget is left
     pub one-further : (choice count : ℕ) (c : Buffers) → Turned rows sheet (ltb n budget) choice s count c → (count ≡ 0 → ⊥) → n < budget → choice ≡ getD choices n 0
@@ -117,7 +119,7 @@ module _ (rows : List ℤ) (ok : check rows ≡ none) (sheet : Sheet) (readings 
         let y = chosenStep (drop n choices) x m in
         let k : n + 0 ≡ n = omega arith in
         let v : chosenStep (choice ∷ []) x m ≡ y = chosen-first (drop n choices) choice (p ∙ sym (getD-drop n choices 0 0 ∙ ap (λ (i : ℕ). getD choices i 0) k)) x m in
-        let h : Holds rows (after P sheet (chosenStep (choice ∷ []) x m) s) c = rw (lt-ltb n budget d, e) at (T .holds) in
+        let h : HoldsState rows (after P sheet (chosenStep (choice ∷ []) x m) s) c = rw (lt-ltb n budget d, e) at (T .holds) in
         let f : budget - n ≡ suc (budget - (n + 1)) = omega arith in
         record {
           state = after P sheet y s;
@@ -126,7 +128,7 @@ module _ (rows : List ℤ) (ok : check rows ≡ none) (sheet : Sheet) (readings 
                 kept = U .stands .kept;
                 labels = U .stands .labels ++ (y ∷ []);
                 order = order-more rows sheet (U .stands .order) (ready-allowed rows sheet (fit rows ok) s (table-inv rows sheet (fit rows ok) (U .stands .labels) s (U .stands .order)) y (subst (λ (l : List Label). List·Memᴰ y l) (sym e) (chosen-ready (drop n choices) x m)));
-                holds = subst (λ (w : Label). Holds rows (after P sheet w s) c) v h;
+                holds = subst (λ (w : Label). HoldsState rows (after P sheet w s) c) v h;
               };
           goes =
               U .goes ∙ ap (λ (i : ℕ). go P sheet i n (drop n choices) s) f ∙ goes-on P sheet n (drop n choices) s (budget - (n + 1)) x m e

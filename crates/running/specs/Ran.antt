@@ -8,9 +8,9 @@ use lib.Dec.{eqb}
 use Rattle.meaning.specs.declared.Outcome.{Outcome}
 use Rattle.meaning.specs.declared.Outcome.the-variants.{Ended, Stuck, Broken}
 use Rattle.meaning.specs.Basics.{ifElse}
-use Rattle.meaning.specs.Settle.{anyOf}
+use Rattle.meaning.specs.State.{anyOf}
+use Rattle.meaning.specs.Order.{isStopped}
 use Rattle.meaning.specs.Run as meaning
-use Rattle.meaning.specs.Run.{isStopped}
 use Rattle.meaning.specs.Buffers.{Buffers, encode}
 use Rattle.machine.specs.Held.{blank}
 use Rattle.running.specs.declared.result.Run.{Run}
@@ -20,7 +20,7 @@ abbrev pub restOutcome : ℕ → ℕ → List ℕ → Outcome
 restOutcome root n states = ifElse (eqb (getD states root 0) 2) Ended (ifElse (anyOf isStopped (take n states)) Broken Stuck)
 
 -- an outcome, a number of steps and arrays are those of a result
-pub record Reached (rows : List ℤ) (q : meaning.Result) (o : Outcome) (n : ℕ) (b : Buffers) : Type 0 where
+pub record ResultReached (rows : List ℤ) (q : meaning.RunResult) (o : Outcome) (n : ℕ) (b : Buffers) : Type 0 where
   pub outcome : o ≡ q .outcome
   pub steps : n ≡ q .steps
   pub arrays : b ≡ encode rows (q .state) blank
@@ -30,7 +30,7 @@ abbrev pub arraysIn : Run → Buffers
 arraysIn r = record { cells = r .values; marks = r .marks; states = r .states; places = r .places; numbers = r .numbers; counts = r .counts }
 
 -- a run has the outcome, the steps and the state of a result
-pub record RunHeld (rows : List ℤ) (q : meaning.Result) (r : Run) : Type 0 where
+pub record RunHeld (rows : List ℤ) (q : meaning.RunResult) (r : Run) : Type 0 where
   pub outcome : r .outcome ≡ q .outcome
   pub steps : r .steps ≡ q .steps
   pub arrays : arraysIn r ≡ encode rows (q .state) blank

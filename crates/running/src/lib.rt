@@ -2,7 +2,7 @@
 ghost use mathlib.Core.Path.{_≡_};
 ghost use mathlib.Core.Option.{none};
 ghost use Prim.Native.Nat.{_≤_};
-ghost use Rattle.meaning.specs.Intent.{Sheet};
+ghost use Rattle.meaning.specs.Readings.{Sheet};
 ghost use Rattle.meaning.specs.Run.{run};
 ghost use Rattle.meaning.specs.Answers.{check};
 ghost use Rattle.offers.specs.Held.{KeptReadings};
@@ -29,8 +29,8 @@ pub fn run<'a>(
     requires few { ⌜ lines ≤ 128 ⌝ }
     ensures { λ r. ⌜ ((sheet : Sheet) → KeptReadings (now (rows .entry)) sheet (now (readings .entry)) (now (given .entry)) lines → RunHeld (now (rows .entry)) (run (now (rows .entry)) sheet (now (choices .entry)) budget) r) ⌝ }
 {
-    let layout = layout::layout_of(rows);
-    let root = rows::declarations(rows);
+    let layout = base_layout::layout_of(rows);
+    let root = base_rows::declarations(rows);
     let mut owners = [0u16; 1024];
     notes::owners::note_owners(rows, &mut owners);
     let mut parents = [0u16; 1024];

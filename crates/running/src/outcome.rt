@@ -2,8 +2,8 @@
 ghost use mathlib.Core.Path.{_≡_};
 ghost use Prim.Native.Nat.{_≤_};
 ghost use lib.ListN.{length, take};
-ghost use Rattle.meaning.specs.Settle.{anyOf};
-ghost use Rattle.meaning.specs.Run.{isStopped};
+ghost use Rattle.meaning.specs.State.{anyOf};
+ghost use Rattle.meaning.specs.Order.{isStopped};
 ghost use Rattle.running.specs.Ran.{restOutcome};
 ghost use Rattle.running.specs.Ending.{outcomeWith};
 use meaning::Outcome;

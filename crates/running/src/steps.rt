@@ -3,19 +3,19 @@ ghost use mathlib.Core.Path.{_≡_};
 ghost use mathlib.Core.Option.{none};
 ghost use Prim.Native.Nat.{_≤_};
 ghost use lib.ListN.{getD};
-ghost use Rattle.meaning.specs.Rows as table;
+ghost use Rattle.meaning.specs.Declarations as table;
 ghost use Rattle.meaning.specs.State.{program};
+ghost use Rattle.meaning.specs.Readings.{Sheet};
 ghost use Rattle.meaning.specs.Settle.{start};
-ghost use Rattle.meaning.specs.Intent.{Sheet};
 ghost use Rattle.meaning.specs.Run.{run};
 ghost use Rattle.meaning.specs.Answers.{check};
-ghost use Rattle.layout.specs.Names.{Named};
+ghost use Rattle.base_layout.specs.Names.{Named};
 ghost use Rattle.offers.specs.Held.{KeptReadings};
-ghost use Rattle.machine.specs.Held.{Holds};
+ghost use Rattle.machine.specs.Held.{HoldsState};
 ghost use Rattle.parents.specs.Parents.{ParentsNoted};
 ghost use Rattle.taking.specs.Stands.{arraysOf, Owned};
 ghost use Rattle.running.specs.Ending.{isLast};
-ghost use Rattle.running.specs.Ran.{Reached};
+ghost use Rattle.running.specs.Ran.{ResultReached};
 use crate::outcome::outcome_with;
 use evaluation::store::State;
 use meaning::Outcome;
@@ -76,8 +76,8 @@ pub fn take_steps<'a>(
     requires parented { ⌜ ParentsNoted (now rows) (now parents) (now nexts) ⌝ }
     requires kept { ⌜ ((sheet : Sheet) × KeptReadings (now rows) sheet (now readings) (now given) lines) ⌝ }
     requires few { ⌜ lines ≤ 128 ⌝ }
-    requires started { ⌜ Holds (now rows) (start (program (now rows))) (arraysOf first (now states) (now numbers) (now counts)) ⌝ }
-    ensures { λ d. ⌜ ((sheet : Sheet) → KeptReadings (now (rows .entry)) sheet (now (readings .entry)) (now (given .entry)) lines → Reached (now (rows .entry)) (run (now (rows .entry)) sheet (now (choices .entry)) budget) (d .outcome) (d .steps) (arraysOf (d .state) (now (states .exit)) (now (numbers .exit)) (now (counts .exit)))) ⌝ }
+    requires started { ⌜ HoldsState (now rows) (start (program (now rows))) (arraysOf first (now states) (now numbers) (now counts)) ⌝ }
+    ensures { λ d. ⌜ ((sheet : Sheet) → KeptReadings (now (rows .entry)) sheet (now (readings .entry)) (now (given .entry)) lines → ResultReached (now (rows .entry)) (run (now (rows .entry)) sheet (now (choices .entry)) budget) (d .outcome) (d .steps) (arraysOf (d .state) (now (states .exit)) (now (numbers .exit)) (now (counts .exit)))) ⌝ }
 {
     let mut acts = [0u16; 1024];
     let mut sent = [0u16; 1024];

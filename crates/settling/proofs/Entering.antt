@@ -7,7 +7,8 @@ use native.Mathlib.Nat.{le-antisymm}
 use lib.ListN.{length, set, drop, replicate}
 use lib.Seq.{drop-length}
 use Rattle.meaning.specs.Tree.{Process, rowOf}
-use Rattle.meaning.specs.Settle.{stateOf, visit, settleRunning, settle}
+use Rattle.meaning.specs.State.{stateOf}
+use Rattle.meaning.specs.Settle.{visit, settleRunning, settle}
 use Rattle.settling.specs.States.{runs, entered}
 
 -- what a row is found to be: running, idle, or neither

@@ -7,7 +7,7 @@ use Prim.Native.Nat.{ℕ, zero, suc}
 use lib.IntN.{ℤ}
 use lib.ListN.{getD, set, replicate}
 use Rattle.meaning.specs.Basics.{isSome}
-use Rattle.meaning.specs.Tree.{stop, Process, node, empty, partAt, orStop}
+use Rattle.meaning.specs.Tree.{stop, Process, node, empty, contentAt, orStop}
 use Rattle.meaning.specs.Settle.{byStep, visit, settleRunning, settle}
 use Rattle.meaning.specs.State.{program, processAt}
 use Rattle.agreement.proofs.Frame.{body-node, walk-none}
@@ -41,21 +41,21 @@ no-process-starts none n e = sym (see-start (node stop 0 empty) (replicate n 0) 
 no-process-starts (some p) n e = absurd (false≢true e)
 
 module _ (rows : List ℤ) (r : ℕ) where
-  root-settles : (s : List ℕ) → settleAny (partAt rows r .process) false s ≡ settle (processAt (program rows) r) false s
-  root-settles s = or-stop-settles (partAt rows r .process) s ∙ ap (λ (p : Process). settle p false s) (sym (process-is rows r))
+  root-settles : (s : List ℕ) → settleAny (contentAt rows r .process) false s ≡ settle (processAt (program rows) r) false s
+  root-settles s = or-stop-settles (contentAt rows r .process) s ∙ ap (λ (p : Process). settle p false s) (sym (process-is rows r))
 
-  root-starts : (s : List ℕ) → true ≡ isSome (partAt rows r .process) → settleAny (partAt rows r .process) true s ≡ settle (processAt (program rows) r) true s
-  root-starts s e = or-stop-starts (partAt rows r .process) s e ∙ ap (λ (p : Process). settle p true s) (sym (process-is rows r))
+  root-starts : (s : List ℕ) → true ≡ isSome (contentAt rows r .process) → settleAny (contentAt rows r .process) true s ≡ settle (processAt (program rows) r) true s
+  root-starts s e = or-stop-starts (contentAt rows r .process) s e ∙ ap (λ (p : Process). settle p true s) (sym (process-is rows r))
 
-  no-root-starts : (n : ℕ) → false ≡ isSome (partAt rows r .process) → set (replicate n 0) 0 1 ≡ settle (processAt (program rows) r) true (replicate n 0)
-  no-root-starts n e = no-process-starts (partAt rows r .process) n e ∙ ap (λ (p : Process). settle p true (replicate n 0)) (sym (process-is rows r))
+  no-root-starts : (n : ℕ) → false ≡ isSome (contentAt rows r .process) → set (replicate n 0) 0 1 ≡ settle (processAt (program rows) r) true (replicate n 0)
+  no-root-starts n e = no-process-starts (contentAt rows r .process) n e ∙ ap (λ (p : Process). settle p true (replicate n 0)) (sym (process-is rows r))
 
   -- the same of the states that the code leaves
-  pub root-settled : (s : List ℕ) {t : List ℕ} → t ≡ settleAny (partAt rows r .process) false s → t ≡ settle (processAt (program rows) r) false s
+  pub root-settled : (s : List ℕ) {t : List ℕ} → t ≡ settleAny (contentAt rows r .process) false s → t ≡ settle (processAt (program rows) r) false s
   root-settled s e = e ∙ root-settles s
 
-  pub root-started : (n : ℕ) {s t : List ℕ} → true ≡ isSome (partAt rows r .process) → s ≡ replicate n 0 → t ≡ settleAny (partAt rows r .process) true s → t ≡ settle (processAt (program rows) r) true (replicate n 0)
+  pub root-started : (n : ℕ) {s t : List ℕ} → true ≡ isSome (contentAt rows r .process) → s ≡ replicate n 0 → t ≡ settleAny (contentAt rows r .process) true s → t ≡ settle (processAt (program rows) r) true (replicate n 0)
   root-started n {s} i c e = rw (← c) (e ∙ root-starts s i)
 
-  pub no-root-started : (n : ℕ) {s t : List ℕ} → false ≡ isSome (partAt rows r .process) → s ≡ replicate n 0 → t ≡ set s 0 1 → t ≡ settle (processAt (program rows) r) true (replicate n 0)
+  pub no-root-started : (n : ℕ) {s t : List ℕ} → false ≡ isSome (contentAt rows r .process) → s ≡ replicate n 0 → t ≡ set s 0 1 → t ≡ settle (processAt (program rows) r) true (replicate n 0)
   no-root-started n i c e = e ∙ ap (λ (s : List ℕ). set s 0 1) c ∙ no-root-starts n i

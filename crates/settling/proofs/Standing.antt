@@ -10,30 +10,31 @@ use lib.ListN.{length, getD}
 use lib.Dec.{ltb, leb, eqb}
 use borrow.Author.Tests.{ltb-true, leb-true, leb-false, le-leb, lt-leb, ne-eqb}
 use Rattle.meaning.specs.declared.Node.{Node}
-use Rattle.meaning.specs.declared.Node.the-variants.{Literal, Element, Monadic, Dyadic, Stop, Skip, Assignment, Input, Output, Seq, Par, If, While, Alt, Member, Choice, Option, Guard, Other}
-use Rattle.meaning.specs.Rows.{ifElse, rowCount, fieldAt, naturalAt, kindAt, nodeAt}
-use Rattle.meaning.specs.Basics.{isSome}
+use Rattle.meaning.specs.declared.Node.the-variants.{Literal, Element, Monadic, Dyadic, Stop, Skip, Assignment, Input, Output, Seq, Par, If, While, Alt, Member, Choice, OptionRow, Guard, Other}
+use Rattle.meaning.specs.Rows.{rowCount, fieldAt, naturalAt, kindAt}
+use Rattle.meaning.specs.Basics.{ifElse, isSome}
 use Rattle.meaning.specs.Declarations.{variableAt, sinkAt}
-use Rattle.meaning.specs.Tree.{Expr, Action, stop, skip, sequence, parallel, assign, receive, send, conditional, loop, alternation, Process, node, Members, empty, Part, noPart, andMember, receiveOf, partOf, partAt}
+use Rattle.meaning.specs.Nodes.{nodeAt}
+use Rattle.meaning.specs.Tree.{Expr, Action, stop, skip, sequence, parallel, assign, input, output, conditional, loop, alternation, Process, node, Processes, empty, Content, noContent, andProcess, inputOf, contentOf, contentAt}
 use Rattle.meaning.specs.Settle.{mode, endsWhenClosed, statesOf}
-use Rattle.meaning.specs.PartClaims.{higherPart}
+use Rattle.meaning.specs.ContentClaims.{higherContent}
 use Rattle.agreement.proofs.TableTree.{part-at, part-past}
-use Rattle.layout.specs.Operands.{operandAt}
-use Rattle.layout.proofs.RowNodes.{nodeOf, node-of-kind}
+use Rattle.base_layout.specs.Operands.{operandAt}
+use Rattle.base_layout.proofs.RowNodes.{nodeOf, node-of-kind}
 use Rattle.settling.specs.declared.shape.Mode as code
 use Rattle.settling.specs.declared.shape.Mode.the-variants.{InTurn, Together, ByStep}
 use Rattle.settling.specs.declared.shape.Shape.{Shape}
 use Rattle.settling.specs.declared.shape.Shape.the-variants.{Ending, Repeating, Link, Neither}
-use Rattle.settling.specs.Shapes.{higherRow, shapeOf, shapeAt}
-use Rattle.settling.specs.Members.{modeOf, alone}
+use Rattle.settling.specs.Shapes.{higherRow, settlingShape, shapeAt}
+use Rattle.settling.specs.Members.{modeOf, onlyProcess}
 
 module _ (rows : List ℤ) where
   -- what row b says to row r stands at the row that the code goes to
-  higher-part : (r b : ℕ) → higherPart rows r b ≡ partAt rows (higherRow rows r b)
+  higher-part : (r b : ℕ) → higherContent rows r b ≡ contentAt rows (higherRow rows r b)
   unfolding higherRow
   higher-part r b = go (ltb r b)
     where
-      go : (t : Bool) → ifElse t (partAt rows b) noPart ≡ partAt rows (ifElse t b (length rows))
+      go : (t : Bool) → ifElse t (contentAt rows b) noContent ≡ contentAt rows (ifElse t b (length rows))
       go true = refl
       go false = sym (part-past rows (length rows) (omega arith))
 
@@ -49,8 +50,8 @@ module _ (rows : List ℤ) where
   -- at row r a process that ends when it closes, with members by mode m from link f on
   pub record EndingAt (r : ℕ) (m : code.Mode) (f : ℕ) : Type 0 where
     pub action : Action
-    pub process-is : partAt rows r .process ≡ some (node action r (partAt rows f .members))
-    pub no-members : partAt rows r .members ≡ empty
+    pub process-is : contentAt rows r .process ≡ some (node action r (contentAt rows f .listed))
+    pub no-members : contentAt rows r .listed ≡ empty
     pub mode-is : mode action ≡ modeOf m
     pub ends : endsWhenClosed action ≡ true
     pub fewer : rowCount rows - f < rowCount rows - r
@@ -59,21 +60,21 @@ module _ (rows : List ℤ) where
   pub record RepeatingAt (r b : ℕ) : Type 0 where
     pub test : Expr
     pub named : ℕ
-    pub process-is : partAt rows r .process ≡ some (node (loop test named) r (alone (partAt rows b .process)))
-    pub no-members : partAt rows r .members ≡ empty
+    pub process-is : contentAt rows r .process ≡ some (node (loop test named) r (onlyProcess (contentAt rows b .process)))
+    pub no-members : contentAt rows r .listed ≡ empty
     pub fewer : rowCount rows - b < rowCount rows - r
 
   -- at row r a link to the member of row p, and from link q on
   pub record LinkAt (r p q : ℕ) : Type 0 where
-    pub no-process : partAt rows r .process ≡ none
-    pub members-are : partAt rows r .members ≡ andMember (partAt rows p .process) (partAt rows q .members)
+    pub no-process : contentAt rows r .process ≡ none
+    pub members-are : contentAt rows r .listed ≡ andProcess (contentAt rows p .process) (contentAt rows q .listed)
     pub fewer-process : rowCount rows - p < rowCount rows - r
     pub fewer-next : rowCount rows - q < rowCount rows - r
 
   -- at row r neither
   pub record NeitherAt (r : ℕ) : Type 0 where
-    pub no-process : partAt rows r .process ≡ none
-    pub no-members : partAt rows r .members ≡ empty
+    pub no-process : contentAt rows r .process ≡ none
+    pub no-members : contentAt rows r .listed ≡ empty
 
   abbrev pub Stands : ℕ → Shape → Type 0
   Stands r (Ending m f) = EndingAt r m f
@@ -82,18 +83,18 @@ module _ (rows : List ℤ) where
   Stands r Neither = NeitherAt r
 
   module _ (r : ℕ) (l : r < rowCount rows) where
-    processes : {p q : Part} → p ≡ q → p .process ≡ q .process
-    processes = ap (λ (p : Part). p .process)
+    processes : {p q : Content} → p ≡ q → p .process ≡ q .process
+    processes = ap (λ (p : Content). p .process)
 
-    members : {p q : Part} → p ≡ q → p .members ≡ q .members
-    members = ap (λ (p : Part). p .members)
+    members : {p q : Content} → p ≡ q → p .listed ≡ q .listed
+    members = ap (λ (p : Content). p .listed)
 
     -- a process with no members
-    leaf : (a : Action) (m : code.Mode) → partAt rows r .process ≡ some (node a r empty) → partAt rows r .members ≡ empty → mode a ≡ modeOf m → endsWhenClosed a ≡ true → EndingAt r m (length rows)
+    leaf : (a : Action) (m : code.Mode) → contentAt rows r .process ≡ some (node a r empty) → contentAt rows r .listed ≡ empty → mode a ≡ modeOf m → endsWhenClosed a ≡ true → EndingAt r m (length rows)
     leaf a m e n i x =
         record {
           action = a;
-          process-is = e ∙ ap (λ (ms : Members). some (node a r ms)) (sym (members (part-past rows (length rows) (omega arith))));
+          process-is = e ∙ ap (λ (ms : Processes). some (node a r ms)) (sym (members (part-past rows (length rows) (omega arith))));
           no-members = n;
           mode-is = i;
           ends = x;
@@ -101,54 +102,54 @@ module _ (rows : List ℤ) where
         }
 
     -- a process with the members of link b
-    inner : (a : Action) (m : code.Mode) (b : ℕ) → partAt rows r .process ≡ some (node a r (higherPart rows r b .members)) → partAt rows r .members ≡ empty → mode a ≡ modeOf m → endsWhenClosed a ≡ true → EndingAt r m (higherRow rows r b)
+    inner : (a : Action) (m : code.Mode) (b : ℕ) → contentAt rows r .process ≡ some (node a r (higherContent rows r b .listed)) → contentAt rows r .listed ≡ empty → mode a ≡ modeOf m → endsWhenClosed a ≡ true → EndingAt r m (higherRow rows r b)
     inner a m b e n i x =
         record {
           action = a;
-          process-is = e ∙ ap (λ (ms : Members). some (node a r ms)) (members (higher-part r b));
+          process-is = e ∙ ap (λ (ms : Processes). some (node a r ms)) (members (higher-part r b));
           no-members = n;
           mode-is = i;
           ends = x;
           fewer = higher-left r b l;
         }
 
-    link : (a b : ℕ) → partAt rows r .process ≡ none → partAt rows r .members ≡ andMember (higherPart rows r a .process) (higherPart rows r b .members) → LinkAt r (higherRow rows r a) (higherRow rows r b)
+    link : (a b : ℕ) → contentAt rows r .process ≡ none → contentAt rows r .listed ≡ andProcess (higherContent rows r a .process) (higherContent rows r b .listed) → LinkAt r (higherRow rows r a) (higherRow rows r b)
     link a b n e =
         record {
           no-process = n;
           members-are =
               e
-              ∙ ap (λ (o : Maybe Process). andMember o (higherPart rows r b .members)) (processes (higher-part r a))
-              ∙ ap (λ (ms : Members). andMember (partAt rows (higherRow rows r a) .process) ms) (members (higher-part r b));
+              ∙ ap (λ (o : Maybe Process). andProcess o (higherContent rows r b .listed)) (processes (higher-part r a))
+              ∙ ap (λ (ms : Processes). andProcess (contentAt rows (higherRow rows r a) .process) ms) (members (higher-part r b));
           fewer-process = higher-left r a l;
           fewer-next = higher-left r b l;
         }
 
-    by-node : (k : Node) → partAt rows r ≡ partOf rows r (higherPart rows r) k → Stands r (shapeOf rows r k)
+    by-node : (k : Node) → contentAt rows r ≡ contentOf rows r (higherContent rows r) k → Stands r (settlingShape rows r k)
     by-node (Literal x) e = record { no-process = processes e; no-members = members e }
     by-node (Element a b) e = record { no-process = processes e; no-members = members e }
     by-node (Monadic a b) e = record { no-process = processes e; no-members = members e }
     by-node (Dyadic a b c) e = record { no-process = processes e; no-members = members e }
     by-node Stop e = leaf stop ByStep (processes e) (members e) refl refl
     by-node Skip e = leaf skip InTurn (processes e) (members e) refl refl
-    by-node (Assignment a b c) e = leaf (assign (variableAt rows a) (higherPart rows r b .expr) (higherPart rows r c .expr)) ByStep (processes e) (members e) refl refl
-    by-node (Input a b c) e = leaf (receive (receiveOf rows r (higherPart rows r) a b c)) ByStep (processes e) (members e) refl refl
-    by-node (Output a b c) e = leaf (send (sinkAt rows a) (higherPart rows r b .expr) (higherPart rows r c .expr)) ByStep (processes e) (members e) refl refl
+    by-node (Assignment a b c) e = leaf (assign (variableAt rows a) (higherContent rows r b .expr) (higherContent rows r c .expr)) ByStep (processes e) (members e) refl refl
+    by-node (Input a b c) e = leaf (input (inputOf rows r (higherContent rows r) a b c)) ByStep (processes e) (members e) refl refl
+    by-node (Output a b c) e = leaf (output (sinkAt rows a) (higherContent rows r b .expr) (higherContent rows r c .expr)) ByStep (processes e) (members e) refl refl
     by-node (Seq a) e = inner sequence InTurn a (processes e) (members e) refl refl
     by-node (Par a) e = inner parallel Together a (processes e) (members e) refl refl
-    by-node (If a) e = inner (conditional (higherPart rows r a .tests)) ByStep a (processes e) (members e) refl refl
+    by-node (If a) e = inner (conditional (higherContent rows r a .tests)) ByStep a (processes e) (members e) refl refl
     by-node (While a b) e =
         record {
-          test = higherPart rows r a .expr;
+          test = higherContent rows r a .expr;
           named = b;
-          process-is = processes e ∙ ap (λ (o : Maybe Process). some (node (loop (higherPart rows r a .expr) b) r (alone o))) (processes (higher-part r b));
+          process-is = processes e ∙ ap (λ (o : Maybe Process). some (node (loop (higherContent rows r a .expr) b) r (onlyProcess o))) (processes (higher-part r b));
           no-members = members e;
           fewer = higher-left r b l;
         }
-    by-node (Alt a) e = inner (alternation (higherPart rows r a .branches)) ByStep a (processes e) (members e) refl refl
+    by-node (Alt a) e = inner (alternation (higherContent rows r a .options)) ByStep a (processes e) (members e) refl refl
     by-node (Member a b) e = link a b (processes e) (members e)
     by-node (Choice a b c) e = link a b (processes e) (members e)
-    by-node (Option a b c) e = link a b (processes e) (members e)
+    by-node (OptionRow a b c) e = link a b (processes e) (members e)
     by-node (Guard a b) e = record { no-process = processes e; no-members = members e }
     by-node Other e = record { no-process = processes e; no-members = members e }
 
@@ -157,10 +158,10 @@ module _ (rows : List ℤ) where
   unfolding shapeAt
   stands r = go (leb (rowCount rows) r) refl
     where
-      go : (t : Bool) → leb (rowCount rows) r ≡ t → Stands r (ifElse t Neither (shapeOf rows r (nodeAt rows r)))
+      go : (t : Bool) → leb (rowCount rows) r ≡ t → Stands r (ifElse t Neither (settlingShape rows r (nodeAt rows r)))
       go true e =
-          let h : partAt rows r ≡ noPart = part-past rows r (leb-true (rowCount rows) r e) in
-          record { no-process = ap (λ (p : Part). p .process) h; no-members = ap (λ (p : Part). p .members) h }
+          let h : contentAt rows r ≡ noContent = part-past rows r (leb-true (rowCount rows) r e) in
+          record { no-process = ap (λ (p : Content). p .process) h; no-members = ap (λ (p : Content). p .listed) h }
       go false e =
           let l : r < rowCount rows = omega (arith, leb-false (rowCount rows) r e) in
           by-node r l (nodeAt rows r) (part-at rows r l)
@@ -170,9 +171,9 @@ module _ (rows : List ℤ) where
   found r e i = rw (sym e ∙ i) at (stands r)
 
   -- the part of a row in settling, from the kind that the code found
-  pub told : (r k : ℕ) → r < rowCount rows → kindAt rows r ≡ k → shapeOf rows r (nodeOf k (fieldAt rows r 1) (naturalAt rows r 1) (naturalAt rows r 2) (naturalAt rows r 3)) ≡ shapeAt rows r
+  pub told : (r k : ℕ) → r < rowCount rows → kindAt rows r ≡ k → settlingShape rows r (nodeOf k (fieldAt rows r 1) (naturalAt rows r 1) (naturalAt rows r 2) (naturalAt rows r 3)) ≡ shapeAt rows r
   unfolding shapeAt
-  told r k l e = rw (lt-leb (rowCount rows) r l) (ap (shapeOf rows r) (sym (node-of-kind rows r k e)))
+  told r k l e = rw (lt-leb (rowCount rows) r l) (ap (settlingShape rows r) (sym (node-of-kind rows r k e)))
 
   -- a field as the code reads it
   pub operand-is : (r j : ℕ) {b : ℕ} → b ≡ operandAt rows r j → b ≡ higherRow rows r (naturalAt rows r j)
@@ -185,7 +186,7 @@ module _ (rows : List ℤ) where
 
   -- expressions, guards and what is no kind
   no-part : (r : ℕ) (x : ℤ) (a b c : ℕ) (t10 t11 t12 t13 t43 : Bool)
-      → shapeOf rows r (ifElse t10 (Literal x) (ifElse t11 (Element a b) (ifElse t12 (Monadic a b) (ifElse t13 (Dyadic a b c) (ifElse t43 (Guard a b) Other))))) ≡ Neither
+      → settlingShape rows r (ifElse t10 (Literal x) (ifElse t11 (Element a b) (ifElse t12 (Monadic a b) (ifElse t13 (Dyadic a b c) (ifElse t43 (Guard a b) Other))))) ≡ Neither
   no-part r x a b c true t11 t12 t13 t43 = refl
   no-part r x a b c false true t12 t13 t43 = refl
   no-part r x a b c false false true t13 t43 = refl
@@ -202,10 +203,10 @@ module _ (rows : List ℤ) where
       ∙ told r k l e
 
   -- the state of a process alone is that of its row
-  pub states-alone : (r : ℕ) (s : List ℕ) (t : Bool) → t ≡ isSome (partAt rows r .process) → statesOf (alone (partAt rows r .process)) s ≡ ifElse t (getD s r 0 ∷ []) []
+  pub states-alone : (r : ℕ) (s : List ℕ) (t : Bool) → t ≡ isSome (contentAt rows r .process) → statesOf (onlyProcess (contentAt rows r .process)) s ≡ ifElse t (getD s r 0 ∷ []) []
   states-alone r s t e = go (shapeAt rows r) (stands r)
     where
-      go : (k : Shape) → Stands r k → statesOf (alone (partAt rows r .process)) s ≡ ifElse t (getD s r 0 ∷ []) []
+      go : (k : Shape) → Stands r k → statesOf (onlyProcess (contentAt rows r .process)) s ≡ ifElse t (getD s r 0 ∷ []) []
       go (Ending m f) h = rw (e, h .process-is)
       go (Repeating b) h = rw (e, h .process-is)
       go (Link p q) h = rw (e, h .no-process)

@@ -7,11 +7,12 @@ use Prim.Native.Nat.{ℕ, zero, suc}
 use native.Mathlib.Omega.{arith}
 use lib.IntN.{ℤ}
 use lib.Dec.{eqb}
+use Rattle.meaning.specs.Basics.{ifElse}
 use borrow.Author.Tests.{ne-eqb}
-use Rattle.meaning.specs.Rows.{ifElse}
-use Rattle.meaning.specs.Tree.{Process, Members, andMember, partAt}
-use Rattle.meaning.specs.Settle.{stateOf, statesOf, inTurn, together, byStep, nextMode, isEnded, isIdleOrEnded, allOf, anyOf, complete}
-use Rattle.settling.specs.Members.{isOver, alone, nextModeAfter}
+use Rattle.meaning.specs.Tree.{Process, Processes, andProcess, contentAt}
+use Rattle.meaning.specs.State.{stateOf, anyOf}
+use Rattle.meaning.specs.Settle.{statesOf, inTurn, together, byStep, nextMode, isEnded, isIdleOrEnded, allOf, complete}
+use Rattle.settling.specs.Members.{isOver, onlyProcess, nextModeAfter}
 use Rattle.settling.proofs.Standing.{LinkAt}
 
 -- of one state: ended, idle, or neither
@@ -47,28 +48,28 @@ ended-test (suc (suc zero)) = refl
 ended-test (suc (suc (suc n))) = ne-eqb (suc (suc (suc n))) 2 (λ e. absurd (omega arith))
 
 -- of a process that may be absent, and members after it
-module _ (s : List ℕ) (ms : Members) where
-  pub all-link : (f : ℕ → Bool) (o : Option Process) → allOf f (statesOf (andMember o ms) s) ≡ allOf f (statesOf (alone o) s) && allOf f (statesOf ms s)
+module _ (s : List ℕ) (ms : Processes) where
+  pub all-link : (f : ℕ → Bool) (o : Option Process) → allOf f (statesOf (andProcess o ms) s) ≡ allOf f (statesOf (onlyProcess o) s) && allOf f (statesOf ms s)
   all-link f none = refl
   all-link f (some p) = sym (and-true (f (stateOf s p)) (allOf f (statesOf ms s)))
 
-  pub any-link : (f : ℕ → Bool) (o : Option Process) → anyOf f (statesOf (andMember o ms) s) ≡ anyOf f (statesOf (alone o) s) || anyOf f (statesOf ms s)
+  pub any-link : (f : ℕ → Bool) (o : Option Process) → anyOf f (statesOf (andProcess o ms) s) ≡ anyOf f (statesOf (onlyProcess o) s) || anyOf f (statesOf ms s)
   any-link f none = refl
   any-link f (some p) = sym (or-false (f (stateOf s p)) (anyOf f (statesOf ms s)))
 
 -- along links: all, or some, from a link on, as the code goes
 module _ {rows : List ℤ} (s : List ℕ) (f : ℕ → Bool) {r p q : ℕ} (h : LinkAt rows r p q) where
-  pub all-go-on : {t u : Bool} → t ≡ allOf f (statesOf (alone (partAt rows p .process)) s) → t ≡ true → u ≡ allOf f (statesOf (partAt rows q .members) s) → u ≡ allOf f (statesOf (partAt rows r .members) s)
-  all-go-on e i k = rw (h .members-are, all-link s (partAt rows q .members) f (partAt rows p .process), sym e ∙ i) k
+  pub all-go-on : {t u : Bool} → t ≡ allOf f (statesOf (onlyProcess (contentAt rows p .process)) s) → t ≡ true → u ≡ allOf f (statesOf (contentAt rows q .listed) s) → u ≡ allOf f (statesOf (contentAt rows r .listed) s)
+  all-go-on e i k = rw (h .members-are, all-link s (contentAt rows q .listed) f (contentAt rows p .process), sym e ∙ i) k
 
-  pub all-fails : {t : Bool} → t ≡ allOf f (statesOf (alone (partAt rows p .process)) s) → t ≡ false → false ≡ allOf f (statesOf (partAt rows r .members) s)
-  all-fails e i = rw (h .members-are, all-link s (partAt rows q .members) f (partAt rows p .process), sym e ∙ i)
+  pub all-fails : {t : Bool} → t ≡ allOf f (statesOf (onlyProcess (contentAt rows p .process)) s) → t ≡ false → false ≡ allOf f (statesOf (contentAt rows r .listed) s)
+  all-fails e i = rw (h .members-are, all-link s (contentAt rows q .listed) f (contentAt rows p .process), sym e ∙ i)
 
-  pub any-found : {t : Bool} → t ≡ anyOf f (statesOf (alone (partAt rows p .process)) s) → t ≡ true → true ≡ anyOf f (statesOf (partAt rows r .members) s)
-  any-found e i = rw (h .members-are, any-link s (partAt rows q .members) f (partAt rows p .process), sym e ∙ i)
+  pub any-found : {t : Bool} → t ≡ anyOf f (statesOf (onlyProcess (contentAt rows p .process)) s) → t ≡ true → true ≡ anyOf f (statesOf (contentAt rows r .listed) s)
+  any-found e i = rw (h .members-are, any-link s (contentAt rows q .listed) f (contentAt rows p .process), sym e ∙ i)
 
-  pub any-goes-on : {t u : Bool} → t ≡ anyOf f (statesOf (alone (partAt rows p .process)) s) → t ≡ false → u ≡ anyOf f (statesOf (partAt rows q .members) s) → u ≡ anyOf f (statesOf (partAt rows r .members) s)
-  any-goes-on e i k = rw (h .members-are, any-link s (partAt rows q .members) f (partAt rows p .process), sym e ∙ i) k
+  pub any-goes-on : {t u : Bool} → t ≡ anyOf f (statesOf (onlyProcess (contentAt rows p .process)) s) → t ≡ false → u ≡ anyOf f (statesOf (contentAt rows q .listed) s) → u ≡ anyOf f (statesOf (contentAt rows r .listed) s)
+  any-goes-on e i k = rw (h .members-are, any-link s (contentAt rows q .listed) f (contentAt rows p .process), sym e ∙ i) k
 
 one-ended : (n : ℕ) → complete byStep (n ∷ []) ≡ anyOf isEnded (n ∷ [])
 one-ended zero = refl
@@ -78,7 +79,7 @@ one-ended (suc (suc (suc n))) = refl
 
 module _ (s : List ℕ) where
   -- the body of a WHILE closes it when it has ended
-  pub body-closes : (o : Option Process) → complete byStep (statesOf (alone o) s) ≡ anyOf isEnded (statesOf (alone o) s)
+  pub body-closes : (o : Option Process) → complete byStep (statesOf (onlyProcess o) s) ≡ anyOf isEnded (statesOf (onlyProcess o) s)
   body-closes none = refl
   body-closes (some p) = one-ended (stateOf s p)
 
@@ -98,7 +99,7 @@ module _ (s : List ℕ) where
   next-by-step (some p) = refl
 
   -- members in turn go on after one that has ended
-  pub next-after : (o : Option Process) (t : Bool) → t ≡ allOf isEnded (statesOf (alone o) s) → nextModeAfter o inTurn s ≡ ifElse t inTurn byStep
+  pub next-after : (o : Option Process) (t : Bool) → t ≡ allOf isEnded (statesOf (onlyProcess o) s) → nextModeAfter o inTurn s ≡ ifElse t inTurn byStep
   next-after none t e = rw e
   next-after (some p) t e = next-in-turn (stateOf s p) t e
 

@@ -3,8 +3,9 @@ use mathlib.Core.Bool.{Bool, true, false}
 use mathlib.Core.Option.{Option, none, some}
 use mathlib.Core.List.{List}
 use Prim.Native.Nat.{ℕ}
-use Rattle.meaning.specs.Tree.{Process, Members, empty, andMember}
-use Rattle.meaning.specs.Settle.{Mode, inTurn, together, byStep, stateOf, nextMode, isEnded, isIdleOrEnded, settle}
+use Rattle.meaning.specs.Tree.{Process, Processes, empty, andProcess}
+use Rattle.meaning.specs.State.{stateOf}
+use Rattle.meaning.specs.Settle.{Mode, inTurn, together, byStep, nextMode, isEnded, isIdleOrEnded, settle}
 use Rattle.settling.specs.declared.shape.Mode as code
 use Rattle.settling.specs.declared.shape.Mode.the-variants.{InTurn, Together, ByStep}
 
@@ -20,8 +21,8 @@ isOver true = isIdleOrEnded
 isOver false = isEnded
 
 -- a process, if there is one, as members
-abbrev pub alone : Option Process → Members
-alone o = andMember o empty
+abbrev pub onlyProcess : Option Process → Processes
+onlyProcess o = andProcess o empty
 
 -- how the members after a process, if there is one, are walked
 abbrev pub nextModeAfter : Option Process → Mode → List ℕ → Mode

@@ -1,10 +1,11 @@
 // When a process closes: the tests of its members' states, and what closing does.
 ghost use mathlib.Core.Path.{_≡_};
 ghost use lib.ListN.{set};
-ghost use Rattle.meaning.specs.Rows.{ifElse};
-ghost use Rattle.meaning.specs.Tree.{partAt, rowsBeneath};
-ghost use Rattle.meaning.specs.Settle.{statesOf, isEnded, allOf, anyOf, complete, makeIdle, byStep};
-ghost use Rattle.settling.specs.Members.{modeOf, isOver, alone};
+ghost use Rattle.meaning.specs.Basics.{ifElse};
+ghost use Rattle.meaning.specs.Tree.{contentAt, rowsBeneath};
+ghost use Rattle.meaning.specs.State.{makeIdle, anyOf};
+ghost use Rattle.meaning.specs.Settle.{statesOf, isEnded, allOf, complete, byStep};
+ghost use Rattle.settling.specs.Members.{modeOf, isOver, onlyProcess};
 ghost use Rattle.settling.specs.Touched.{Records};
 use crate::reset::make_idle;
 use crate::shape::Mode;
@@ -16,7 +17,7 @@ use crate::touched::change;
 
 // Whether the process of row p, if there is one, has ended, or is idle where that will do.
 pub fn is_over<'a>(rows: &'a [i32], p: usize, idle: bool, states: &'a [u8]) -> bool
-    ensures { λ t. ⌜ t ≡ allOf (isOver idle) (statesOf (alone (partAt (now (rows .entry)) p .process)) (now (states .entry))) ⌝ }
+    ensures { λ t. ⌜ t ≡ allOf (isOver idle) (statesOf (onlyProcess (contentAt (now (rows .entry)) p .process)) (now (states .entry))) ⌝ }
 {
     if is_process(rows, p) {
         let n = state_at(states, p);
@@ -33,7 +34,7 @@ pub fn is_over<'a>(rows: &'a [i32], p: usize, idle: bool, states: &'a [u8]) -> b
 
 // Whether the process of row p, if there is one, has ended.
 fn has_ended<'a>(rows: &'a [i32], p: usize, states: &'a [u8]) -> bool
-    ensures { λ t. ⌜ t ≡ anyOf isEnded (statesOf (alone (partAt (now (rows .entry)) p .process)) (now (states .entry))) ⌝ }
+    ensures { λ t. ⌜ t ≡ anyOf isEnded (statesOf (onlyProcess (contentAt (now (rows .entry)) p .process)) (now (states .entry))) ⌝ }
 {
     if is_process(rows, p) {
         let n = state_at(states, p);
@@ -44,7 +45,7 @@ fn has_ended<'a>(rows: &'a [i32], p: usize, states: &'a [u8]) -> bool
 
 // Whether every member from link m on has ended, or is idle where that will do.
 fn all_over<'a>(rows: &'a [i32], m: usize, idle: bool, states: &'a [u8]) -> bool
-    ensures { λ t. ⌜ t ≡ allOf (isOver idle) (statesOf (partAt (now (rows .entry)) m .members) (now (states .entry))) ⌝ }
+    ensures { λ t. ⌜ t ≡ allOf (isOver idle) (statesOf (contentAt (now (rows .entry)) m .listed) (now (states .entry))) ⌝ }
 {
     let s = shape_at(rows, m);
     match s {
@@ -62,7 +63,7 @@ fn all_over<'a>(rows: &'a [i32], m: usize, idle: bool, states: &'a [u8]) -> bool
 
 // Whether some member from link m on has ended.
 fn any_ended<'a>(rows: &'a [i32], m: usize, states: &'a [u8]) -> bool
-    ensures { λ t. ⌜ t ≡ anyOf isEnded (statesOf (partAt (now (rows .entry)) m .members) (now (states .entry))) ⌝ }
+    ensures { λ t. ⌜ t ≡ anyOf isEnded (statesOf (contentAt (now (rows .entry)) m .listed) (now (states .entry))) ⌝ }
 {
     let s = shape_at(rows, m);
     match s {
@@ -80,7 +81,7 @@ fn any_ended<'a>(rows: &'a [i32], m: usize, states: &'a [u8]) -> bool
 
 // Whether the members from link m on close a process that starts them by this mode.
 pub fn closes<'a>(rows: &'a [i32], m: usize, mode: Mode, states: &'a [u8]) -> bool
-    ensures { λ t. ⌜ t ≡ complete (modeOf mode) (statesOf (partAt (now (rows .entry)) m .members) (now (states .entry))) ⌝ }
+    ensures { λ t. ⌜ t ≡ complete (modeOf mode) (statesOf (contentAt (now (rows .entry)) m .listed) (now (states .entry))) ⌝ }
 {
     match mode {
         Mode::InTurn => all_over(rows, m, false, states),
@@ -103,7 +104,7 @@ pub fn finish(
     states: &mut [u8],
     touched: &mut [usize],
 )
-    ensures closed { λ _. ⌜ now (states .exit) ≡ ifElse (complete (modeOf mode) (statesOf (partAt (now (rows .entry)) m .members) (now (states .entry)))) (set (now (states .entry)) r 2) (now (states .entry)) ⌝ }
+    ensures closed { λ _. ⌜ now (states .exit) ≡ ifElse (complete (modeOf mode) (statesOf (contentAt (now (rows .entry)) m .listed) (now (states .entry)))) (set (now (states .entry)) r 2) (now (states .entry)) ⌝ }
     ensures records { λ _. ⌜ Records (now (states .entry)) (now (states .exit)) (now (touched .entry)) (now (touched .exit)) ⌝ }
 {
     if closes(rows, m, mode, &states[..]) {
@@ -113,7 +114,7 @@ pub fn finish(
 
 // Every row beneath a WHILE becomes idle if its body, of row b, has ended.
 pub fn restart(rows: &[i32], b: usize, states: &mut [u8], touched: &mut [usize])
-    ensures restarted { λ _. ⌜ now (states .exit) ≡ ifElse (complete byStep (statesOf (alone (partAt (now (rows .entry)) b .process)) (now (states .entry)))) (makeIdle (rowsBeneath (alone (partAt (now (rows .entry)) b .process))) (now (states .entry))) (now (states .entry)) ⌝ }
+    ensures restarted { λ _. ⌜ now (states .exit) ≡ ifElse (complete byStep (statesOf (onlyProcess (contentAt (now (rows .entry)) b .process)) (now (states .entry)))) (makeIdle (rowsBeneath (onlyProcess (contentAt (now (rows .entry)) b .process))) (now (states .entry))) (now (states .entry)) ⌝ }
     ensures records { λ _. ⌜ Records (now (states .entry)) (now (states .exit)) (now (touched .entry)) (now (touched .exit)) ⌝ }
 {
     if has_ended(rows, b, &states[..]) {

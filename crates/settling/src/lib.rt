@@ -3,7 +3,7 @@
 ghost use mathlib.Core.Path.{_≡_};
 ghost use mathlib.Core.Bool.{true};
 ghost use lib.ListN.{length, replicate};
-ghost use Rattle.meaning.specs.Tree.{partAt};
+ghost use Rattle.meaning.specs.Tree.{contentAt};
 ghost use Rattle.meaning.specs.Settle as meaning;
 ghost use Rattle.meaning.specs.State.{program, processAt};
 ghost use Rattle.settling.specs.Members.{modeOf, nextModeAfter, settleAny};
@@ -39,7 +39,7 @@ fn starts(mode: Mode) -> bool
 
 // How the members after the one of row p are walked.
 fn next_mode<'a>(rows: &'a [i32], p: usize, mode: Mode, states: &'a [u8]) -> Mode
-    ensures { λ n. ⌜ modeOf n ≡ nextModeAfter (partAt (now (rows .entry)) p .process) (modeOf mode) (now (states .entry)) ⌝ }
+    ensures { λ n. ⌜ modeOf n ≡ nextModeAfter (contentAt (now (rows .entry)) p .process) (modeOf mode) (now (states .entry)) ⌝ }
 {
     match mode {
         Mode::InTurn => {
@@ -61,7 +61,7 @@ pub fn settle_from(
     states: &mut [u8],
     touched: &mut [usize],
 )
-    ensures settled { λ _. ⌜ now (states .exit) ≡ settleAny (partAt (now (rows .entry)) r .process) startable (now (states .entry)) ⌝ }
+    ensures settled { λ _. ⌜ now (states .exit) ≡ settleAny (contentAt (now (rows .entry)) r .process) startable (now (states .entry)) ⌝ }
     ensures records { λ _. ⌜ Records (now (states .entry)) (now (states .exit)) (now (touched .entry)) (now (touched .exit)) ⌝ }
 {
     let s = shape_at(rows, r);
@@ -85,7 +85,7 @@ pub fn settle_from(
 
 // The members from link m on, each as the mode says.
 fn settle_members(rows: &[i32], m: usize, mode: Mode, states: &mut [u8], touched: &mut [usize])
-    ensures settled { λ _. ⌜ now (states .exit) ≡ meaning.settleMembers (partAt (now (rows .entry)) m .members) (modeOf mode) (now (states .entry)) ⌝ }
+    ensures settled { λ _. ⌜ now (states .exit) ≡ meaning.settleEach (contentAt (now (rows .entry)) m .listed) (modeOf mode) (now (states .entry)) ⌝ }
     ensures records { λ _. ⌜ Records (now (states .entry)) (now (states .exit)) (now (touched .entry)) (now (touched .exit)) ⌝ }
 {
     let s = shape_at(rows, m);

@@ -1,10 +1,10 @@
 // What settling needs of a row.
 ghost use mathlib.Core.Path.{_≡_};
 ghost use Rattle.meaning.specs.Basics.{isSome};
-ghost use Rattle.meaning.specs.Tree.{partAt};
+ghost use Rattle.meaning.specs.Tree.{contentAt};
 ghost use Rattle.settling.specs.Shapes.{shapeAt};
-use layout::nodes::natural;
-use layout::nodes::operand;
+use base_layout::nodes::natural;
+use base_layout::nodes::operand;
 
 // How a running process starts its members: each in its turn, every one, or none without a step.
 pub enum Mode {
@@ -54,7 +54,7 @@ pub fn shape_at(rows: &[i32], r: usize) -> Shape
 
 // Whether a process stands at row r.
 pub fn is_process(rows: &[i32], r: usize) -> bool
-    ensures { λ t. ⌜ t ≡ isSome (partAt (now (rows .entry)) r .process) ⌝ }
+    ensures { λ t. ⌜ t ≡ isSome (contentAt (now (rows .entry)) r .process) ⌝ }
 {
     let s = shape_at(rows, r);
     match s {

@@ -3,8 +3,8 @@
 fn main() {
     let mut input = [0u8; 49155];
     let n = io::read_full(0, &mut input);
-    let page = paper::answer(&input[..n]);
-    let length = page.length;
-    let bytes = page.bytes;
+    let printed_text = call_runner::answer(&input[..n]);
+    let length = printed_text.length;
+    let bytes = printed_text.bytes;
     io::write_all(1, &bytes[..length]);
 }

@@ -9,9 +9,9 @@ use lib.ListN.{length, getD, set}
 use lib.Seq.{getD-set-same, getD-set-other}
 use lib.Dec.{eqb}
 use borrow.Author.Tests.{eqb-true, eqb-false, eq-eqb, ne-eqb}
-use Rattle.meaning.specs.Basics.{ifElse, any, among, lowest}
+use Rattle.meaning.specs.Basics.{ifElse, anyPasses, among, lowest}
+use Rattle.meaning.specs.Readings.{Sheet}
 use Rattle.notes.specs.Marks.{rowNote, firstNote, noteAt}
-use Rattle.meaning.specs.Intent.{Sheet}
 use Rattle.intents.specs.declared.Does.{Does}
 use Rattle.intents.specs.declared.Does.the-variants.{Waits}
 use Rattle.notes.proofs.WorkingRows.{not-running}
@@ -31,7 +31,7 @@ acts-next f acts r l k x e j h = go (eqb j r) refl
 
 module _ (waiting : List ℕ) (s note e : ℕ) (l : e < length waiting) where
   alone : (s ≡ 0 → ⊥) → among e ((s - 1) ∷ []) ≡ eqb s (e + 1)
-  unfolding any
+  unfolding anyPasses
   alone n = go (eqb e (s - 1)) refl
     where
       go : (t : Bool) → eqb e (s - 1) ≡ t → (t || false) ≡ eqb s (e + 1)

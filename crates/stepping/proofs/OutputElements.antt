@@ -1,32 +1,35 @@
 -- What a row would output to is one of the table's elements, of which an accepted table has at most 256.
 use mathlib.Core.Path.{_≡_, refl}
 use mathlib.Core.Bool.{Bool, true, false, _||_}
-use mathlib.Core.Option.{Option, none, some}
+use mathlib.Core.Option.{none, some}
 use mathlib.Core.List.{List, [], _∷_}
 use Prim.Native.Nat.{ℕ, _+_, _<_, _≤_}
 use native.Mathlib.Omega.{arith}
 use native.Mathlib.Decide.{decLt}
 use lib.IntN.{ℤ, pos, negsuc}
 use lib.ListN.{length, getD}
-use lib.Dec.{ltb, eqb}
+use lib.Dec.{ltb}
 use borrow.Author.Tests.{ltb-true, le-ltb}
 use Rattle.meaning.specs.declared.Node.{Node}
-use Rattle.meaning.specs.declared.Node.the-variants.{Literal, Element, Monadic, Dyadic, Stop, Skip, Assignment, Input, Output, Seq, Par, If, While, Alt, Member, Choice, Option as Alternative, Guard, Other}
+use Rattle.meaning.specs.declared.Node.the-variants.{Literal, Element, Monadic, Dyadic, Stop, Skip, Assignment, Input, Output, Seq, Par, If, While, Alt, Member, Choice, OptionRow, Guard, Other}
 use Rattle.meaning.specs.declared.Value.{Value}
 use Rattle.meaning.specs.declared.Value.the-variants.{Number, Missing}
 use Rattle.meaning.specs.declared.Index.{Index}
 use Rattle.meaning.specs.declared.Index.the-variants.{At, Fails}
-use Rattle.meaning.specs.Rows.{ifElse, rowCount, kindAt, nodeAt, declarations}
-use Rattle.meaning.specs.Declarations.{Channel, noChannel, sumBelow, isChannel, hasRole, elementsAt, portsAt, capacityAt, channelAt, sinkAt}
-use Rattle.meaning.specs.Tree.{Expr, IfChoice, Action, stop, skip, sequence, parallel, assign, receive, send, conditional, loop, alternation, Part, noPart, partOf, partAt, orStop, actionOf}
-use Rattle.meaning.specs.Values.{isTrue, inArray, value, index}
+use Rattle.meaning.specs.Basics.{ifElse}
+use Rattle.meaning.specs.Rows.{rowCount}
+use Rattle.meaning.specs.Declarations.{declarations, Channel, noChannel, sumBelow, hasRole, elementsAt, hostChannelsAt, capacityAt, channelAt, sinkAt}
+use Rattle.meaning.specs.Nodes.{nodeAt}
+use Rattle.meaning.specs.Tree.{IfChoice, Action, stop, skip, sequence, parallel, assign, input, output, conditional, loop, alternation, Content, contentOf, contentAt, orStop, actionOf}
+use Rattle.meaning.specs.Values.{Message, isTrue, inArray, value, index}
 use Rattle.meaning.specs.Faults.{WithinLimits}
-use Rattle.meaning.specs.State.{Message, Store, State, program, processAt}
-use Rattle.meaning.specs.Intent.{Sheet, Intent, waits, moves, inputsFrom, outputsTo, selects, assigning, testing, choosing, hosting, sending, Reception, lacks, later, reads, fromElement, inputting, Looked, fails, offers, selecting, reception, tests, looks, intent}
-use Rattle.meaning.specs.Ready.{live, intentAt}
+use Rattle.meaning.specs.State.{Store, State, program, processAt}
+use Rattle.meaning.specs.Readings.{Sheet}
+use Rattle.meaning.specs.Intent.{Intent, waits, moves, inputsFrom, outputsTo, selects, assigning, testing, choosing, outputting, InputResult, lacks, notYet, reads, fromElement, inputting, OptionsResult, fails, offers, selecting, inputResult, tests, optionsResult, intent}
+use Rattle.meaning.specs.Ready.{isLive, intentAt}
 use Rattle.meaning.specs.Answers.{check}
 use Rattle.meaning.proofs.AnswerLaws.{accepted}
-use Rattle.meaning.specs.PartClaims.{higherPart}
+use Rattle.meaning.specs.ContentClaims.{higherContent}
 use Rattle.agreement.proofs.TableTree.{part-at, part-past, process-is}
 use Rattle.machine.proofs.Numbered.{sum-past, sum-bound}
 
@@ -49,8 +52,8 @@ module _ (N : ℕ) where
   SinkIn sequence = Unit {0}
   SinkIn parallel = Unit {0}
   SinkIn (assign v e f) = Unit {0}
-  SinkIn (receive i) = Unit {0}
-  SinkIn (send c e f) = ElementsIn c
+  SinkIn (input i) = Unit {0}
+  SinkIn (output c e f) = ElementsIn c
   SinkIn (conditional ts) = Unit {0}
   SinkIn (loop e b) = Unit {0}
   SinkIn (alternation bs) = Unit {0}
@@ -81,10 +84,10 @@ module _ (N : ℕ) where
   while-in r b (Missing k) = tt
   while-in r b (Number z) = either-in (isTrue z) (moves b 1 []) (moves r 2 []) tt tt
 
-  send-in : (r : ℕ) (c : Channel) (outputs : List (List Message)) (I : Index) (W : Value) → ((a : ℕ) → I ≡ At a → a < N) → OutIn (sending r c outputs I W)
+  send-in : (r : ℕ) (c : Channel) (outputs : List (List Message)) (I : Index) (W : Value) → ((a : ℕ) → I ≡ At a → a < N) → OutIn (outputting r c outputs I W)
   send-in r c outputs (Fails k) W h = tt
   send-in r c outputs (At e) (Missing k) h = tt
-  send-in r c outputs (At e) (Number z) h = either-in (c .host) _ (outputsTo e (some z)) (either-in (ltb (length (getD outputs (c .port) [])) (c .capacity)) _ waits tt tt) (h e refl)
+  send-in r c outputs (At e) (Number z) h = either-in (c .host) _ (outputsTo e (some z)) (either-in (ltb (length (getD outputs (c .number) [])) (c .capacity)) _ waits tt tt) (h e refl)
 
   tests-in : (sheet : Sheet) (r : ℕ) (ts : List IfChoice) (x : Store) → OutIn (tests sheet r ts x)
   tests-in sheet r [] x = tt
@@ -94,13 +97,13 @@ module _ (N : ℕ) where
       go (Missing k) h = tt
       go (Number z) h = either-in (isTrue z) (moves (t .process) 1 []) (tests sheet r l x) tt h
 
-  input-in : (r : ℕ) (R : Reception) → OutIn (inputting r R)
+  input-in : (r : ℕ) (R : InputResult) → OutIn (inputting r R)
   input-in r (lacks k) = tt
-  input-in r later = tt
+  input-in r notYet = tt
   input-in r (reads ws) = tt
   input-in r (fromElement e a) = tt
 
-  select-in : (r : ℕ) (L : Looked) → OutIn (selecting r L)
+  select-in : (r : ℕ) (L : OptionsResult) → OutIn (selecting r L)
   select-in r (fails k) = tt
   select-in r (offers os) = tt
 
@@ -111,11 +114,11 @@ module _ (N : ℕ) where
   intent-out sheet r x sequence h = tt
   intent-out sheet r x parallel h = tt
   intent-out sheet r x (assign v e f) h = assign-in r (index (x .cells) (v .first) (v .size) e) (value (x .cells) f)
-  intent-out sheet r x (receive i) h = input-in r (reception sheet i x)
-  intent-out sheet r x (send c e f) h = send-in r c (x .outputs) (index (x .cells) (c .first) (c .size) e) (value (x .cells) f) (λ a q. in-array c a (value (x .cells) e) h q)
+  intent-out sheet r x (input i) h = input-in r (inputResult sheet i x)
+  intent-out sheet r x (output c e f) h = send-in r c (x .outputs) (index (x .cells) (c .first) (c .size) e) (value (x .cells) f) (λ a q. in-array c a (value (x .cells) e) h q)
   intent-out sheet r x (conditional ts) h = tests-in sheet r ts x
   intent-out sheet r x (loop e b) h = while-in r b (value (x .cells) e)
-  intent-out sheet r x (alternation bs) h = select-in r (looks sheet bs x)
+  intent-out sheet r x (alternation bs) h = select-in r (optionsResult sheet bs x)
 
 module _ (rows : List ℤ) (ok : check rows ≡ none) where
   elements-fit : sumBelow (elementsAt rows) (declarations rows) ≤ 256
@@ -138,13 +141,13 @@ module _ (rows : List ℤ) (ok : check rows ≡ none) where
   sink-elements a = go (hasRole 0 rows a || hasRole 2 rows a)
     where
       c : Channel
-      c = record { first = sumBelow (elementsAt rows) a; size = elementsAt rows a; host = hasRole 2 rows a; port = sumBelow (portsAt 2 rows) a; capacity = capacityAt rows a }
+      c = record { first = sumBelow (elementsAt rows) a; size = elementsAt rows a; host = hasRole 2 rows a; number = sumBelow (hostChannelsAt 2 rows) a; capacity = capacityAt rows a }
 
       go : (t : Bool) → (i : ℕ) → i < ifElse t c noChannel .size → ifElse t c noChannel .first + i < 256
       go true i l = elements-at a i l
       go false i l = absurd (omega arith)
 
-  node-in : (r : ℕ) (at : ℕ → Part) (k : Node) → SinkIn 256 (actionOf (orStop (partOf rows r at k .process)))
+  node-in : (r : ℕ) (at : ℕ → Content) (k : Node) → SinkIn 256 (actionOf (orStop (contentOf rows r at k .process)))
   node-in r at (Literal x) = tt
   node-in r at (Element a b) = tt
   node-in r at (Monadic a b) = tt
@@ -161,19 +164,19 @@ module _ (rows : List ℤ) (ok : check rows ≡ none) where
   node-in r at (Alt a) = tt
   node-in r at (Member a b) = tt
   node-in r at (Choice a b c) = tt
-  node-in r at (Alternative a b c) = tt
+  node-in r at (OptionRow a b c) = tt
   node-in r at (Guard a b) = tt
   node-in r at Other = tt
 
   action-in : (r : ℕ) → SinkIn 256 (actionOf (processAt (program rows) r))
   action-in r = rw (process-is rows r) (go (decLt r (rowCount rows)))
     where
-      go : Dec (r < rowCount rows) → SinkIn 256 (actionOf (orStop (partAt rows r .process)))
-      go (yes l) = rw (part-at rows r l) (node-in r (higherPart rows r) (nodeAt rows r))
+      go : Dec (r < rowCount rows) → SinkIn 256 (actionOf (orStop (contentAt rows r .process)))
+      go (yes l) = rw (part-at rows r l) (node-in r (higherContent rows r) (nodeAt rows r))
       go (no l) = rw (part-past rows r (omega arith)) tt
 
   -- an output is to one of 256 elements
   pub output-below : (sheet : Sheet) (s : State) (r e : ℕ) (z : Message) → intentAt (program rows) sheet s r ≡ outputsTo e z → e < 256
   unfolding intentAt
   output-below sheet s r e z h =
-      rw h at (either-in 256 (live (program rows) sheet r s) (intent sheet (actionOf (processAt (program rows) r)) r (s .store)) waits (intent-out 256 sheet r (s .store) (actionOf (processAt (program rows) r)) (action-in r)) tt)
+      rw h at (either-in 256 (isLive (program rows) sheet r s) (intent sheet (actionOf (processAt (program rows) r)) r (s .store)) waits (intent-out 256 sheet r (s .store) (actionOf (processAt (program rows) r)) (action-in r)) tt)

@@ -5,9 +5,9 @@ use mathlib.Core.List.{List}
 use Prim.Native.Nat.{ℕ, _-_}
 use lib.IntN.{ℤ}
 use lib.ListN.{getD}
+use Rattle.meaning.specs.Readings.{Sheet}
+use Rattle.meaning.specs.Buffers.{decoded}
 use borrow.Author.Tests.{ne-eqb}
-use Rattle.meaning.specs.Intent.{Sheet}
-use Rattle.evaluation.specs.Cells.{decoded}
 use Rattle.offers.specs.declared.Offer.{Offer}
 use Rattle.offers.specs.Offers.{guardOffered}
 use Rattle.offers.specs.Rows.{optionAt}

@@ -1,30 +1,32 @@
 -- Of an accepted table, in a state of an order that the arrays hold: the notes tell what each row would do, which row waits at an element, and which rows have a step.
 use mathlib.Core.Path.{_≡_, refl, sym, ap, ap₂, subst, _∙_}
-use mathlib.Core.Bool.{Bool, true, false, _&&_, not, true≢false}
+use mathlib.Core.Bool.{Bool, true, false, _&&_, not}
 use mathlib.Core.Option.{Option, none, some, Option·map, Option·none-ne-some, Option·some-injective}
-use mathlib.Core.List.{List, [], _∷_, map}
-use Prim.Native.Nat.{ℕ, zero, suc, _+_, _-_, _<_, _≤_}
+use mathlib.Core.List.{List, [], _∷_}
+use Prim.Native.Nat.{ℕ, _+_, _-_, _<_, _≤_}
 use native.Mathlib.Omega.{arith}
 use native.Mathlib.Decide.{decLt}
 use lib.IntN.{ℤ, pos}
 use lib.ListN.{length, getD, List·getD-eq-default}
 use lib.Dec.{T, ltb, eqb}
 use borrow.Author.Tests.{ltb-true, ltb-false, lt-ltb, eqb-true, eqb-false, eq-eqb, ne-eqb}
-use Rattle.meaning.specs.Basics.{ifElse, isSome, among, lowest, Lowest, concat}
-use Rattle.meaning.specs.Rows.{rowCount, nodeAt}
-use Rattle.meaning.specs.Tree.{AltOption, Action, stop, skip, sequence, parallel, assign, receive, send, conditional, loop, alternation, Members, empty, also, rowOf, actionOf, membersIn}
-use Rattle.meaning.specs.Settle.{stateOf, statesOf, allOf}
-use Rattle.meaning.specs.State.{Message, State, program, processAt}
+use Rattle.meaning.specs.Basics.{ifElse, isSome, among, lowest, Lowest}
+use Rattle.meaning.specs.Rows.{rowCount}
+use Rattle.meaning.specs.Tree.{AltOption, Action, stop, skip, sequence, parallel, assign, input, output, conditional, loop, alternation, Processes, empty, also, rowOf, actionOf, processesIn}
+use Rattle.meaning.specs.Values.{Message}
+use Rattle.meaning.specs.Settle.{statesOf, allOf}
+use Rattle.meaning.specs.State.{State, program, processAt}
+use Rattle.meaning.specs.Labels.{Label}
+use Rattle.meaning.specs.Readings.{Sheet}
 use Rattle.meaning.specs.Intent as meaning
-use Rattle.meaning.specs.Intent.{Sheet, Intent, waits, moves, inputsFrom, outputsTo, selects, Looked, fails, offers, looks, selecting, intent}
-use Rattle.meaning.specs.Ready.{Label, intentAt, optionRow}
-use Rattle.meaning.specs.Buffers.{Buffers}
+use Rattle.meaning.specs.Intent.{Intent, waits, selects, OptionsResult, fails, offers, optionsResult, selecting, intent}
+use Rattle.meaning.specs.Ready.{intentAt}
+use Rattle.meaning.specs.Buffers.{Buffers, cellOf, decoded}
 use Rattle.meaning.specs.Order.{OrderOf}
 use Rattle.meaning.specs.Answers.{check}
 use Rattle.meaning.proofs.LowestLaws.{lowest-is}
 use Rattle.agreement.proofs.Active.{offerAt}
-use Rattle.agreement.proofs.OptionRows.{rowsOfOptions, optionRows}
-use Rattle.evaluation.specs.Cells.{decoded, cellOf}
+use Rattle.agreement.proofs.OptionRows.{rowsOfOptions}
 use Rattle.evaluation.proofs.CellLaws.{decoded-at, past-numbers}
 use Rattle.offers.specs.declared.Offer.{Offer}
 use Rattle.offers.specs.declared.Offer.the-variants.{Lacks, Nothing, Open, Reads as Read, Inputs}
@@ -33,13 +35,13 @@ use Rattle.intents.specs.declared.Does.the-variants.{Waits, Stops, Assigns, End
 use Rattle.offers.specs.Offers.{guardOffered}
 use Rattle.intents.specs.Does.{doesOf}
 use Rattle.offers.specs.Rows.{optionAt}
-use Rattle.offers.specs.Held.{Held, lookedAs, offersIn}
+use Rattle.offers.specs.Held.{Held, optionOffers, offersIn}
 use Rattle.intents.specs.Stands.{optionsOf, standsFor}
 use Rattle.offers.proofs.OptionLaws.{offers-in-order}
 use Rattle.offers.proofs.OptionStands.{option-stands}
 use Rattle.intents.proofs.Stands.{action-stands}
-use Rattle.machine.specs.RowSteps.{isOutputTo, isOption, altOf, ownStepBy, offerStep, optionStepBy, orElse, waitingAt, ownStep, optionStep, optionStepOf, stepAt, liveByMembers}
-use Rattle.machine.specs.Held.{Holds, Room, Lengths}
+use Rattle.machine.specs.RowSteps.{isOutputTo, altOf, ownStepBy, offerStep, optionStepBy, firstStep, waitingAt, ownStep, optionStep, stepAt, liveByProcesses}
+use Rattle.machine.specs.Held.{HoldsState}
 use Rattle.machine.proofs.Declared.{room}
 use Rattle.machine.proofs.StateSizes.{lengths}
 use Rattle.machine.proofs.HeldLaws.{cells-long, marks-long, read-cell, read-state, read-place, read-count}
@@ -50,7 +52,7 @@ use Rattle.machine.proofs.RowTables.{states-length}
 use Rattle.notes.specs.Marks.{rowNote}
 use Rattle.stepping.specs.Acts.{inputCode, actCode, offerCode, sentCode, readyBy, workingDoes, waitsAt, Noted, hasStep}
 use Rattle.notes.proofs.OptionLinks.{isOptionOf, alt-lowest}
-use Rattle.stepping.proofs.OptionOffers.{OfRows, options-known, rows-of-options, AllOf, offer-of-row}
+use Rattle.stepping.proofs.OptionOffers.{options-known, rows-of-options, AllOf, offer-of-row}
 use Rattle.stepping.proofs.OutputElements.{output-below}
 
 -- ---- tests
@@ -78,11 +80,11 @@ map-some : (f : ℕ → Label) (o : Option ℕ) → isSome (Option·map f o) ≡
 map-some f none = refl
 map-some f (some r) = refl
 
-or-none : (o : Option Label) → orElse o none ≡ o
+or-none : (o : Option Label) → firstStep o none ≡ o
 or-none none = refl
 or-none (some x) = refl
 
-states-same : (ms : Members) (s t : List ℕ) → ((r : ℕ) → getD s r 0 ≡ getD t r 0) → statesOf ms s ≡ statesOf ms t
+states-same : (ms : Processes) (s t : List ℕ) → ((r : ℕ) → getD s r 0 ≡ getD t r 0) → statesOf ms s ≡ statesOf ms t
 states-same empty s t h = refl
 states-same (also p ms) s t h = ap₂ (λ (n : ℕ) (l : List ℕ). n ∷ l) (h (rowOf p)) (states-same ms s t h)
 
@@ -106,7 +108,7 @@ ready-element waiting e =
     let q : e + 4 - 4 ≡ e = omega arith in
     rw (ne-eqb (e + 4) 1 (λ z. absurd (omega arith)), lt-ltb 3 (e + 4) (omega arith), q)
 
-module _ (rows : List ℤ) (ok : check rows ≡ none) (sheet : Sheet) (l : List Label) (s : State) (o : OrderOf rows sheet l s) (b : Buffers) (h : Holds rows s b) where
+module _ (rows : List ℤ) (ok : check rows ≡ none) (sheet : Sheet) (l : List Label) (s : State) (o : OrderOf rows sheet l s) (b : Buffers) (h : HoldsState rows s b) where
   abbrev does : ℕ → Does
   does = workingDoes rows sheet (b .cells) (b .marks) (b .places) (b .counts) (b .states)
 
@@ -127,16 +129,16 @@ module _ (rows : List ℤ) (ok : check rows ≡ none) (sheet : Sheet) (l : List 
           go (yes k) = decoded-at (b .cells) (b .marks) i (omega (arith, cells-long rows s b h)) (omega (arith, marks-long rows s b h))
           go (no k) = past-numbers (b .cells) (b .marks) i (omega (arith, cells-long rows s b h)) ∙ sym (ap (cellOf (getD (b .cells) i (pos 0))) (List·getD-eq-default (b .marks) 0 (omega (arith, marks-long rows s b h))))
 
-  live-same : (r : ℕ) → liveByMembers (program rows) r (b .states) ≡ liveByMembers (program rows) r (s .states)
-  unfolding liveByMembers
+  live-same : (r : ℕ) → liveByProcesses (program rows) r (b .states) ≡ liveByProcesses (program rows) r (s .states)
+  unfolding liveByProcesses
   live-same r =
       let same : (q : ℕ) → getD (b .states) q 0 ≡ getD (s .states) q 0 = λ q. sym (read-state rows (room rows ok) s (lengths rows ok sheet l s o) b h q) in
-      ap₂ (λ (n : ℕ) (m : List ℕ). eqb n 1 && allOf (λ i. eqb i 0) m) (same r) (states-same (membersIn (processAt (program rows) r)) (b .states) (s .states) same)
+      ap₂ (λ (n : ℕ) (m : List ℕ). eqb n 1 && allOf (λ i. eqb i 0) m) (same r) (states-same (processesIn (processAt (program rows) r)) (b .states) (s .states) same)
 
   -- what the arrays say a row would do is what it would do
   pub intent-noted : (r : ℕ) → standsFor sheet (s .store) (optionsOf (actionOf (processAt (program rows) r))) r (workingDoes rows sheet (b .cells) (b .marks) (b .places) (b .counts) (b .states) r) ≡ intentAt (program rows) sheet s r
   unfolding workingDoes
-  intent-noted r = rw (live-same r) (go (liveByMembers (program rows) r (s .states))) ∙ sym (intent-by-members rows ok sheet l s o r)
+  intent-noted r = rw (live-same r) (go (liveByProcesses (program rows) r (s .states))) ∙ sym (intent-by-members rows ok sheet l s o r)
     where
       go : (t : Bool) → standsFor sheet (s .store) (optionsOf (action r)) r (ifElse t (doesOf sheet (decoded (b .cells) (b .marks)) (b .places) (b .counts) (action r)) Waits) ≡ ifElse t (intent sheet (action r) r (s .store)) waits
       go true = action-stands sheet (s .store) (b .cells) (b .marks) (b .places) (b .counts) store-held (action r) r
@@ -214,47 +216,47 @@ module _ (rows : List ℤ) (ok : check rows ≡ none) (sheet : Sheet) (l : List 
     abbrev offerOf : ℕ → Offer
     offerOf j = guardOffered sheet cells (b .places) (optionAt rows j .guard)
 
-    option-ready : (r j : ℕ) (f : Offer) → readyBy waiting (offerCode f) ≡ isSome (offerStep waiter r j (offerAt j (offersIn (lookedAs (s .store) (optionAt rows j) f))))
+    option-ready : (r j : ℕ) (f : Offer) → readyBy waiting (offerCode f) ≡ isSome (offerStep waiter r j (offerAt j (offersIn (optionOffers (s .store) (optionAt rows j) f))))
     option-ready r j (Lacks k) = ready-nothing waiting
     option-ready r j Nothing = ready-nothing waiting
     option-ready r j Open = rw (eq-eqb j j refl) (ready-itself waiting)
     option-ready r j (Read a v m p) = rw (eq-eqb j j refl) (ready-itself waiting)
-    option-ready r j (Inputs e a) = rw (eq-eqb j j refl) (input-ready e ∙ sym (map-some (Label.takeFrom r j) (waiter e)))
+    option-ready r j (Inputs e a) = rw (eq-eqb j j refl) (input-ready e ∙ sym (map-some (Label.takeWithOutput r j) (waiter e)))
 
     -- an ALT that looks at its options lacks no value
-    selects-looks : (k : Action) (r : ℕ) → doesOf sheet cells (b .places) (b .counts) k ≡ Selects → (os : List meaning.Offer) × (looks sheet (optionsOf k) (s .store) ≡ offers os)
+    selects-looks : (k : Action) (r : ℕ) → doesOf sheet cells (b .places) (b .counts) k ≡ Selects → (os : List meaning.Offer) × (optionsResult sheet (optionsOf k) (s .store) ≡ offers os)
     unfolding intent
     selects-looks stop r q = ([], refl)
     selects-looks skip r q = ([], refl)
     selects-looks sequence r q = ([], refl)
     selects-looks parallel r q = ([], refl)
     selects-looks (assign v e f) r q = ([], refl)
-    selects-looks (receive i) r q = ([], refl)
-    selects-looks (send c e f) r q = ([], refl)
+    selects-looks (input i) r q = ([], refl)
+    selects-looks (output c e f) r q = ([], refl)
     selects-looks (conditional ts) r q = ([], refl)
     selects-looks (loop e f) r q = ([], refl)
     selects-looks (alternation bs) r q =
-        go (looks sheet bs (s .store)) refl (ap (standsFor sheet (s .store) bs r) (sym q) ∙ action-stands sheet (s .store) (b .cells) (b .marks) (b .places) (b .counts) store-held (alternation bs) r)
+        go (optionsResult sheet bs (s .store)) refl (ap (standsFor sheet (s .store) bs r) (sym q) ∙ action-stands sheet (s .store) (b .cells) (b .marks) (b .places) (b .counts) store-held (alternation bs) r)
       where
-        go : (L : Looked) → looks sheet bs (s .store) ≡ L → selects (offersIn (looks sheet bs (s .store))) ≡ selecting r L → (os : List meaning.Offer) × (looks sheet bs (s .store) ≡ offers os)
+        go : (L : OptionsResult) → optionsResult sheet bs (s .store) ≡ L → selects (offersIn (optionsResult sheet bs (s .store))) ≡ selecting r L → (os : List meaning.Offer) × (optionsResult sheet bs (s .store) ≡ offers os)
         go (fails k) p e = let z : _≡_ {A = ℕ} 0 1 = cc in absurd (omega arith)
         go (offers os) p e = (os, p)
 
     selecting-does : (r : ℕ) → does r ≡ Selects → doesOf sheet cells (b .places) (b .counts) (action r) ≡ Selects
     unfolding workingDoes
-    selecting-does r q = go (liveByMembers (program rows) r (b .states)) q
+    selecting-does r q = go (liveByProcesses (program rows) r (b .states)) q
       where
         go : (t : Bool) → ifElse t (doesOf sheet cells (b .places) (b .counts) (action r)) Waits ≡ Selects → doesOf sheet cells (b .places) (b .counts) (action r) ≡ Selects
         go true e = e
         go false e = let z : _≡_ {A = ℕ} 0 1 = cc in absurd (omega arith)
 
     abbrev offeredBy : AltOption → List meaning.Offer
-    offeredBy a = offersIn (looks sheet (a ∷ []) (s .store))
+    offeredBy a = offersIn (optionsResult sheet (a ∷ []) (s .store))
 
     offered : (a : AltOption) → AllOf rows (a .row) (offeredBy a)
-    offered a = subst (λ (L : Looked). AllOf rows (a .row) (offersIn L)) (option-stands sheet (s .store) (b .cells) (b .marks) (b .places) (b .counts) store-held a) (go (guardOffered sheet cells (b .places) (a .guard)))
+    offered a = subst (λ (L : OptionsResult). AllOf rows (a .row) (offersIn L)) (option-stands sheet (s .store) (b .cells) (b .marks) (b .places) (b .counts) store-held a) (go (guardOffered sheet cells (b .places) (a .guard)))
       where
-        go : (f : Offer) → AllOf rows (a .row) (offersIn (lookedAs (s .store) a f))
+        go : (f : Offer) → AllOf rows (a .row) (offersIn (optionOffers (s .store) a f))
         go (Lacks k) = tt
         go Nothing = tt
         go Open = (refl, tt)
@@ -263,14 +265,14 @@ module _ (rows : List ℤ) (ok : check rows ≡ none) (sheet : Sheet) (l : List 
 
     -- what the option of row j offers, where its ALT looks at its options
     pub offer-noted : (r j : ℕ) → altOf (program rows) j ≡ some r → does r ≡ Selects
-        → offerAt j (offersIn (looks sheet (optionsOf (actionOf (processAt (program rows) r))) (s .store))) ≡ offerAt j (offersIn (lookedAs (s .store) (optionAt rows j) (guardOffered sheet (decoded (b .cells) (b .marks)) (b .places) (optionAt rows j .guard))))
+        → offerAt j (offersIn (optionsResult sheet (optionsOf (actionOf (processAt (program rows) r))) (s .store))) ≡ offerAt j (offersIn (optionOffers (s .store) (optionAt rows j) (guardOffered sheet (decoded (b .cells) (b .marks)) (b .places) (optionAt rows j .guard))))
     offer-noted r j q e =
         let bs = optionsOf (action r) in
         let (os, p) = selects-looks (action r) r (selecting-does r e) in
         let t : among j (rowsOfOptions bs) ≡ true = ap (λ (m : List ℕ). among j m) (rows-of-options rows (action r)) ∙ T-true _ (found-below (isOptionOf rows j) (rowCount rows) r (sym (alt-lowest rows j) ∙ q) .1) in
-        ap (λ (L : Looked). offerAt j (offersIn L)) p ∙ ap (offerAt j) (offers-in-order sheet (s .store) bs os p) ∙ offer-of-row rows offeredBy offered j bs (options-known rows r)
+        ap (λ (L : OptionsResult). offerAt j (offersIn L)) p ∙ ap (offerAt j) (offers-in-order sheet (s .store) bs os p) ∙ offer-of-row rows offeredBy offered j bs (options-known rows r)
         ∙ ap (λ (u : Bool). ifElse u (offerAt j (offeredBy (optionAt rows j))) none) t
-        ∙ ap (λ (L : Looked). offerAt j (offersIn L)) (sym (option-stands sheet (s .store) (b .cells) (b .marks) (b .places) (b .counts) store-held (optionAt rows j)))
+        ∙ ap (λ (L : OptionsResult). offerAt j (offersIn L)) (sym (option-stands sheet (s .store) (b .cells) (b .marks) (b .places) (b .counts) store-held (optionAt rows j)))
 
     no-options-code : (e : ℕ) → eqb (inputCode e) 2 ≡ false
     no-options-code e = go (ltb e 256)

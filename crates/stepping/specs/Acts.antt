@@ -7,11 +7,10 @@ use lib.IntN.{ℤ}
 use lib.ListN.{length, getD}
 use lib.Dec.{ltb, eqb}
 use Rattle.meaning.specs.Basics.{ifElse, lowest}
-use Rattle.meaning.specs.Rows.{rowCount}
 use Rattle.meaning.specs.Tree.{actionOf}
 use Rattle.meaning.specs.State.{program, processAt}
-use Rattle.meaning.specs.Intent.{Sheet}
-use Rattle.evaluation.specs.Cells.{decoded}
+use Rattle.meaning.specs.Readings.{Sheet}
+use Rattle.meaning.specs.Buffers.{decoded}
 use Rattle.offers.specs.declared.Offer.{Offer}
 use Rattle.offers.specs.declared.Offer.the-variants.{Lacks, Nothing, Open, Reads as Read, Inputs}
 use Rattle.intents.specs.declared.Does.{Does}
@@ -19,7 +18,7 @@ use Rattle.intents.specs.declared.Does.the-variants.{Waits, Stops, Assigns, End
 use Rattle.offers.specs.Offers.{guardOffered}
 use Rattle.intents.specs.Does.{doesOf}
 use Rattle.offers.specs.Rows.{optionAt}
-use Rattle.machine.specs.RowSteps.{liveByMembers}
+use Rattle.machine.specs.RowSteps.{liveByProcesses}
 use Rattle.notes.specs.Marks.{rowNote, noteAt}
 
 -- an input from an element
@@ -71,7 +70,7 @@ readyBy waiting code = ifElse (eqb code 1) true (ltb 3 code && not (eqb (getD wa
 module _ (rows : List ℤ) (sheet : Sheet) (values : List ℤ) (marks places counts states : List ℕ) where
   -- what row r would do: nothing where it is not at work
   unfoldable pub workingDoes : ℕ → Does
-  workingDoes r = ifElse (liveByMembers (program rows) r states) (doesOf sheet (decoded values marks) places counts (actionOf (processAt (program rows) r))) Waits
+  workingDoes r = ifElse (liveByProcesses (program rows) r states) (doesOf sheet (decoded values marks) places counts (actionOf (processAt (program rows) r))) Waits
 
   -- does row r wait to output to element e
   abbrev pub waitsAt : ℕ → ℕ → Bool

@@ -1,7 +1,7 @@
 // What a row would do, and its numbers: by itself, and the element that it would output to.
 ghost use mathlib.Core.Path.{_≡_};
-ghost use Rattle.meaning.specs.Intent.{Sheet};
-ghost use Rattle.layout.specs.Names.{Named};
+ghost use Rattle.meaning.specs.Readings.{Sheet};
+ghost use Rattle.base_layout.specs.Names.{Named};
 ghost use Rattle.offers.specs.Held.{KeptReadings};
 ghost use Rattle.stepping.specs.Acts.{inputCode, actCode, sentCode, workingDoes};
 use intents::Does;

@@ -8,9 +8,9 @@ use lib.IntN.{ℤ}
 use lib.ListN.{getD, set}
 use Rattle.meaning.specs.Settle.{settle}
 use Rattle.meaning.specs.State.{program, whole}
-use Rattle.meaning.specs.Buffers.{Buffers}
+use Rattle.meaning.specs.Buffers.{Buffers, cellOf}
 use Rattle.evaluation.specs.declared.store.State.{State}
-use Rattle.evaluation.specs.Cells.{cellOf, withCell, withPlace}
+use Rattle.evaluation.specs.Cells.{withCell, withPlace}
 use Rattle.machine.specs.Held.{stripStart, putState, putSettled}
 use Rattle.notes.specs.Changes.{endNoted}
 use Rattle.changing.specs.declared.Data.{Data}

@@ -14,14 +14,15 @@ use Rattle.meaning.specs.Basics.{isSome, allBelow}
 use Rattle.meaning.specs.Rows.{rowCount}
 use Rattle.meaning.specs.Settle.{settle}
 use Rattle.meaning.specs.State.{State, program, whole, StateChange, Effect}
-use Rattle.meaning.specs.Intent.{Sheet}
-use Rattle.meaning.specs.Ready.{Label, own, ready, after, effectOf, intentAt}
-use Rattle.meaning.specs.Run.{chosenStep}
+use Rattle.meaning.specs.Labels.{Label, own}
+use Rattle.meaning.specs.Readings.{Sheet}
+use Rattle.meaning.specs.Order.{chosenStep}
+use Rattle.meaning.specs.Ready.{ready, after, effectOf, intentAt}
 use Rattle.meaning.specs.Buffers.{Buffers}
 use Rattle.meaning.specs.Answers.{check}
 use Rattle.settling.specs.Touched.{Listed}
 use Rattle.machine.specs.RowSteps.{stepAt, stepRows}
-use Rattle.machine.specs.Held.{Holds}
+use Rattle.machine.specs.Held.{HoldsState}
 use Rattle.machine.specs.Upward.{changeUp, endUp}
 use Rattle.machine.proofs.RowTables.{ready-count, ready-of-row}
 use Rattle.machine.proofs.StepRows.{any-default}
@@ -96,7 +97,7 @@ module _ (rows : List ℤ) (ok : check rows ≡ none) (sheet : Sheet) (readings 
 
       module _ (y : Label) (m : List Label) (q : ready (program rows) sheet s ≡ y ∷ m) where
         -- the arrays after its change hold the state that the chosen step leaves
-        pub row-held : (t : Buffers) → t ≡ putChange rows c b → Holds rows (after (program rows) sheet (chosenStep (choice ∷ []) y m) s) t
+        pub row-held : (t : Buffers) → t ≡ putChange rows c b → HoldsState rows (after (program rows) sheet (chosenStep (choice ∷ []) y m) s) t
         row-held t p =
             p ∙ ap (λ (z : Change). putChange rows z b) e
             ∙ change-held rows ok sheet (A .labels) s (A .order) b (A .holds) readings given lines (A .kept) few acts waiting owners (N .noted) (N .elements) j _ (N .owned j row-below) (chosen y m q)

@@ -11,14 +11,15 @@ use Rattle.meaning.specs.Basics.{allBelow}
 use Rattle.meaning.specs.Rows.{rowCount}
 use Rattle.meaning.specs.State as meaning
 use Rattle.meaning.specs.State.{program, StateChange, Effect}
-use Rattle.meaning.specs.Intent.{Sheet}
-use Rattle.meaning.specs.Ready.{Label, effectOf, intentAt}
+use Rattle.meaning.specs.Labels.{Label}
+use Rattle.meaning.specs.Readings.{Sheet}
+use Rattle.meaning.specs.Ready.{effectOf, intentAt}
 use Rattle.meaning.specs.Buffers.{Buffers}
 use Rattle.meaning.specs.Order.{OrderOf}
 use Rattle.offers.specs.Held.{KeptReadings}
 use Rattle.settling.specs.Touched.{Listed}
 use Rattle.machine.specs.RowSteps.{altOf}
-use Rattle.machine.specs.Held.{Holds}
+use Rattle.machine.specs.Held.{HoldsState}
 use Rattle.notes.specs.Marks.{rowNote}
 use Rattle.stepping.specs.Acts.{Noted, hasStep}
 use Rattle.rowlist.specs.InOrder.{InOrder}
@@ -44,7 +45,7 @@ module _ (rows : List ℤ) (sheet : Sheet) where
     pub kept : KeptReadings rows sheet readings given lines
     pub labels : List Label
     pub order : OrderOf rows sheet labels s
-    pub holds : Holds rows s b
+    pub holds : HoldsState rows s b
 
   -- what each row would do is noted, and the rows that have a ready step are listed in order
   pub record NotedAt (b : Buffers) (owners acts waiting readyHeld : List ℕ) (count : ℕ) : Type 0 where

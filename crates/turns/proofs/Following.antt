@@ -10,8 +10,7 @@ use lib.ListN.{getD}
 use Rattle.meaning.specs.Rows.{rowCount}
 use Rattle.meaning.specs.State as meaning
 use Rattle.meaning.specs.State.{program}
-use Rattle.meaning.specs.Intent.{Sheet}
-use Rattle.meaning.specs.Buffers.{Buffers}
+use Rattle.meaning.specs.Readings.{Sheet}
 use Rattle.meaning.specs.Answers.{check}
 use Rattle.evaluation.specs.declared.store.State.{State}
 use Rattle.machine.specs.Upward.{changeUp, endUp}
@@ -19,7 +18,7 @@ use Rattle.settling.specs.Touched.{Listed}
 use Rattle.parents.specs.Parents.{ParentsNoted}
 use Rattle.rowlist.specs.InOrder.{InOrder}
 use Rattle.stepping.specs.Acts.{sentCode, workingDoes, hasStep}
-use Rattle.noting.specs.Kept.{Single, Kept, Stale}
+use Rattle.noting.specs.Kept.{Single, RowsNoted, Stale}
 use Rattle.changing.specs.declared.Change.{Change}
 use Rattle.changing.specs.Changes.{putData, DataFits}
 use Rattle.taking.specs.Stands.{arraysOf, Owned, StandsAt, NotedAt, PickedChange}
@@ -31,7 +30,7 @@ use Rattle.turns.proofs.Renewed.{turned-renewed}
 
 module _ (rows : List ℤ) (ok : check rows ≡ none) (sheet : Sheet) (readings : List ℤ) (given : List ℕ) (lines : ℕ) (few : lines ≤ 128) (x : State) (states : List ℕ) (numbers : List ℤ) (counts : List ℕ) (s : meaning.State)
     (S : StandsAt rows sheet readings given lines (arraysOf x states numbers counts) s) (owners acts sent waiting list : List ℕ) (working : ℕ) (O : Owned rows owners)
-    (K : Kept rows sheet (x .values) (x .marks) (x .places) counts states owners acts sent waiting list working) (readyRows : List ℕ) (count : ℕ)
+    (K : RowsNoted rows sheet (x .values) (x .marks) (x .places) counts states owners acts sent waiting list working) (readyRows : List ℕ) (count : ℕ)
     (L : InOrder (hasStep rows sheet (x .values) (x .marks) (x .places) counts states acts waiting owners) (rowCount rows) readyRows count) (some : count ≡ 0 → ⊥) where
   abbrev N : NotedAt rows sheet (arraysOf x states numbers counts) owners acts waiting readyRows count
   N = noted rows ok sheet readings given lines (arraysOf x states numbers counts) s S owners acts sent waiting list working O K readyRows count L

@@ -13,10 +13,13 @@ use lib.ListN.{getD, List·getD-eq-default}
 use lib.Dec.{eqb, ltb}
 use Rattle.meaning.specs.Basics.{ifElse}
 use Rattle.meaning.specs.Rows.{rowCount}
-use Rattle.meaning.specs.Tree.{AltOption, Members, actionOf, membersIn}
-use Rattle.meaning.specs.State.{Message, Store, State, program, processAt, StateChange, Effect}
-use Rattle.meaning.specs.Intent.{Sheet, openOffer, inputOffer, Intent, waits, moves, inputsFrom, outputsTo, selects}
-use Rattle.meaning.specs.Ready.{Label, own, pass, take, takeFrom, intentAt, after}
+use Rattle.meaning.specs.Tree.{AltOption, Processes, actionOf, processesIn}
+use Rattle.meaning.specs.Values.{Message}
+use Rattle.meaning.specs.State.{Store, State, program, processAt, StateChange, Effect}
+use Rattle.meaning.specs.Labels.{Label, own, pass, takeOption, takeWithOutput}
+use Rattle.meaning.specs.Readings.{Sheet}
+use Rattle.meaning.specs.Intent.{openOffer, inputOffer, Intent, waits, moves, inputsFrom, outputsTo, selects}
+use Rattle.meaning.specs.Ready.{intentAt, after}
 use Rattle.meaning.specs.Step.{becomes}
 use Rattle.meaning.specs.Order.{OrderOf}
 use Rattle.meaning.specs.Buffers.{Buffers}
@@ -24,7 +27,7 @@ use Rattle.meaning.specs.Answers.{check}
 use Rattle.agreement.proofs.Commute.{Child, eldest, younger, Legal, own as itself, child}
 use Rattle.agreement.proofs.Fit.{Fit}
 use Rattle.agreement.proofs.Proper.{offer-proper}
-use Rattle.agreement.proofs.Active.{RowOf, its, receiver, sender, chooser, selector, giver, offerAt-is, Active, acts-alone, passes-on, takes-open, takes-input}
+use Rattle.agreement.proofs.Active.{RowOf, of-own, of-input, of-output, of-alt, of-alt-input, of-alt-output, offerAt-is, Active, acts-alone, passes-on, takes-open, takes-input}
 use Rattle.agreement.proofs.Working.{Inv, Works, acts as active, works, works-proper}
 use Rattle.agreement.proofs.Separate.{table-inv}
 use Rattle.agreement.proofs.TableFit.{fit}
@@ -33,8 +36,8 @@ use Rattle.intents.specs.declared.Does.{Does}
 use Rattle.intents.specs.declared.Does.the-variants.{Waits, Stops, Assigns, Ends, Starts, Reads, Writes, InputsFrom, OutputsTo, Selects}
 use Rattle.intents.specs.Stands.{standsFor, optionsOf}
 use Rattle.settling.specs.Touched.{Listed}
-use Rattle.machine.specs.Held.{Holds, ChangesBelow}
-use Rattle.machine.specs.Upward.{memberRows, parentOf}
+use Rattle.machine.specs.Held.{HoldsState, ChangesBelow}
+use Rattle.machine.specs.Upward.{processRows, parentOf}
 use Rattle.machine.proofs.Declared.{room}
 use Rattle.machine.proofs.StateSizes.{lengths}
 use Rattle.machine.proofs.HeldLaws.{read-state}
@@ -46,7 +49,7 @@ use Rattle.parents.specs.Parents.{ParentsNoted}
 use Rattle.stepping.specs.Acts.{inputCode, actCode, sentCode, workingDoes, waitsAt}
 use Rattle.stepping.proofs.StepsNoted.{intent-noted}
 use Rattle.rowlist.proofs.Agreeing.{lowest-same}
-use Rattle.noting.specs.Kept.{WaitsNoted, Single, Affected, Kept, Stale}
+use Rattle.noting.specs.Kept.{WaitsNoted, Single, Affected, RowsNoted, Stale}
 
 -- the numbers of what a row would do, by its intent
 abbrev actBy : Intent → ℕ
@@ -115,60 +118,60 @@ search-below {A} {B} (suc n) h = go (h n (omega arith)) (search-below n (λ r l.
 
 -- a row is one of a step's rows, or none of them
 none-own : {r j : ℕ} → (r ≡ j → ⊥) → NoneOf (own r) j
-none-own e q its = e
+none-own e q of-own = e
 
 none-pass : {i o j : ℕ} → (i ≡ j → ⊥) → (o ≡ j → ⊥) → NoneOf (pass i o) j
-none-pass e f q receiver = e
-none-pass e f q sender = f
+none-pass e f q of-input = e
+none-pass e f q of-output = f
 
-none-take : {r i j : ℕ} → (r ≡ j → ⊥) → NoneOf (take r i) j
-none-take e q chooser = e
+none-take : {r i j : ℕ} → (r ≡ j → ⊥) → NoneOf (takeOption r i) j
+none-take e q of-alt = e
 
-none-from : {r i o j : ℕ} → (r ≡ j → ⊥) → (o ≡ j → ⊥) → NoneOf (takeFrom r i o) j
-none-from e f q selector = e
-none-from e f q giver = f
+none-from : {r i o j : ℕ} → (r ≡ j → ⊥) → (o ≡ j → ⊥) → NoneOf (takeWithOutput r i o) j
+none-from e f q of-alt-input = e
+none-from e f q of-alt-output = f
 
 one-or-none : (x : Label) (j : ℕ) → RowOf x j ⊎ NoneOf x j
 one-or-none (own r) j = go (ℕ-discrete r j)
   where
     go : Dec (r ≡ j) → RowOf (own r) j ⊎ NoneOf (own r) j
-    go (yes e) = inl (subst (RowOf (own r)) e its)
+    go (yes e) = inl (subst (RowOf (own r)) e of-own)
     go (no e) = inr (none-own e)
 one-or-none (pass i o) j = go (ℕ-discrete i j) (ℕ-discrete o j)
   where
     go : Dec (i ≡ j) → Dec (o ≡ j) → RowOf (pass i o) j ⊎ NoneOf (pass i o) j
-    go (yes e) f = inl (subst (RowOf (pass i o)) e receiver)
-    go (no e) (yes f) = inl (subst (RowOf (pass i o)) f sender)
+    go (yes e) f = inl (subst (RowOf (pass i o)) e of-input)
+    go (no e) (yes f) = inl (subst (RowOf (pass i o)) f of-output)
     go (no e) (no f) = inr (none-pass e f)
-one-or-none (take r i) j = go (ℕ-discrete r j)
+one-or-none (takeOption r i) j = go (ℕ-discrete r j)
   where
-    go : Dec (r ≡ j) → RowOf (take r i) j ⊎ NoneOf (take r i) j
-    go (yes e) = inl (subst (RowOf (take r i)) e chooser)
+    go : Dec (r ≡ j) → RowOf (takeOption r i) j ⊎ NoneOf (takeOption r i) j
+    go (yes e) = inl (subst (RowOf (takeOption r i)) e of-alt)
     go (no e) = inr (none-take e)
-one-or-none (takeFrom r i o) j = go (ℕ-discrete r j) (ℕ-discrete o j)
+one-or-none (takeWithOutput r i o) j = go (ℕ-discrete r j) (ℕ-discrete o j)
   where
-    go : Dec (r ≡ j) → Dec (o ≡ j) → RowOf (takeFrom r i o) j ⊎ NoneOf (takeFrom r i o) j
-    go (yes e) f = inl (subst (RowOf (takeFrom r i o)) e selector)
-    go (no e) (yes f) = inl (subst (RowOf (takeFrom r i o)) f giver)
+    go : Dec (r ≡ j) → Dec (o ≡ j) → RowOf (takeWithOutput r i o) j ⊎ NoneOf (takeWithOutput r i o) j
+    go (yes e) f = inl (subst (RowOf (takeWithOutput r i o)) e of-alt-input)
+    go (no e) (yes f) = inl (subst (RowOf (takeWithOutput r i o)) f of-alt-output)
     go (no e) (no f) = inr (none-from e f)
 
 -- a process that may be started is one of the members
-child-row : {x : ℕ} {ms : Members} → Child x ms → List·Memᴰ x (memberRows ms)
+child-row : {x : ℕ} {ms : Processes} → Child x ms → List·Memᴰ x (processRows ms)
 child-row (eldest e) = List·Memᴰ·head e
 child-row (younger h) = List·Memᴰ·tail (child-row h)
 
 -- ---- a state of an order
 
 -- what is noted of a row is told by its intent
-act-is : (rows : List ℤ) (ok : check rows ≡ none) (sheet : Sheet) (l : List Label) (s : State) (o : OrderOf rows sheet l s) (b : Buffers) (h : Holds rows s b) (r : ℕ) → actBy (intentAt (program rows) sheet s r) ≡ actCode (workingDoes rows sheet (b .cells) (b .marks) (b .places) (b .counts) (b .states) r)
+act-is : (rows : List ℤ) (ok : check rows ≡ none) (sheet : Sheet) (l : List Label) (s : State) (o : OrderOf rows sheet l s) (b : Buffers) (h : HoldsState rows s b) (r : ℕ) → actBy (intentAt (program rows) sheet s r) ≡ actCode (workingDoes rows sheet (b .cells) (b .marks) (b .places) (b .counts) (b .states) r)
 act-is rows ok sheet l s o b h r =
     sym (ap actBy (intent-noted rows ok sheet l s o b h r)) ∙ act-by sheet (s .store) (optionsOf (actionOf (processAt (program rows) r))) r (workingDoes rows sheet (b .cells) (b .marks) (b .places) (b .counts) (b .states) r)
 
-sent-is : (rows : List ℤ) (ok : check rows ≡ none) (sheet : Sheet) (l : List Label) (s : State) (o : OrderOf rows sheet l s) (b : Buffers) (h : Holds rows s b) (r : ℕ) → sentBy (intentAt (program rows) sheet s r) ≡ sentCode (workingDoes rows sheet (b .cells) (b .marks) (b .places) (b .counts) (b .states) r)
+sent-is : (rows : List ℤ) (ok : check rows ≡ none) (sheet : Sheet) (l : List Label) (s : State) (o : OrderOf rows sheet l s) (b : Buffers) (h : HoldsState rows s b) (r : ℕ) → sentBy (intentAt (program rows) sheet s r) ≡ sentCode (workingDoes rows sheet (b .cells) (b .marks) (b .places) (b .counts) (b .states) r)
 sent-is rows ok sheet l s o b h r =
     sym (ap sentBy (intent-noted rows ok sheet l s o b h r)) ∙ sent-by sheet (s .store) (optionsOf (actionOf (processAt (program rows) r))) r (workingDoes rows sheet (b .cells) (b .marks) (b .places) (b .counts) (b .states) r)
 
-module _ (rows : List ℤ) (ok : check rows ≡ none) (sheet : Sheet) (l : List Label) (s : State) (o : OrderOf rows sheet l s) (b : Buffers) (h : Holds rows s b) where
+module _ (rows : List ℤ) (ok : check rows ≡ none) (sheet : Sheet) (l : List Label) (s : State) (o : OrderOf rows sheet l s) (b : Buffers) (h : HoldsState rows s b) where
   -- no two rows would output to one element
   pub single : Single (rowCount rows) (λ j. sentCode (workingDoes rows sheet (b .cells) (b .marks) (b .places) (b .counts) (b .states) j))
   single i j li lj e z =
@@ -178,7 +181,7 @@ module _ (rows : List ℤ) (ok : check rows ≡ none) (sheet : Sheet) (l : List 
       Option·some-injective i j (sym (output-waits rows ok sheet l s o d i v p) ∙ output-waits rows ok sheet l s o d j w (u ∙ ap (λ (n : ℕ). outputsTo n w) (sym m)))
 
   -- the row that is noted at each element is told by the numbers that are noted of the rows
-  pub noted-waits : (acts sent waiting list owners : List ℕ) (count : ℕ) → Kept rows sheet (b .cells) (b .marks) (b .places) (b .counts) (b .states) owners acts sent waiting list count → WaitsNoted (rowCount rows) sent waiting
+  pub noted-waits : (acts sent waiting list owners : List ℕ) (count : ℕ) → RowsNoted rows sheet (b .cells) (b .marks) (b .places) (b .counts) (b .states) owners acts sent waiting list count → WaitsNoted (rowCount rows) sent waiting
   noted-waits acts sent waiting list owners count K e k =
       K .noted .waiting e k
       ∙ ap rowNote (lowest-same (waitsAt rows sheet (b .cells) (b .marks) (b .places) (b .counts) (b .states) e) (λ j. eqb (getD sent j 0) (suc e)) (rowCount rows)
@@ -186,10 +189,10 @@ module _ (rows : List ℤ) (ok : check rows ≡ none) (sheet : Sheet) (l : List 
 
   -- ---- after a step
 
-  module _ {x : Label} {e : Effect} (A : Active (intentAt (program rows) sheet s) x e) (b′ : Buffers) (h′ : Holds rows (after (program rows) sheet x s) b′)
+  module _ {x : Label} {e : Effect} (A : Active (intentAt (program rows) sheet s) x e) (b′ : Buffers) (h′ : HoldsState rows (after (program rows) sheet x s) b′)
       (touched parents nexts owners acts sent waiting list : List ℕ) (count : ℕ) (PN : ParentsNoted rows parents nexts)
       (differs : (r : ℕ) → (getD (b′ .states) r 0 ≡ getD (b .states) r 0) ⊎ Listed touched r) (made : (m : StateChange) → List·Memᴰ m (e .changes) → Listed touched (m .at))
-      (K : Kept rows sheet (b .cells) (b .marks) (b .places) (b .counts) (b .states) owners acts sent waiting list count) where
+      (K : RowsNoted rows sheet (b .cells) (b .marks) (b .places) (b .counts) (b .states) owners acts sent waiting list count) where
     abbrev n : ℕ
     n = rowCount rows
 
@@ -206,38 +209,38 @@ module _ (rows : List ℤ) (ok : check rows ≡ none) (sheet : Sheet) (l : List 
     inv = table-inv rows sheet (fit rows ok) l s o
 
     -- the parent of a row that is noted is affected
-    by-member : (r q : ℕ) (ms : Members) → membersIn (processAt (program rows) r) ≡ ms → Child q ms → q < rowCount rows → Listed touched q → Affected touched parents r
+    by-member : (r q : ℕ) (ms : Processes) → processesIn (processAt (program rows) r) ≡ ms → Child q ms → q < rowCount rows → Listed touched q → Affected touched parents r
     by-member r q ms p c k y =
-        inr (q, y, PN .parent q k ∙ ap rowNote (parent-of-member rows ok r q (subst (λ (m : Members). List·Memᴰ q (memberRows m)) (sym p) (child-row c))) ∙ add-one r)
+        inr (q, y, PN .parent q k ∙ ap rowNote (parent-of-member rows ok r q (subst (λ (m : Processes). List·Memᴰ q (processRows m)) (sym p) (child-row c))) ∙ add-one r)
 
     -- a working row has the members that the table gives it
-    members-are : (r : ℕ) (W : Works (program rows) (rowCount rows) (fit rows ok) sheet s r) → membersIn (processAt (program rows) r) ≡ W .members
-    members-are r W = ap membersIn (F .placed (W .action) r (W .members) (W .sub))
+    members-are : (r : ℕ) (W : Works (program rows) (rowCount rows) (fit rows ok) sheet s r) → processesIn (processAt (program rows) r) ≡ W .listed
+    members-are r W = ap processesIn (F .placed (W .action) r (W .listed) (W .sub))
 
     -- a row of the step is affected: its own state changes, or that of a member that it starts
     step-affects : (j : ℕ) → RowOf x j → Affected touched parents j
     step-affects j m = go A m made (changes-below rows ok sheet l s o A)
       where
         go : {y : Label} {f : Effect} → Active (intentAt (program rows) sheet s) y f → RowOf y j → ((m : StateChange) → List·Memᴰ m (f .changes) → Listed touched (m .at)) → ChangesBelow (rowCount rows) (f .changes) → Affected touched parents j
-        go (acts-alone {r} {x = c} {v} {ws} q) its g k = at (works-proper (program rows) (rowCount rows) (fit rows ok) sheet s r W q .0)
+        go (acts-alone {r} {x = c} {v} {ws} q) of-own g k = at (works-proper (program rows) (rowCount rows) (fit rows ok) sheet s r W q .0)
           where
             W : Works (program rows) (rowCount rows) (fit rows ok) sheet s r
             W = works (program rows) (rowCount rows) (fit rows ok) sheet s r inv (ap active q)
 
-            at : Legal c v r (W .members) → Affected touched parents r
+            at : Legal c v r (W .listed) → Affected touched parents r
             at (itself i p z) = inl (subst (Listed touched) p (g (becomes r c v) (List·Memᴰ·head refl)))
-            at (child d z) = by-member r c (W .members) (members-are r W) d (k .0) (g (becomes r c v) (List·Memᴰ·head refl))
-        go (passes-on {i} {o = p} q u) receiver g k = inl (g (becomes i i 2) (List·Memᴰ·head refl))
-        go (passes-on {i} {o = p} q u) sender g k = inl (g (becomes p p 2) (List·Memᴰ·tail (List·Memᴰ·head refl)))
-        go (takes-open {r} {j = i} {q} {i = d} {ws} {os} u f) chooser g k =
+            at (child d z) = by-member r c (W .listed) (members-are r W) d (k .0) (g (becomes r c v) (List·Memᴰ·head refl))
+        go (passes-on {i} {o = p} q u) of-input g k = inl (g (becomes i i 2) (List·Memᴰ·head refl))
+        go (passes-on {i} {o = p} q u) of-output g k = inl (g (becomes p p 2) (List·Memᴰ·tail (List·Memᴰ·head refl)))
+        go (takes-open {r} {j = i} {q} {i = d} {ws} {os} u f) of-alt g k =
             let W = works (program rows) (rowCount rows) (fit rows ok) sheet s r inv (ap active u) in
-            let c = offer-proper _ _ (W .action) (W .members) (openOffer d q ws) os (works-proper (program rows) (rowCount rows) (fit rows ok) sheet s r W u) (offerAt-is i (openOffer d q ws) os f .0) .1 in
-            by-member r q (W .members) (members-are r W) c (k .0) (g (becomes r q 1) (List·Memᴰ·head refl))
-        go (takes-input {r} {j = i} {o = p} {q} {i = d} {e = z} {a} {z = v} {os} u f w) selector g k =
+            let c = offer-proper _ _ (W .action) (W .listed) (openOffer d q ws) os (works-proper (program rows) (rowCount rows) (fit rows ok) sheet s r W u) (offerAt-is i (openOffer d q ws) os f .0) .1 in
+            by-member r q (W .listed) (members-are r W) c (k .0) (g (becomes r q 1) (List·Memᴰ·head refl))
+        go (takes-input {r} {j = i} {o = p} {q} {i = d} {e = z} {a} {z = v} {os} u f w) of-alt-input g k =
             let W = works (program rows) (rowCount rows) (fit rows ok) sheet s r inv (ap active u) in
-            let c = offer-proper _ _ (W .action) (W .members) (inputOffer d q z a) os (works-proper (program rows) (rowCount rows) (fit rows ok) sheet s r W u) (offerAt-is i (inputOffer d q z a) os f .0) .1 in
-            by-member r q (W .members) (members-are r W) c (k .0) (g (becomes r q 1) (List·Memᴰ·head refl))
-        go (takes-input {r} {j = i} {o = p} u f w) giver g k = inl (g (becomes p p 2) (List·Memᴰ·tail (List·Memᴰ·head refl)))
+            let c = offer-proper _ _ (W .action) (W .listed) (inputOffer d q z a) os (works-proper (program rows) (rowCount rows) (fit rows ok) sheet s r W u) (offerAt-is i (inputOffer d q z a) os f .0) .1 in
+            by-member r q (W .listed) (members-are r W) c (k .0) (g (becomes r q 1) (List·Memᴰ·head refl))
+        go (takes-input {r} {j = i} {o = p} u f w) of-alt-output g k = inl (g (becomes p p 2) (List·Memᴰ·tail (List·Memᴰ·head refl)))
 
     -- the states of a row, before and after
     before : (r : ℕ) → getD (s .states) r 0 ≡ getD (b .states) r 0

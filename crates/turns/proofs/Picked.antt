@@ -5,8 +5,8 @@ use Prim.Native.Nat.{ℕ, zero, suc, _<_, _%_}
 use native.Mathlib.Nat.{mod-lt}
 use native.Mathlib.Omega.{arith}
 use lib.ListN.{length, getD}
-use Rattle.meaning.specs.Ready.{Label}
-use Rattle.meaning.specs.Run.{chosenStep}
+use Rattle.meaning.specs.Labels.{Label}
+use Rattle.meaning.specs.Order.{chosenStep}
 
 element-in : (l : List Label) (i : ℕ) (d : Label) → i < length l → List·Memᴰ (getD l i d) l
 element-in [] i d h = absurd (omega arith)

@@ -8,9 +8,10 @@ use lib.IntN.{ℤ}
 use lib.ListN.{length}
 use Rattle.meaning.specs.Rows.{rowCount}
 use Rattle.meaning.specs.State.{State, program, Effect}
-use Rattle.meaning.specs.Intent.{Sheet}
-use Rattle.meaning.specs.Ready.{Label, intentAt, ready, after, effectOf}
-use Rattle.meaning.specs.Run.{chosenStep}
+use Rattle.meaning.specs.Labels.{Label}
+use Rattle.meaning.specs.Readings.{Sheet}
+use Rattle.meaning.specs.Order.{chosenStep}
+use Rattle.meaning.specs.Ready.{intentAt, ready, after, effectOf}
 use Rattle.meaning.specs.Buffers.{Buffers}
 use Rattle.meaning.specs.Answers.{check}
 use Rattle.agreement.proofs.Active.{active}
@@ -18,12 +19,12 @@ use Rattle.agreement.proofs.Takeable.{takeable}
 use Rattle.agreement.proofs.Steps.{distinct-options, ready-allowed}
 use Rattle.agreement.proofs.TableFit.{fit}
 use Rattle.agreement.proofs.Separate.{table-inv}
-use Rattle.machine.specs.Held.{Holds}
+use Rattle.machine.specs.Held.{HoldsState}
 use Rattle.machine.proofs.Unmoved.{order-after}
 use Rattle.parents.specs.Parents.{ParentsNoted}
 use Rattle.rowlist.specs.InOrder.{InOrder}
 use Rattle.stepping.specs.Acts.{sentCode, workingDoes, hasStep}
-use Rattle.noting.specs.Kept.{Single, Kept, Stale}
+use Rattle.noting.specs.Kept.{Single, RowsNoted, Stale}
 use Rattle.taking.specs.Stands.{Owned, StandsAt, NotedAt, Touches}
 use Rattle.turns.specs.Turned.{Turned}
 use Rattle.turns.proofs.Picked.{chosen-ready}
@@ -32,14 +33,14 @@ use Rattle.turns.proofs.Counted.{noted, count-is, turned-further}
 
 module _ (rows : List ℤ) (ok : check rows ≡ none) (sheet : Sheet) (readings : List ℤ) (given : List ℕ) (lines : ℕ) (b : Buffers) (s : State) (S : StandsAt rows sheet readings given lines b s)
     (parents nexts owners acts sent waiting list : List ℕ) (working : ℕ) (PN : ParentsNoted rows parents nexts)
-    (K : Kept rows sheet (b .cells) (b .marks) (b .places) (b .counts) (b .states) owners acts sent waiting list working) (c : Buffers) (touched : List ℕ) where
+    (K : RowsNoted rows sheet (b .cells) (b .marks) (b .places) (b .counts) (b .states) owners acts sent waiting list working) (c : Buffers) (touched : List ℕ) where
   -- what is to be told after a step
   abbrev Told : Type 0
   Told = Single (rowCount rows) (λ j. sentCode (workingDoes rows sheet (c .cells) (c .marks) (c .places) (c .counts) (c .states) j))
       × Stale rows sheet (c .cells) (c .marks) (c .places) (c .counts) (c .states) owners touched parents acts sent waiting list working
 
   -- after a step that has an effect
-  told-by : (x : Label) (e : Effect) → effectOf x (intentAt (program rows) sheet s) ≡ some e → Holds rows (after (program rows) sheet x s) c → Touches rows sheet s x (b .states) (c .states) touched → Told
+  told-by : (x : Label) (e : Effect) → effectOf x (intentAt (program rows) sheet s) ≡ some e → HoldsState rows (after (program rows) sheet x s) c → Touches rows sheet s x (b .states) (c .states) touched → Told
   told-by x e q h T =
       let A = active (intentAt (program rows) sheet s) x e q in (
         single rows ok sheet _ (after (program rows) sheet x s) (order-after rows ok sheet (S .labels) s (S .order) A) c h,
@@ -47,7 +48,7 @@ module _ (rows : List ℤ) (ok : check rows ≡ none) (sheet : Sheet) (readings 
       )
 
   -- after a ready step
-  told-ready : (x : Label) → List·Memᴰ x (ready (program rows) sheet s) → Holds rows (after (program rows) sheet x s) c → Touches rows sheet s x (b .states) (c .states) touched → Told
+  told-ready : (x : Label) → List·Memᴰ x (ready (program rows) sheet s) → HoldsState rows (after (program rows) sheet x s) c → Touches rows sheet s x (b .states) (c .states) touched → Told
   told-ready x m h T =
       let F = fit rows ok in
       let k = ready-allowed rows sheet F s (table-inv rows sheet F (S .labels) s (S .order)) x m in
@@ -55,7 +56,7 @@ module _ (rows : List ℤ) (ok : check rows ≡ none) (sheet : Sheet) (readings 
 
   -- after the step that a choice picks, where one is ready
   told-after : (choice count : ℕ) → count ≡ length (ready (program rows) sheet s) → (count ≡ 0 → ⊥)
-      → ((x : Label) (l : List Label) → ready (program rows) sheet s ≡ x ∷ l → Holds rows (after (program rows) sheet (chosenStep (choice ∷ []) x l) s) c)
+      → ((x : Label) (l : List Label) → ready (program rows) sheet s ≡ x ∷ l → HoldsState rows (after (program rows) sheet (chosenStep (choice ∷ []) x l) s) c)
       → ((x : Label) (l : List Label) → ready (program rows) sheet s ≡ x ∷ l → Touches rows sheet s (chosenStep (choice ∷ []) x l) (b .states) (c .states) touched)
       → Told
   told-after choice count n z h T = go (ready (program rows) sheet s) refl
@@ -69,7 +70,7 @@ module _ (rows : List ℤ) (ok : check rows ≡ none) (sheet : Sheet) (readings 
       → InOrder (hasStep rows sheet (b .cells) (b .marks) (b .places) (b .counts) (b .states) acts waiting owners) (rowCount rows) readyRows count
       → (more : Bool) (choice : ℕ) → more ≡ true → (count ≡ 0 → ⊥)
       → ((a : List ℕ) → StandsAt rows sheet readings given lines b s → NotedAt rows sheet b owners a waiting readyRows count
-      → (x : Label) (l : List Label) → ready (program rows) sheet s ≡ x ∷ l → Holds rows (after (program rows) sheet (chosenStep (choice ∷ []) x l) s) c)
+      → (x : Label) (l : List Label) → ready (program rows) sheet s ≡ x ∷ l → HoldsState rows (after (program rows) sheet (chosenStep (choice ∷ []) x l) s) c)
       → ((a : List ℕ) → StandsAt rows sheet readings given lines b s → NotedAt rows sheet b owners a waiting readyRows count
       → (x : Label) (l : List Label) → ready (program rows) sheet s ≡ x ∷ l → Touches rows sheet s (chosenStep (choice ∷ []) x l) (b .states) (c .states) touched)
       → {X : Type 0}

@@ -6,11 +6,12 @@ use Prim.Native.Nat.{ℕ}
 use lib.IntN.{ℤ}
 use lib.ListN.{length}
 use Rattle.meaning.specs.State.{State, program}
-use Rattle.meaning.specs.Intent.{Sheet}
-use Rattle.meaning.specs.Ready.{Label, ready, after}
-use Rattle.meaning.specs.Run.{chosenStep}
+use Rattle.meaning.specs.Labels.{Label}
+use Rattle.meaning.specs.Readings.{Sheet}
+use Rattle.meaning.specs.Order.{chosenStep}
+use Rattle.meaning.specs.Ready.{ready, after}
 use Rattle.meaning.specs.Buffers.{Buffers}
-use Rattle.machine.specs.Held.{Holds}
+use Rattle.machine.specs.Held.{HoldsState}
 
 module _ (rows : List ℤ) (sheet : Sheet) where
   -- the state after a turn, by the ready steps
@@ -22,4 +23,4 @@ module _ (rows : List ℤ) (sheet : Sheet) where
   -- the ready steps of a state are counted, and the arrays hold the state after the turn
   pub record Turned (more : Bool) (choice : ℕ) (s : State) (count : ℕ) (b : Buffers) : Type 0 where
     pub counted : count ≡ length (ready (program rows) sheet s)
-    pub holds : Holds rows (turnFrom more choice s (ready (program rows) sheet s)) b
+    pub holds : HoldsState rows (turnFrom more choice s (ready (program rows) sheet s)) b

@@ -6,8 +6,8 @@ macro_rules! missing {
             /// Fails: the proved leaves are not linked.
             pub fn $name($(_: $given),*) -> $told {
                 panic!(
-                    "target/staticlib/libleaves.a is missing: \
-                     run `rt staticlib leaves` at the project's root, then this again"
+                    "target/staticlib/libtest_leaves.a is missing: \
+                     run `rt staticlib test_leaves` at the project's root, then this again"
                 )
             }
         )*

@@ -7,9 +7,9 @@ use native.Mathlib.Omega.{arith}
 use lib.IntN.{ℤ, pos}
 use Rattle.meaning.specs.State.{State, Program, program}
 use Rattle.meaning.specs.Labels.{own}
-use Rattle.meaning.specs.SettlingRules.{rest}
+use Rattle.meaning.specs.SettlingRules.{no-change}
 use Rattle.meaning.specs.Step.{live, host-write}
-use Rattle.meaning.specs.Order.{halt, then, OrderOf}
+use Rattle.meaning.specs.Order.{halt, next-step, OrderOf}
 use Rattle.meaning.proofs.ComputesAnswers.{computesAnswers}
 use Rattle.agreement.specs.Coherence.{OrdersCoherent}
 use Rattle.counterexample.specs.Concrete.{idle-by-test, settles, step}
@@ -37,8 +37,8 @@ order =
     let room : 0 < 1 = omega arith in
     record {
       beginning = start;
-      begins = record { settles = settles P rest refl; unset = refl; unread = refl; unwritten = refl };
-      order = then (step P [] (host-write (live refl refl (idle-by-test (start .states) [] refl)) refl refl refl refl room) rest refl refl) halt;
+      begins = record { settles = settles P no-change refl; unset = refl; unread = refl; unwritten = refl };
+      order = next-step (step P [] (host-write (live refl refl (idle-by-test (start .states) [] refl)) refl refl refl refl room) no-change refl refl) halt;
     }
 
 pub counterexample : ¬ OrdersCoherent

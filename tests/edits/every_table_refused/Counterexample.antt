@@ -7,9 +7,9 @@ use Prim.Native.Nat.{ℕ, zero, suc, _<_}
 use native.Mathlib.Omega.{arith}
 use lib.IntN.{ℤ, pos}
 use Rattle.meaning.specs.Rows.{kindAt}
-use Rattle.meaning.specs.Kinds.{Field, unused, value, within, elements, capacity, variable, channel, reference, link, Shape}
+use Rattle.meaning.specs.Kinds.{Field, unused, literalValue, within, elements, capacity, variable, channel, reference, link, Shape}
 use Rattle.meaning.specs.References.{Place, of-a, of-b, of-c, fieldOf, numberOf, RefersBy, Refers}
-use Rattle.meaning.specs.Faults.{Holds, WellFormed, Leads, Placed, WellPlaced}
+use Rattle.meaning.specs.Faults.{MayHold, WellFormed, Leads, Placed, WellPlaced}
 use Rattle.meaning.specs.Clash as C
 use Rattle.meaning.specs.Clash.{IsMember, Components, components}
 use Rattle.meaning.proofs.ComputesAnswers.{computesAnswers}
@@ -28,7 +28,7 @@ early (inl e) = let d : _≡_ {A = ℕ} 21 1 = e in omega arith
 early (inr e) = let d : _≡_ {A = ℕ} 21 2 = e in omega arith
 
 formed : EachFormed rows
-unfolding computesAnswers WellFormed Holds
+unfolding computesAnswers WellFormed MayHold
 formed zero h = (λ k. absurd (early k), (shape, refl, refl, refl, refl))
 formed (suc r) h = absurd (let k : suc r < 1 = h in omega arith)
 
@@ -36,7 +36,7 @@ formed (suc r) h = absurd (let k : suc r < 1 = h in omega arith)
 refers-up : (q t : ℕ) (f : Field) (z : ℤ) → RefersBy rows q f z t → ⊥
 unfolding RefersBy
 refers-up q t unused z h = h
-refers-up q t value z h = h
+refers-up q t literalValue z h = h
 refers-up q t (within lo hi) z h = h
 refers-up q t elements z h = h
 refers-up q t capacity z h = h
@@ -71,16 +71,16 @@ placed (suc r) h = (λ e d. let n : 0 ≡ suc r = d in omega arith, λ b. absurd
 
 -- so a PAR has no member
 no-member : {r m : ℕ} → IsMember rows r m → ⊥
-no-member {r} (C.first {m} k u) = none-refers r of-a m u
-no-member (C.next i u) = no-member i
+no-member {r} (C.member-first {m} k u) = none-refers r of-a m u
+no-member (C.member-next i u) = no-member i
 
 apart : {r p q : ℕ} → Components rows r p q → ⊥
 apart (components m n d e f) = no-member m
 
 clear : NoClash rows
-clear r k (C.cell c h u) = apart c
-clear r k (C.input c h u) = apart c
-clear r k (C.output c h u) = apart c
+clear r k (C.cell-clash c h u) = apart c
+clear r k (C.input-clash c h u) = apart c
+clear r k (C.output-clash c h u) = apart c
 
 pub counterexample : ¬ VerdictExact
 unfolding computesAnswers

@@ -9,7 +9,7 @@ use lib.ListN.{getD}
 use Rattle.meaning.specs.State.{State, Program, program}
 use Rattle.meaning.specs.Labels.{own}
 use Rattle.meaning.specs.Readings.{Sheet}
-use Rattle.meaning.specs.SettlingRules.{first, later, itself, par-starts, rest, then}
+use Rattle.meaning.specs.SettlingRules.{among-first, among-later, itself, par-starts, no-change, next-change}
 use Rattle.meaning.specs.Step.{live, assignment}
 use Rattle.meaning.specs.Order as O
 use Rattle.meaning.specs.Order.{halt, OrderOf}
@@ -51,12 +51,12 @@ order =
     record {
       beginning = start;
       begins = record {
-        settles = settles P (then (par-starts (itself, refl) first refl) (then (par-starts (itself, refl) (later first) refl) rest)) refl;
+        settles = settles P (next-change (par-starts (itself, refl) among-first refl) (next-change (par-starts (itself, refl) (among-later among-first) refl) no-change)) refl;
         unset = refl;
         unread = refl;
         unwritten = refl;
       };
-      order = O.then (step P sheet (assignment (live refl refl (idle-by-test (start .states) [] refl)) refl refl) rest refl refl) halt;
+      order = O.next-step (step P sheet (assignment (live refl refl (idle-by-test (start .states) [] refl)) refl refl) no-change refl refl) halt;
     }
 
 -- the first step of every run sets x

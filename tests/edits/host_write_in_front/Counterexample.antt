@@ -6,9 +6,10 @@ use Prim.Native.Nat.{ℕ, _<_}
 use native.Mathlib.Omega.{arith}
 use lib.IntN.{ℤ, pos, natAbs}
 use lib.ListN.{getD}
-use Rattle.meaning.specs.State.{Message, State, Program, program}
+use Rattle.meaning.specs.Values.{Message}
+use Rattle.meaning.specs.State.{State, Program, program}
 use Rattle.meaning.specs.Labels.{own}
-use Rattle.meaning.specs.SettlingRules.{rest}
+use Rattle.meaning.specs.SettlingRules.{no-change}
 use Rattle.meaning.specs.Step.{live, host-write}
 use Rattle.meaning.proofs.Computes.{computes}
 use Rattle.agreement.specs.Statements.{StepOf, ListsGrow}
@@ -35,7 +36,7 @@ writes : StepOf rows [] before (own 1) written
 unfolding computes
 writes =
     let room : 1 < 2 = omega arith in
-    step P [] (host-write (live refl refl (idle-by-test (before .states) [] refl)) refl refl refl refl room) rest refl refl
+    step P [] (host-write (live refl refl (idle-by-test (before .states) [] refl)) refl refl refl refl room) no-change refl refl
 
 abbrev firstIn : List Message → ℕ
 firstIn l = natAbs (Option·getD (getD l 0 none) (pos 0))

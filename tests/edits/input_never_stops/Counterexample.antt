@@ -8,9 +8,9 @@ use lib.IntN.{ℤ, pos}
 use Rattle.meaning.specs.Tree.{Action, actionOf}
 use Rattle.meaning.specs.State.{State, Program, program, processAt, Effect}
 use Rattle.meaning.specs.Labels.{Label, own}
-use Rattle.meaning.specs.Step.{Live, live, Lacks, assign-subscript, assign-value, output-subscript, output-value, while-test, if-test, alt-guard, Allows, assignment, while-false, while-true, if-true, communication, host, host-read, host-write, alt-skip, alt-read, alt-communication, stopping}
+use Rattle.meaning.specs.Step.{Live, live, Lacks, assign-subscript, assign-value, output-subscript, output-value, while-test, if-test, alt-guard, Allows, assignment, while-false, while-true, if-true, communication, host-input, host-read, host-write, alt-skip, alt-read, alt-communication, stopping}
 use Rattle.meaning.proofs.ComputesAnswers.{computesAnswers}
-use Rattle.agreement.specs.MissingClaims.{cell-unset, in-target, in-receive, ActionNeedsUnset, UnsetLacks, UnsetStops}
+use Rattle.agreement.specs.MissingClaims.{cell-unset, in-target, in-input, ActionNeedsUnset, UnsetLacks, UnsetStops}
 use Rattle.counterexample.specs.Concrete.{present, rowIn, other-sort, action-at, other-step, other-action, idle-by-test}
 
 abbrev rows : List ℤ
@@ -36,7 +36,7 @@ action = actionOf (processAt P 3)
 
 needs : ActionNeedsUnset (start .store .cells) action
 unfolding computesAnswers
-needs = in-receive (in-target refl (cell-unset refl refl))
+needs = in-input (in-target refl (cell-unset refl refl))
 
 runs : Live P start 3 action
 unfolding computesAnswers
@@ -61,7 +61,7 @@ none-allowed (while-false l t) x = other-action P start 3 l (ap rowIn x) refl
 none-allowed (while-true l t) x = other-action P start 3 l (ap rowIn x) refl
 none-allowed (if-true l t) x = other-action P start 3 l (ap rowIn x) refl
 none-allowed (communication l m i o) x = other-step refl x
-none-allowed (host-read l (host c d t p e)) x = let n : _≡_ {A = ℕ} 0 1 = ap present e in omega arith
+none-allowed (host-read l (host-input c d t p e)) x = let n : _≡_ {A = ℕ} 0 1 = ap present e in omega arith
 none-allowed (host-write l h i v o c) x = other-action P start 3 l (ap rowIn x) refl
 none-allowed (alt-skip l c m h i) x = other-step refl x
 none-allowed (alt-read l c m h i o) x = other-step refl x

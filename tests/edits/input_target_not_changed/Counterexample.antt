@@ -8,11 +8,12 @@ use native.Mathlib.Omega.{arith}
 use lib.IntN.{ℤ, pos, negsuc}
 use lib.ListN.{getD, set}
 use Rattle.meaning.specs.Tree.{Action, actionOf}
-use Rattle.meaning.specs.State.{Message, State, Program, program, processAt, writeAll, Effect}
+use Rattle.meaning.specs.Values.{Message}
+use Rattle.meaning.specs.State.{State, Program, program, processAt, writeAll, Effect}
 use Rattle.meaning.specs.Labels.{Label, own}
 use Rattle.meaning.specs.Readings.{Sheet}
-use Rattle.meaning.specs.SettlingRules.{first, later, and-then, no-more, itself, par-starts, par-ends, rest, then}
-use Rattle.meaning.specs.Step.{Live, live, Lacks, assign-subscript, assign-value, input-subscript, output-subscript, output-value, while-test, if-test, alt-guard, host, Allows, assignment, while-false, while-true, if-true, communication, host-read, host-write, alt-skip, alt-read, alt-communication, stopping}
+use Rattle.meaning.specs.SettlingRules.{among-first, among-later, all-more, all-none, itself, par-starts, par-ends, no-change, next-change}
+use Rattle.meaning.specs.Step.{Live, live, Lacks, assign-subscript, assign-value, input-subscript, output-subscript, output-value, while-test, if-test, alt-guard, host-input, Allows, assignment, while-false, while-true, if-true, communication, host-read, host-write, alt-skip, alt-read, alt-communication, stopping}
 use Rattle.meaning.specs.Order as O
 use Rattle.meaning.specs.Order.{halt, Begins, OrderOf}
 use Rattle.meaning.specs.Sheet.{readings}
@@ -82,7 +83,7 @@ begins : Begins P start
 unfolding computesAnswers
 begins =
     record {
-      settles = settles P (then (par-starts (itself, refl) first refl) (then (par-starts (itself, refl) (later first) refl) rest)) refl;
+      settles = settles P (next-change (par-starts (itself, refl) among-first refl) (next-change (par-starts (itself, refl) (among-later among-first) refl) no-change)) refl;
       unset = refl;
       unread = refl;
       unwritten = refl;
@@ -90,20 +91,20 @@ begins =
 
 reads : StepOf rows sheet start (own 5) read
 unfolding computesAnswers
-reads = step P sheet (host-read (live refl refl (idle-by-test (start .states) [] refl)) (host refl refl refl refl refl)) rest refl refl
+reads = step P sheet (host-read (live refl refl (idle-by-test (start .states) [] refl)) (host-input refl refl refl refl refl)) no-change refl refl
 
 stops : StepOf rows sheet start (own 10) stopped
 unfolding computesAnswers
-stops = step P sheet (stopping (live refl refl (idle-by-test (start .states) [] refl)) (assign-value refl refl)) rest refl refl
+stops = step P sheet (stopping (live refl refl (idle-by-test (start .states) [] refl)) (assign-value refl refl)) no-change refl refl
 
 ends : StepOf rows sheet read (own 10) ended
 unfolding computesAnswers
 ends =
     step P sheet (assignment (live refl refl (idle-by-test (read .states) [] refl)) refl refl)
-    (then (par-ends (itself, refl) (and-then refl (and-then refl no-more))) rest) refl refl
+    (next-change (par-ends (itself, refl) (all-more refl (all-more refl all-none))) no-change) refl refl
 
 order : OrderOf rows sheet (own 5 ∷ own 10 ∷ []) ended
-order = record { beginning = start; begins = begins; order = O.then reads (O.then ends halt) }
+order = record { beginning = start; begins = begins; order = O.next-step reads (O.next-step ends halt) }
 
 -- y
 abbrev second : List Message → ℕ
@@ -147,7 +148,7 @@ leaves (while-false l t) x = absurd (other-action P stopped 5 l (ap rowIn x) ref
 leaves (while-true l t) x = absurd (other-action P stopped 5 l (ap rowIn x) refl)
 leaves (if-true l t) x = absurd (other-action P stopped 5 l (ap rowIn x) refl)
 leaves (communication l m i o) x = absurd (other-step refl x)
-leaves (host-read {v} l (host c d t p e)) x = subst (λ (k : ℕ). second (set (stopped .store .cells) k v) ≡ 0) (ap placeOf (ap (changedCell (stopped .store .cells)) (action-at P stopped 5 l (ap rowIn x)) ∙ t)) refl
+leaves (host-read {v} l (host-input c d t p e)) x = subst (λ (k : ℕ). second (set (stopped .store .cells) k v) ≡ 0) (ap placeOf (ap (changedCell (stopped .store .cells)) (action-at P stopped 5 l (ap rowIn x)) ∙ t)) refl
 leaves (host-write l h i v o c) x = absurd (other-action P stopped 5 l (ap rowIn x) refl)
 leaves (alt-skip l c m h i) x = absurd (other-step refl x)
 leaves (alt-read l c m h i o) x = absurd (other-step refl x)

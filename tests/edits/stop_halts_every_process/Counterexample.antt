@@ -10,7 +10,7 @@ use Rattle.meaning.specs.Tree.{Action}
 use Rattle.meaning.specs.State.{State, Program, program}
 use Rattle.meaning.specs.Labels.{own}
 use Rattle.meaning.specs.Readings.{Sheet}
-use Rattle.meaning.specs.SettlingRules.{first, later, itself, par-starts, rest, then}
+use Rattle.meaning.specs.SettlingRules.{among-first, among-later, itself, par-starts, no-change, next-change}
 use Rattle.meaning.specs.Step.{Live, live, assign-value, assignment, stopping}
 use Rattle.meaning.specs.Order as O
 use Rattle.meaning.specs.Order.{halt, Begins, OrderOf, RestOf}
@@ -59,7 +59,7 @@ begins : Begins P start
 unfolding computesAnswers
 begins =
     record {
-      settles = settles P (then (par-starts (itself, refl) first refl) (then (par-starts (itself, refl) (later first) refl) rest)) refl;
+      settles = settles P (next-change (par-starts (itself, refl) among-first refl) (next-change (par-starts (itself, refl) (among-later among-first) refl) no-change)) refl;
       unset = refl;
       unread = refl;
       unwritten = refl;
@@ -68,7 +68,7 @@ begins =
 -- the stop first: then no row is live
 stops : StepOf rows sheet start (own 5) stopped
 unfolding computesAnswers
-stops = step P sheet (stopping (live refl refl (idle-by-test (start .states) [] refl)) (assign-value refl refl)) rest refl refl
+stops = step P sheet (stopping (live refl refl (idle-by-test (start .states) [] refl)) (assign-value refl refl)) no-change refl refl
 
 halted : (r : ℕ) (a : Action) → ¬ Live P stopped r a
 halted r a (live e u k) = let d : _≡_ {A = ℕ} 0 1 = u in omega arith
@@ -79,17 +79,17 @@ at-rest = rests P sheet stopped halted
 -- the assignment first
 assigns : StepOf rows sheet start (own 10) assigned
 unfolding computesAnswers
-assigns = step P sheet (assignment (live refl refl (idle-by-test (start .states) [] refl)) refl refl) rest refl refl
+assigns = step P sheet (assignment (live refl refl (idle-by-test (start .states) [] refl)) refl refl) no-change refl refl
 
 stops-then : StepOf rows sheet assigned (own 5) both
 unfolding computesAnswers
-stops-then = step P sheet (stopping (live refl refl (idle-by-test (assigned .states) [] refl)) (assign-value refl refl)) rest refl refl
+stops-then = step P sheet (stopping (live refl refl (idle-by-test (assigned .states) [] refl)) (assign-value refl refl)) no-change refl refl
 
 one : OrderOf rows sheet (own 5 ∷ []) stopped
-one = record { beginning = start; begins = begins; order = O.then stops halt }
+one = record { beginning = start; begins = begins; order = O.next-step stops halt }
 
 other : OrderOf rows sheet (own 10 ∷ own 5 ∷ []) both
-other = record { beginning = start; begins = begins; order = O.then assigns (O.then stops-then halt) }
+other = record { beginning = start; begins = begins; order = O.next-step assigns (O.next-step stops-then halt) }
 
 apart : (v : State) × StepOf rows sheet stopped (own 10) v × StepOf rows sheet assigned (own 5) v → ⊥
 apart (v, h, k) = at-rest (own 10) v h

@@ -8,7 +8,7 @@ use lib.IntN.{ℤ, pos, negsuc, natAbs}
 use lib.ListN.{getD}
 use Rattle.meaning.specs.State.{State, Program, program}
 use Rattle.meaning.specs.Labels.{own}
-use Rattle.meaning.specs.SettlingRules.{here, after, no-more, and-then, itself, seq-starts, seq-ends, rest, then}
+use Rattle.meaning.specs.SettlingRules.{next-here, next-after, all-none, all-more, itself, seq-starts, seq-ends, no-change, next-change}
 use Rattle.meaning.specs.Step.{live, host-write}
 use Rattle.meaning.specs.Order as O
 use Rattle.meaning.specs.Order.{halt, OrderOf}
@@ -48,22 +48,22 @@ first-write : StepOf rows [] start (own 3) once
 unfolding computesAnswers
 first-write =
     let room : 0 < 2 = omega arith in
-    step P [] (host-write (live refl refl (idle-by-test (start .states) [] refl)) refl refl refl refl room) (then (seq-starts (itself, refl) (after refl here) refl) rest) refl refl
+    step P [] (host-write (live refl refl (idle-by-test (start .states) [] refl)) refl refl refl refl room) (next-change (seq-starts (itself, refl) (next-after refl next-here) refl) no-change) refl refl
 
 second-write : StepOf rows [] once (own 7) twice
 unfolding computesAnswers
 second-write =
     let room : 1 < 2 = omega arith in
     step P [] (host-write (live refl refl (idle-by-test (once .states) [] refl)) refl refl refl refl room)
-    (then (seq-ends (itself, refl) (and-then refl (and-then refl no-more))) rest) refl refl
+    (next-change (seq-ends (itself, refl) (all-more refl (all-more refl all-none))) no-change) refl refl
 
 order : OrderOf rows [] (own 3 ∷ own 7 ∷ []) twice
 unfolding computesAnswers
 order =
     record {
       beginning = start;
-      begins = record { settles = settles P (then (seq-starts (itself, refl) here refl) rest) refl; unset = refl; unread = refl; unwritten = refl };
-      order = O.then first-write (O.then second-write halt);
+      begins = record { settles = settles P (next-change (seq-starts (itself, refl) next-here refl) no-change) refl; unset = refl; unread = refl; unwritten = refl };
+      order = O.next-step first-write (O.next-step second-write halt);
     }
 
 pub counterexample : (¬ EncodeHolds) × (¬ DecodedState)

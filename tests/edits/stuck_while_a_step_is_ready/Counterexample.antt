@@ -8,7 +8,7 @@ use Rattle.meaning.specs.declared.Outcome.{Outcome}
 use Rattle.meaning.specs.declared.Answer.the-variants.{Ran}
 use Rattle.meaning.specs.State.{State, Program, program}
 use Rattle.meaning.specs.Labels.{own}
-use Rattle.meaning.specs.SettlingRules.{first, itself, beneath, skip-ends, while-again, rest, then}
+use Rattle.meaning.specs.SettlingRules.{among-first, itself, beneath, skip-ends, while-again, no-change, next-change}
 use Rattle.meaning.specs.Step.{holds, live, while-true, Step}
 use Rattle.meaning.proofs.ComputesAnswers.{computesAnswers}
 use Rattle.agreement.specs.Statements.{RunTakesOrder}
@@ -27,7 +27,7 @@ again : Step P [] start (own 0) start
 unfolding computesAnswers
 again =
     step P [] (while-true (live refl refl (idle-by-test (start .states) (2 ∷ []) refl)) (holds refl refl))
-    (then (skip-ends (beneath itself first, refl)) (then (while-again (itself, refl) first refl) rest)) refl refl
+    (next-change (skip-ends (beneath itself among-first, refl)) (next-change (while-again (itself, refl) among-first refl) no-change)) refl refl
 
 pub counterexample : ¬ RunTakesOrder
 unfolding computesAnswers

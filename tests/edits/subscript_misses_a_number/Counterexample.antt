@@ -7,7 +7,7 @@ use native.Mathlib.Omega.{arith}
 use lib.IntN.{ℤ, pos, negsuc}
 use Rattle.meaning.specs.State.{State, Program, program}
 use Rattle.meaning.specs.Readings.{Sheet}
-use Rattle.meaning.specs.SettlingRules.{first, later, itself, par-starts, rest, then}
+use Rattle.meaning.specs.SettlingRules.{among-first, among-later, itself, par-starts, no-change, next-change}
 use Rattle.meaning.specs.Step.{live}
 use Rattle.meaning.specs.Order.{halt, OrderOf}
 use Rattle.meaning.specs.Sheet.{readings}
@@ -46,7 +46,7 @@ order =
     record {
       beginning = start;
       begins = record {
-        settles = settles P (then (par-starts (itself, refl) first refl) (then (par-starts (itself, refl) (later first) refl) rest)) refl;
+        settles = settles P (next-change (par-starts (itself, refl) among-first refl) (next-change (par-starts (itself, refl) (among-later among-first) refl) no-change)) refl;
         unset = refl;
         unread = refl;
         unwritten = refl;

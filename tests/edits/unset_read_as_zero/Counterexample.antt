@@ -9,7 +9,7 @@ use lib.ListN.{getD}
 use Rattle.meaning.specs.Tree.{literal, element, actionOf}
 use Rattle.meaning.specs.State.{Store, State, Program, program, processAt}
 use Rattle.meaning.specs.Labels.{own}
-use Rattle.meaning.specs.SettlingRules.{rest}
+use Rattle.meaning.specs.SettlingRules.{no-change}
 use Rattle.meaning.specs.Step.{Live, live, assignment, Step}
 use Rattle.meaning.proofs.Computes.{computes}
 use Rattle.agreement.specs.MissingClaims.{cell-unset, assign-from, UnsetRead, UnsetStops}
@@ -40,7 +40,7 @@ runs = live refl refl (idle-by-test (start .states) [] refl)
 
 assigns : Step P [] start (own 2) assigned
 unfolding computes
-assigns = step P [] (assignment runs refl refl) rest refl refl
+assigns = step P [] (assignment runs refl refl) no-change refl refl
 
 pub counterexample : (¬ UnsetRead) × (¬ UnsetStops)
 unfolding computes

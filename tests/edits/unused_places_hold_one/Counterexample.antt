@@ -6,7 +6,7 @@ use Prim.Native.Nat.{ℕ}
 use native.Mathlib.Omega.{arith}
 use lib.IntN.{ℤ, pos}
 use Rattle.meaning.specs.State.{State, Program, program}
-use Rattle.meaning.specs.SettlingRules.{itself, skip-ends, rest, then}
+use Rattle.meaning.specs.SettlingRules.{itself, skip-ends, no-change, next-change}
 use Rattle.meaning.specs.Order.{halt, OrderOf}
 use Rattle.meaning.proofs.ComputesAnswers.{computesAnswers}
 use Rattle.agreement.specs.MissingClaims.{EncodedCells}
@@ -25,7 +25,7 @@ start = record { states = 2 ∷ []; store = record { cells = []; places = []; ou
 order : OrderOf rows [] [] start
 unfolding computesAnswers
 order =
-    record { beginning = start; begins = record { settles = settles P (then (skip-ends (itself, refl)) rest) refl; unset = refl; unread = refl; unwritten = refl }; order = halt }
+    record { beginning = start; begins = record { settles = settles P (next-change (skip-ends (itself, refl)) no-change) refl; unset = refl; unread = refl; unwritten = refl }; order = halt }
 
 pub counterexample : (¬ EncodedCells) × (¬ EncodeHolds)
 unfolding computesAnswers

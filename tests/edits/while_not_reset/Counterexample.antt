@@ -5,7 +5,7 @@ use lib.IntN.{ℤ, pos}
 use Rattle.meaning.specs.Tree.{literal, node, skip, empty, also}
 use Rattle.meaning.specs.State.{State, Program, program}
 use Rattle.meaning.specs.Labels.{own}
-use Rattle.meaning.specs.SettlingRules.{first, itself, beneath, skip-ends, rest, then}
+use Rattle.meaning.specs.SettlingRules.{among-first, itself, beneath, skip-ends, no-change, next-change}
 use Rattle.meaning.specs.Step.{holds, live, while-true}
 use Rattle.meaning.specs.Order as O
 use Rattle.meaning.specs.Order.{halt, OrderOf}
@@ -30,13 +30,13 @@ unfolding computesAnswers
 order =
     record {
       beginning = start;
-      begins = record { settles = settles P rest refl; unset = refl; unread = refl; unwritten = refl };
+      begins = record { settles = settles P no-change refl; unset = refl; unread = refl; unwritten = refl };
       order =
-          O.then (step P [] (while-true (live refl refl (idle-by-test (start .states) (2 ∷ []) refl)) (holds refl refl))
-          (then (skip-ends (beneath itself first, refl)) rest) refl refl) halt;
+          O.next-step (step P [] (while-true (live refl refl (idle-by-test (start .states) (2 ∷ []) refl)) (holds refl refl))
+          (next-change (skip-ends (beneath itself among-first, refl)) no-change) refl refl) halt;
     }
 
 pub counterexample : ¬ WhileReset
 unfolding computesAnswers
 counterexample h =
-    h rows refl [] (own 0 ∷ []) passed order (literal (pos 1)) 2 0 (also (node skip 2 empty) empty) itself refl (node skip 2 empty) first refl
+    h rows refl [] (own 0 ∷ []) passed order (literal (pos 1)) 2 0 (also (node skip 2 empty) empty) itself refl (node skip 2 empty) among-first refl

@@ -7,12 +7,12 @@ use lib.IntN.{ℤ, pos, negsuc}
 use Rattle.meaning.specs.Tree.{literal, loop, sequence, skip, node, empty, also}
 use Rattle.meaning.specs.State.{State, Program, program}
 use Rattle.meaning.specs.Labels.{own}
-use Rattle.meaning.specs.SettlingRules.{first, and-then, no-more, here, itself, beneath, skip-ends, seq-starts, seq-ends, while-again, rest, then}
+use Rattle.meaning.specs.SettlingRules.{among-first, all-more, all-none, next-here, itself, beneath, skip-ends, seq-starts, seq-ends, while-again, no-change, next-change}
 use Rattle.meaning.specs.Step.{holds, live, while-true}
 use Rattle.meaning.specs.Order as O
 use Rattle.meaning.specs.Order.{halt, OrderOf}
 use Rattle.meaning.proofs.ComputesAnswers.{computesAnswers}
-use Rattle.agreement.specs.Coherence.{OrdersCoherent, MembersTell}
+use Rattle.agreement.specs.Coherence.{OrdersCoherent, ProcessesTell}
 use Rattle.counterexample.specs.Concrete.{idle-by-test, settles, step}
 
 abbrev rows : List ℤ
@@ -38,24 +38,24 @@ unfolding computesAnswers
 order =
     record {
       beginning = start;
-      begins = record { settles = settles P rest refl; unset = refl; unread = refl; unwritten = refl };
+      begins = record { settles = settles P no-change refl; unset = refl; unread = refl; unwritten = refl };
       order =
-          O.then (step P [] (while-true (live refl refl (idle-by-test (start .states) (2 ∷ 4 ∷ []) refl)) (holds refl refl))
-          (then (seq-starts (beneath itself first, refl) here refl)
-          (then (skip-ends (beneath (beneath itself first) first, refl))
-          (then (seq-ends (beneath itself first, refl) (and-then refl no-more))
-          (then (while-again (itself, refl) first refl) rest)))) refl refl) halt;
+          O.next-step (step P [] (while-true (live refl refl (idle-by-test (start .states) (2 ∷ 4 ∷ []) refl)) (holds refl refl))
+          (next-change (seq-starts (beneath itself among-first, refl) next-here refl)
+          (next-change (skip-ends (beneath (beneath itself among-first) among-first, refl))
+          (next-change (seq-ends (beneath itself among-first, refl) (all-more refl all-none))
+          (next-change (while-again (itself, refl) among-first refl) no-change)))) refl refl) halt;
     }
 
-pub counterexample : (¬ OrdersCoherent) × (¬ MembersTell)
+pub counterexample : (¬ OrdersCoherent) × (¬ ProcessesTell)
 unfolding computesAnswers
 counterexample = (
   λ h.
-      let idle = h rows refl [] (own 0 ∷ []) passed order .rows-coherent .beneath-idle sequence 2 (also (node skip 4 empty) empty) (beneath itself first) refl in
+      let idle = h rows refl [] (own 0 ∷ []) passed order .rows-coherent .beneath-idle sequence 2 (also (node skip 4 empty) empty) (beneath itself among-first) refl in
       let e : _≡_ {A = ℕ} 2 0 = idle 4 (List·Memᴰ·head refl) in
       omega arith,
   λ h.
-      let idle = h rows refl [] (own 0 ∷ []) passed order (loop (literal (pos 1)) 2) 0 (also (node sequence 2 (also (node skip 4 empty) empty)) empty) itself (and-then refl no-more) in
+      let idle = h rows refl [] (own 0 ∷ []) passed order (loop (literal (pos 1)) 2) 0 (also (node sequence 2 (also (node skip 4 empty) empty)) empty) itself (all-more refl all-none) in
       let e : _≡_ {A = ℕ} 2 0 = idle 4 (List·Memᴰ·tail (List·Memᴰ·head refl)) in
       omega arith,
 )

@@ -2,15 +2,14 @@
 use mathlib.Core.Path.{_≡_, sym, ap, _∙_}
 use Prim.Native.Nat.{_+_, _-_, _≤_}
 use native.Mathlib.Omega.{arith}
-use Rattle.meaning.specs.Rows.{declarations}
-use Rattle.meaning.specs.Declarations.{sumBelow, portsAt, capacityAt}
+use Rattle.meaning.specs.Declarations.{declarations, sumBelow, hostChannelsAt, capacityAt}
 use Rattle.changing.proofs.StripStarts.{sum-next, sum-none, start-here, start-past, sum-small}
 use borrow.Author.Needs.{needs}
 use Rattle.changing.proofs.strip_start.Statement.{statement}
 use Rattle.changing.proofs.strip_start.Tie as tie
 
 abbrev Inv-loop : tie.InvT-loop
-Inv-loop rows p d left₀ start₀ r₀ left start r = (r ≤ declarations rows) × (left + sumBelow (portsAt 2 rows) r ≡ p) × (start ≡ sumBelow (capacityAt rows) r)
+Inv-loop rows p d left₀ start₀ r₀ left start r = (r ≤ declarations rows) × (left + sumBelow (hostChannelsAt 2 rows) r ≡ p) × (start ≡ sumBelow (capacityAt rows) r)
 
 abbrev μ-loop : tie.MeasureT-loop
 μ-loop rows p d left₀ start₀ r₀ left start r = declarations rows - r
@@ -21,10 +20,10 @@ declarations-requires c κs = search needs
 loop-holds : tie.Need-loop-holds Inv-loop μ-loop
 loop-holds c =
     let rows = c .before .args .rows .now in
-    (search needs, omega (arith, sum-none (portsAt 2 rows)), sym (sum-none (capacityAt rows)))
+    (search needs, omega (arith, sum-none (hostChannelsAt 2 rows)), sym (sum-none (capacityAt rows)))
 
-ports-at-requires : tie.Need-ports-at-requires Inv-loop μ-loop
-ports-at-requires c κs = search needs
+host-channels-at-requires : tie.Need-host-channels-at-requires Inv-loop μ-loop
+host-channels-at-requires c κs = search needs
 
 cast-n : tie.Need-cast-n Inv-loop μ-loop
 cast-n c = search needs
@@ -33,7 +32,7 @@ returns : tie.Need-returns Inv-loop μ-loop
 returns c =
     let l = c .before .before .before .loop in
     let rows = c .before .before .before .before .before .args .rows .now in
-    l .inv .2 ∙ sym (start-here rows (l .left) _ (l .r) _ (c .before .ports-at .ensures) (c .if1 .taken) (l .inv .1))
+    l .inv .2 ∙ sym (start-here rows (l .left) _ (l .r) _ (c .before .host-channels-at .ensures) (c .if1 .taken) (l .inv .1))
 
 capacity-at-requires : tie.Need-capacity-at-requires Inv-loop μ-loop
 capacity-at-requires c κs = search needs
@@ -56,13 +55,13 @@ loop-less c = search needs
 
 loop-again : tie.Need-loop-again Inv-loop μ-loop
 loop-again c =
-    let at-ports = c .before .before in
-    let at-loop = at-ports .before .before in
+    let at-host-channels = c .before .before in
+    let at-loop = at-host-channels .before .before in
     let start = at-loop .before .before in
     let rows = start .args .rows .now in
     let d = at-loop .before .declarations .ensures in
     let r = at-loop .loop .r in
-    (omega (arith, at-ports .before .loop-test .taken), omega (arith, sum-next (portsAt 2 rows) r, at-ports .ports-at .ensures), omega (arith, sum-next (capacityAt rows) r, c .capacity-at .ensures))
+    (omega (arith, at-host-channels .before .loop-test .taken), omega (arith, sum-next (hostChannelsAt 2 rows) r, at-host-channels .host-channels-at .ensures), omega (arith, sum-next (capacityAt rows) r, c .capacity-at .ensures))
 
 returns-2 : tie.Need-returns-2 Inv-loop μ-loop
 returns-2 c =
@@ -71,7 +70,7 @@ returns-2 c =
     let rows = start .args .rows .now in
     let d = at-loop .before .declarations .ensures in
     let e : at-loop .loop .r ≡ declarations rows = omega (arith, c .loop-test .left) in
-    at-loop .loop .inv .2 ∙ ap (sumBelow (capacityAt rows)) e ∙ sym (start-past rows _ (omega (arith, ap (sumBelow (portsAt 2 rows)) e)))
+    at-loop .loop .inv .2 ∙ ap (sumBelow (capacityAt rows)) e ∙ sym (start-past rows _ (omega (arith, ap (sumBelow (hostChannelsAt 2 rows)) e)))
 
 pub strip-start-spec : {M : Type 1} → statement M
 strip-start-spec =
@@ -81,7 +80,7 @@ strip-start-spec =
     μ-loop
     declarations-requires
     loop-holds
-    ports-at-requires
+    host-channels-at-requires
     cast-n
     returns
     capacity-at-requires

@@ -7,7 +7,7 @@ use lib.ListN.{length}
 use mir.Syntax.{w32}
 use mir.Val.{SFits}
 use mir.ValLaws.{toZ-ofZ}
-use Rattle.layout.proofs.Parts.{operand-higher}
+use Rattle.base_layout.proofs.Parts.{operand-higher}
 use Rattle.evaluation.proofs.Evaluated as evaluated
 use borrow.Fn.Kinds.{In}
 use borrow.Fn.PlainCycle.{Measures, is, falls, and}
@@ -18,10 +18,10 @@ use Rattle.evaluation.proofs.decided.Reads as decided-reads
 use Rattle.evaluation.proofs.dyadic.Reads as dyadic-reads
 use Rattle.evaluation.proofs.element.Reads as element-reads
 use Rattle.evaluation.proofs.monadic.Reads as monadic-reads
-use Rattle.layout.proofs.nodes.field.Reads as field-reads
-use Rattle.layout.proofs.nodes.natural.Reads as natural-reads
-use Rattle.layout.proofs.nodes.operand.Reads as operand-reads
-use Rattle.numbers.proofs.decides.Reads as decides-reads
+use Rattle.base_layout.proofs.nodes.field.Reads as field-reads
+use Rattle.base_layout.proofs.nodes.natural.Reads as natural-reads
+use Rattle.base_layout.proofs.nodes.operand.Reads as operand-reads
+use Rattle.base_numbers.proofs.decides.Reads as decides-reads
 use Rattle.evaluation.proofs.+eval.{statement}
 use Rattle.evaluation.proofs.+eval.Tie.{close}
 

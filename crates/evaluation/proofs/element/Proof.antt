@@ -2,8 +2,8 @@
 use borrow.Author.Needs.{needs}
 use mathlib.Core.Path.{ap, _∙_}
 use Rattle.meaning.specs.Values.{readCell, inArray}
-use Rattle.evaluation.specs.Cells.{decoded}
-use Rattle.layout.specs.declared.Extent.{Extent}
+use Rattle.meaning.specs.Buffers.{decoded}
+use Rattle.base_layout.specs.declared.Extent.{Extent}
 use Rattle.evaluation.proofs.element.Statement.{statement}
 use Rattle.evaluation.proofs.element.Tie as tie
 

@@ -1,9 +1,9 @@
 -- `choice` meets its contract. The loop's invariant: the IF does what its choices from the row reached on do. The measure is what is left of the table.
 use Rattle.intents.proofs.Choices.{choices-past, choices-other, choice-stops, choice-starts, choice-passed}
 use Rattle.intents.specs.Does.{ifDoes}
-use Rattle.evaluation.specs.Cells.{decoded}
-use Rattle.layout.proofs.Parts.{operand-higher}
-use Rattle.meaning.specs.Tree.{partAt}
+use Rattle.base_layout.proofs.Parts.{operand-higher}
+use Rattle.meaning.specs.Tree.{contentAt}
+use Rattle.meaning.specs.Buffers.{decoded}
 use lib.ListN.{length}
 use native.Mathlib.Omega.{arith}
 use Prim.Native.Nat.{_-_}
@@ -16,7 +16,7 @@ use Rattle.intents.proofs.choice.Statement.{statement}
 use Rattle.intents.proofs.choice.Tie as tie
 
 abbrev Inv-loop : tie.InvT-loop
-Inv-loop rows names values marks first t₀ t = ifDoes (decoded values marks) (partAt rows first .tests) ≡ ifDoes (decoded values marks) (partAt rows t .tests)
+Inv-loop rows names values marks first t₀ t = ifDoes (decoded values marks) (contentAt rows first .tests) ≡ ifDoes (decoded values marks) (contentAt rows t .tests)
 
 abbrev μ-loop : tie.MeasureT-loop
 μ-loop rows names values marks first t₀ t = length rows - t

@@ -2,8 +2,8 @@
 use Rattle.intents.proofs.Stands.{with-stands}
 use Rattle.intents.proofs.Actions.{actionAt, past-does, assignment-does, input-does, output-does, if-does, while-does, alt-does, other-does}
 use Rattle.intents.specs.Does.{inputDoes, ifDoes, altDoes}
-use Rattle.evaluation.specs.Cells.{decoded}
-use Rattle.meaning.specs.Tree.{partAt}
+use Rattle.meaning.specs.Tree.{contentAt}
+use Rattle.meaning.specs.Buffers.{decoded}
 use Prim.Native.Nat.{ℕ}
 use mathlib.Core.Path.{sym, ap, _∙_}
 use borrow.Author.Needs.{needs}
@@ -75,7 +75,7 @@ returns-5 c =
     let s = n .before .before .before .before .before .before .before .args in
     let cells = decoded (s .values .now) (s .marks .now) in
     with-stands (s .rows .now) (s .readings .now) (s .given .now) (s .lines) (actionAt (s .rows .now) (s .r)) (s .r) (s .values .now) (s .marks .now) (s .places .now) (s .counts .now)
-    (λ sheet K. c .choice .ensures ∙ ap (λ (b : ℕ). ifDoes cells (partAt (s .rows .now) b .tests)) (c .before .operand .ensures) ∙ sym (if-does (s .rows .now) (s .r) sheet cells (s .places .now) (s .counts .now) (n .before .if1 .left) (sym (n .natural .ensures) ∙ c .before .before .match .keys4)))
+    (λ sheet K. c .choice .ensures ∙ ap (λ (b : ℕ). ifDoes cells (contentAt (s .rows .now) b .tests)) (c .before .operand .ensures) ∙ sym (if-does (s .rows .now) (s .r) sheet cells (s .places .now) (s .counts .now) (n .before .if1 .left) (sym (n .natural .ensures) ∙ c .before .before .match .keys4)))
 
 returns-6 : tie.Need-returns-6
 returns-6 c =
@@ -90,7 +90,7 @@ returns-7 c =
     let s = n .before .before .before .before .before .before .before .args in
     let cells = decoded (s .values .now) (s .marks .now) in
     with-stands (s .rows .now) (s .readings .now) (s .given .now) (s .lines) (actionAt (s .rows .now) (s .r)) (s .r) (s .values .now) (s .marks .now) (s .places .now) (s .counts .now)
-    (λ sheet K. c .selection .ensures sheet K ∙ ap (λ (b : ℕ). altDoes sheet cells (s .places .now) (partAt (s .rows .now) b .branches)) (c .before .operand2 .ensures) ∙ sym (alt-does (s .rows .now) (s .r) sheet cells (s .places .now) (s .counts .now) (n .before .if1 .left) (sym (n .natural .ensures) ∙ c .before .before .match .keys6)))
+    (λ sheet K. c .selection .ensures sheet K ∙ ap (λ (b : ℕ). altDoes sheet cells (s .places .now) (contentAt (s .rows .now) b .options)) (c .before .operand2 .ensures) ∙ sym (alt-does (s .rows .now) (s .r) sheet cells (s .places .now) (s .counts .now) (n .before .if1 .left) (sym (n .natural .ensures) ∙ c .before .before .match .keys6)))
 
 returns-8 : tie.Need-returns-8
 returns-8 c =

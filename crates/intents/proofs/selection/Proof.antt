@@ -2,10 +2,10 @@
 use Rattle.intents.proofs.Choices.{options-past, options-other, option-stops, option-passed}
 use Rattle.offers.specs.Held.{KeptReadings}
 use Rattle.intents.specs.Does.{altDoes}
-use Rattle.evaluation.specs.Cells.{decoded}
-use Rattle.layout.proofs.Parts.{operand-higher}
-use Rattle.meaning.specs.Intent.{Sheet}
-use Rattle.meaning.specs.Tree.{partAt}
+use Rattle.base_layout.proofs.Parts.{operand-higher}
+use Rattle.meaning.specs.Tree.{contentAt}
+use Rattle.meaning.specs.Readings.{Sheet}
+use Rattle.meaning.specs.Buffers.{decoded}
 use lib.ListN.{length}
 use native.Mathlib.Omega.{arith}
 use Prim.Native.Nat.{_-_}
@@ -15,7 +15,7 @@ use Rattle.intents.proofs.selection.Statement.{statement}
 use Rattle.intents.proofs.selection.Tie as tie
 
 abbrev Inv-loop : tie.InvT-loop
-Inv-loop rows names values marks places readings given lines first t₀ t = (sheet : Sheet) → KeptReadings rows sheet readings given lines → altDoes sheet (decoded values marks) places (partAt rows first .branches) ≡ altDoes sheet (decoded values marks) places (partAt rows t .branches)
+Inv-loop rows names values marks places readings given lines first t₀ t = (sheet : Sheet) → KeptReadings rows sheet readings given lines → altDoes sheet (decoded values marks) places (contentAt rows first .options) ≡ altDoes sheet (decoded values marks) places (contentAt rows t .options)
 
 abbrev μ-loop : tie.MeasureT-loop
 μ-loop rows names values marks places readings given lines first t₀ t = length rows - t

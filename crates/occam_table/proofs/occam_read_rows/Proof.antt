@@ -9,10 +9,10 @@ use lib.ListN.{length, take}
 use lib.Seq.{length-take-le}
 use borrow.Author.Needs.{needs}
 use Rattle.meaning.specs.TableBytes.{bytesFault, rowsOf}
-use Rattle.table.proofs.AcceptedRows.{verdict-read, count-fits, count-read, rows-read}
+use Rattle.read_table.proofs.AcceptedRows.{verdict-read, count-fits, count-read, rows-read}
 use Rattle.meaning.proofs.AnswerLaws.{accepted-none, rejected-some}
-use Rattle.table.proofs.AcceptedRows.{rows-held}
-use Rattle.lending.specs.Replies.{past}
+use Rattle.read_table.proofs.AcceptedRows.{rows-held}
+use Rattle.write_buffers.specs.Replies.{past}
 use Rattle.occam_table.proofs.Numbers.{rows-without-room, rows-refused, rows-put}
 use Rattle.occam_table.proofs.occam_read_rows.Statement.{statement}
 use Rattle.occam_table.proofs.occam_read_rows.Tie as tie

@@ -3,7 +3,7 @@ use mathlib.Core.Path.{ap}
 use Prim.Native.Nat.{_≤_}
 use native.Mathlib.Omega.{arith}
 use borrow.Author.Needs.{needs}
-use Rattle.strips.specs.Spans.{spanOf}
+use Rattle.write_strips.specs.Spans.{spanOf}
 use Rattle.occam_table.specs.Exports.{stripNumber}
 use Rattle.occam_table.proofs.occam_strip.Statement.{statement}
 use Rattle.occam_table.proofs.occam_strip.Tie as tie

@@ -1,7 +1,7 @@
 -- `guard_offer` meets its contract, by the number of the kind, and by the cases of the boolean.
 use Rattle.offers.proofs.Guards.{guard-past, guard-skip, guard-input, guard-none, boolean-lacks, boolean-true, boolean-false}
-use Rattle.evaluation.specs.Cells.{decoded}
 use mathlib.Core.Path.{sym, _∙_}
+use Rattle.meaning.specs.Buffers.{decoded}
 use mir.ValLaws.{toZ-ofZ}
 use mir.Val.{SFits}
 use mir.Syntax.{w32}

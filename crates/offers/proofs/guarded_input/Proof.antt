@@ -1,10 +1,10 @@
 -- `guarded_input` meets its contract. The loop's invariant: the input is that of the row reached. The measure is what is left of the table.
 use Rattle.offers.proofs.Guards.{input-past, input-here, input-further, input-none}
 use Rattle.offers.specs.Offers.{guardInput}
-use Rattle.evaluation.specs.Cells.{decoded}
-use Rattle.layout.proofs.Parts.{operand-higher}
-use Rattle.meaning.specs.Intent.{Sheet}
-use Rattle.meaning.specs.Tree.{partAt}
+use Rattle.base_layout.proofs.Parts.{operand-higher}
+use Rattle.meaning.specs.Tree.{contentAt}
+use Rattle.meaning.specs.Readings.{Sheet}
+use Rattle.meaning.specs.Buffers.{decoded}
 use lib.ListN.{length}
 use native.Mathlib.Omega.{arith}
 use Prim.Native.Nat.{_-_}
@@ -14,7 +14,7 @@ use Rattle.offers.proofs.guarded_input.Statement.{statement}
 use Rattle.offers.proofs.guarded_input.Tie as tie
 
 abbrev Inv-loop : tie.InvT-loop
-Inv-loop rows names values marks places readings given lines first g₀ g = (sheet : Sheet) → guardInput sheet (decoded values marks) places (partAt rows first .guard .input) ≡ guardInput sheet (decoded values marks) places (partAt rows g .guard .input)
+Inv-loop rows names values marks places readings given lines first g₀ g = (sheet : Sheet) → guardInput sheet (decoded values marks) places (contentAt rows first .guard .input) ≡ guardInput sheet (decoded values marks) places (contentAt rows g .guard .input)
 
 abbrev μ-loop : tie.MeasureT-loop
 μ-loop rows names values marks places readings given lines first g₀ g = length rows - g

@@ -1,5 +1,5 @@
 -- `next_reading` meets its contract: nothing is left past the lines.
-use Rattle.offers.specs.Offers.{readAs}
+use Rattle.offers.specs.Offers.{readFromArrays}
 use mathlib.Core.Path.{sym}
 use borrow.Author.Tests.{lt-ltb, le-ltb}
 use mir.ValLaws.{toZ-ofZ}
@@ -15,7 +15,7 @@ cast-n : tie.Need-cast-n
 cast-n c = search needs
 
 returns : tie.Need-returns
-unfolding readAs
+unfolding readFromArrays
 returns c = rw (sym (c .before .count .ensures), le-ltb _ _ (c .if1 .taken))
 
 mul-at : tie.Need-mul-at
@@ -31,7 +31,7 @@ mark-requires : tie.Need-mark-requires
 mark-requires c κs = search needs
 
 returns-2 : tie.Need-returns-2
-unfolding readAs
+unfolding readFromArrays
 returns-2 c = rw (sym (c .before .before .before .count .ensures), lt-ltb _ _ (c .before .before .if1 .left), toZ-ofZ w32 _ (record { sfits = c .before .number .ok }), c .before .number .ensures, c .mark .ensures)
 
 pub next-reading-spec : {M : Type 1} → statement M

@@ -6,9 +6,9 @@ use lib.IntN.{ℤ}
 use lib.ListN.{length}
 use borrow.Author.Needs.{needs}
 use Rattle.meaning.specs.Rows.{rowCount}
-use Rattle.meaning.specs.Tree.{empty, partAt}
+use Rattle.meaning.specs.Tree.{empty, contentAt}
 use Rattle.settling.proofs.Standing.{found}
-use Rattle.parents.specs.Parents.{Numbered, NextOf, NextIs, MembersNoted}
+use Rattle.parents.specs.Parents.{ParentsNumbered, NextOf, NextIs, ProcessesNoted}
 use Rattle.parents.proofs.MemberNotes.{none-past, no-members-noted, link-noted}
 use Rattle.parents.proofs.NextLinks.{numbered-none, numbered-then, numbered-more, link-next}
 use Rattle.parents.proofs.note_members.Statement.{statement}
@@ -18,8 +18,8 @@ abbrev Inv-loop : tie.InvT-loop
 Inv-loop rows m note parents₀ nexts₀ t₀ parents nexts t =
     (length parents ≡ length parents₀)
     × (length nexts ≡ length nexts₀)
-    × ((p n : List ℕ) → MembersNoted rows (partAt rows t .members) note parents nexts p n → MembersNoted rows (partAt rows m .members) note parents₀ nexts₀ p n)
-    × Numbered (NextOf rows) parents₀ nexts₀ parents nexts
+    × ((p n : List ℕ) → ProcessesNoted rows (contentAt rows t .listed) note parents nexts p n → ProcessesNoted rows (contentAt rows m .listed) note parents₀ nexts₀ p n)
+    × ParentsNumbered (NextOf rows) parents₀ nexts₀ parents nexts
 
 abbrev μ-loop : tie.MeasureT-loop
 μ-loop rows m note parents₀ nexts₀ t₀ parents nexts t = rowCount rows - t
@@ -33,10 +33,10 @@ module _ (c : tie.At-loop Inv-loop μ-loop) where
   note = c .before .before .before .args .note
 
   -- from t on there are no members: what is noted by now is all
-  no-more : partAt rows (c .loop .t) .members ≡ empty
-      → MembersNoted rows (partAt rows (c .before .before .before .args .m) .members) note (c .before .before .before .args .parents .now) (c .before .before .before .args .nexts .now) (c .loop .parents) (c .loop .nexts)
-      × Numbered (NextOf rows) (c .before .before .before .args .parents .now) (c .before .before .before .args .nexts .now) (c .loop .parents) (c .loop .nexts)
-  no-more e = (c .loop .inv .2 (c .loop .parents) (c .loop .nexts) (no-members-noted rows (partAt rows (c .loop .t) .members) note (c .loop .parents) (c .loop .nexts) e), c .loop .inv .3)
+  no-more : contentAt rows (c .loop .t) .listed ≡ empty
+      → ProcessesNoted rows (contentAt rows (c .before .before .before .args .m) .listed) note (c .before .before .before .args .parents .now) (c .before .before .before .args .nexts .now) (c .loop .parents) (c .loop .nexts)
+      × ParentsNumbered (NextOf rows) (c .before .before .before .args .parents .now) (c .before .before .before .args .nexts .now) (c .loop .parents) (c .loop .nexts)
+  no-more e = (c .loop .inv .2 (c .loop .parents) (c .loop .nexts) (no-members-noted rows (contentAt rows (c .loop .t) .listed) note (c .loop .parents) (c .loop .nexts) e), c .loop .inv .3)
 
 loop-holds : tie.Need-loop-holds Inv-loop μ-loop
 loop-holds c = let a = c .before .before .args in (refl, refl, (λ p n h. h), numbered-none (NextOf (a .rows .now)) (a .parents .now) (a .nexts .now))

@@ -8,14 +8,14 @@ use borrow.Author.Needs.{needs}
 use Rattle.meaning.specs.Rows.{rowCount}
 use Rattle.agreement.proofs.TableFit.{rows-limit}
 use Rattle.notes.proofs.Noting.{zeros-at}
-use Rattle.parents.specs.Parents.{Numbered, NextOf}
+use Rattle.parents.specs.Parents.{ParentsNumbered, NextOf}
 use Rattle.parents.proofs.MemberNotes.{NotedBelow, noted-first, noted-next, noted-parent, noted-all}
 use Rattle.parents.proofs.NextLinks.{numbered-none, numbered-then, parents-are, nexts-are}
 use Rattle.parents.proofs.note_parents.Statement.{statement}
 use Rattle.parents.proofs.note_parents.Tie as tie
 
 abbrev Inv-loop : tie.InvT-loop
-Inv-loop rows parents₀ nexts₀ r₀ parents nexts r = (r ≤ rowCount rows) × (length parents ≡ length parents₀) × (length nexts ≡ length nexts₀) × NotedBelow rows r parents nexts × Numbered (NextOf rows) parents₀ nexts₀ parents nexts
+Inv-loop rows parents₀ nexts₀ r₀ parents nexts r = (r ≤ rowCount rows) × (length parents ≡ length parents₀) × (length nexts ≡ length nexts₀) × NotedBelow rows r parents nexts × ParentsNumbered (NextOf rows) parents₀ nexts₀ parents nexts
 
 abbrev μ-loop : tie.MeasureT-loop
 μ-loop rows parents₀ nexts₀ r₀ parents nexts r = rowCount rows - r

@@ -6,7 +6,7 @@ use native.Mathlib.Omega.{arith}
 use lib.ListN.{length}
 use borrow.Author.Needs.{needs}
 use Rattle.meaning.specs.Rows.{rowCount}
-use Rattle.meaning.specs.Intent.{Sheet}
+use Rattle.meaning.specs.Readings.{Sheet}
 use Rattle.offers.specs.Held.{KeptReadings}
 use Rattle.stepping.specs.Acts.{hasStep}
 use Rattle.rowlist.specs.InOrder.{InOrder}

@@ -1,4 +1,4 @@
--- What was read is answered; as many bytes are written as the page has. Assumes nothing.
+-- What was read is answered; as many bytes are written as the printed text has. Assumes nothing.
 use mathlib.Core.Path.{sym}
 use lib.Seq.{length-take-le}
 use borrow.Author.Needs.{needs}

@@ -3,9 +3,9 @@ use mathlib.Core.Path.{refl}
 use mathlib.Core.Logic.{⊎-elim}
 use mathlib.Core.List.{List}
 use Prim.Native.Nat.{ℕ, _+_, _*_, _-_}
+use Rattle.meaning.specs.Readings.{Sheet}
 use native.Mathlib.Omega.{arith}
 use borrow.Author.Needs.{needs}
-use Rattle.meaning.specs.Intent.{Sheet}
 use Rattle.offers.specs.Held.{KeptReadings}
 use Rattle.renewing.specs.Renewed.{RowsRenewed, SameLengths}
 use Rattle.renewing.proofs.RenewedRows.{renewed-none, renewed-then, renewed-fewer, lengths-then}

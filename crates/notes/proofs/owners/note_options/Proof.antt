@@ -7,7 +7,7 @@ use lib.ListN.{length, getD, set, length-set}
 use borrow.Author.Needs.{needs}
 use Rattle.meaning.specs.Basics.{among}
 use Rattle.meaning.specs.Rows.{rowCount}
-use Rattle.layout.proofs.Parts.{operand-higher}
+use Rattle.base_layout.proofs.Parts.{operand-higher}
 use Rattle.notes.specs.Marks.{firstNote, noteAt}
 use Rattle.notes.proofs.OptionLinks.{optionsFrom, options-past, options-here, options-none}
 use Rattle.notes.proofs.Noting.{noted-none, note-given, note-length}

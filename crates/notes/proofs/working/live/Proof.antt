@@ -1,8 +1,8 @@
 -- `live` meets its contract, by the row's state and its part in settling.
 use mathlib.Core.Path.{refl}
 use borrow.Author.Needs.{needs}
-use Rattle.meaning.specs.Tree.{empty, partAt}
-use Rattle.settling.specs.Members.{alone}
+use Rattle.meaning.specs.Tree.{empty, contentAt}
+use Rattle.settling.specs.Members.{onlyProcess}
 use Rattle.settling.proofs.Standing.{found}
 use Rattle.notes.proofs.WorkingRows.{of-ending, of-repeating, of-link, of-neither, not-running, running-with}
 use Rattle.notes.proofs.working.live.Statement.{statement}

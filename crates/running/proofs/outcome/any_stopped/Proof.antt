@@ -4,9 +4,9 @@ use mathlib.Core.Bool.{false}
 use Prim.Native.Nat.{_≤_, _-_}
 use native.Mathlib.Omega.{arith}
 use lib.ListN.{take}
+use Rattle.meaning.specs.State.{anyOf}
+use Rattle.meaning.specs.Order.{isStopped}
 use borrow.Author.Tests.{le-leb, lt-leb}
-use Rattle.meaning.specs.Settle.{anyOf}
-use Rattle.meaning.specs.Run.{isStopped}
 use Rattle.running.proofs.Outcomes.{none-yet, one-passes}
 use Rattle.running.proofs.outcome.any_stopped.Statement.{statement}
 use Rattle.running.proofs.outcome.any_stopped.Tie as tie

@@ -9,12 +9,12 @@ use lib.ListN.{length}
 use lib.Dec.{ltb}
 use borrow.Author.Needs.{needs}
 use borrow.Author.Tests.{lt-ltb}
-use Rattle.meaning.specs.Intent.{Sheet}
 use Rattle.meaning.specs.Rows.{rowCount}
+use Rattle.meaning.specs.Readings.{Sheet}
 use Rattle.agreement.proofs.TableFit.{rows-limit}
 use Rattle.offers.specs.Held.{KeptReadings}
 use Rattle.machine.proofs.HeldLaws.{states-long}
-use Rattle.noting.specs.Kept.{Kept}
+use Rattle.noting.specs.Kept.{RowsNoted}
 use Rattle.evaluation.specs.declared.store.State.{State}
 use Rattle.changing.specs.Changes.{putData}
 use Rattle.taking.specs.Stands.{arraysOf}
@@ -30,7 +30,7 @@ abbrev Inv-loop : tie.InvT-loop
 Inv-loop rows names readings given lines owners parents nexts root choices budget states₀ numbers₀ counts₀ acts₀ sent₀ waiting₀ list₀ ready₀ touched₀ working₀ state₀ n₀ states numbers counts acts sent waiting list ready touched working state n =
     (n ≤ budget) × (length states ≡ length states₀) × (length numbers ≡ length numbers₀) × (length counts ≡ length counts₀)
     × (length ready ≡ 1024) × (length acts ≡ 1024) × (length sent ≡ 1024) × (length waiting ≡ 256) × (length list ≡ 1024) × (length touched ≡ 1024)
-    × ((sheet : Sheet) → KeptReadings rows sheet readings given lines → Underway rows sheet readings given lines choices budget n (arraysOf state states numbers counts) × Kept rows sheet (state .values) (state .marks) (state .places) counts states owners acts sent waiting list working)
+    × ((sheet : Sheet) → KeptReadings rows sheet readings given lines → Underway rows sheet readings given lines choices budget n (arraysOf state states numbers counts) × RowsNoted rows sheet (state .values) (state .marks) (state .places) counts states owners acts sent waiting list working)
 
 abbrev μ-loop : tie.MeasureT-loop
 μ-loop rows names readings given lines owners parents nexts root choices budget states₀ numbers₀ counts₀ acts₀ sent₀ waiting₀ list₀ ready₀ touched₀ working₀ state₀ n₀ states numbers counts acts sent waiting list ready touched working state n =

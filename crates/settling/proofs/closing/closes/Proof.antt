@@ -1,7 +1,7 @@
 -- `closes` meets its contract, by the mode.
 use borrow.Author.Needs.{needs}
 use Rattle.meaning.specs.Settle.{statesOf}
-use Rattle.meaning.specs.Tree.{partAt}
+use Rattle.meaning.specs.Tree.{contentAt}
 use Rattle.settling.proofs.Tests.{by-step-closes, by-step-open}
 use Rattle.settling.proofs.closing.closes.Statement.{statement}
 use Rattle.settling.proofs.closing.closes.Tie as tie
@@ -33,7 +33,7 @@ returns c =
     let at-all-over3 = at-if1 .before in
     let at-enum-told3 = at-all-over3 .before in
     let args = at-enum-told3 .before .before .before .args in
-    rw (at-enum-told3 .enum-told3 .given .1) (by-step-closes (statesOf (partAt (args .rows .now) (args .m) .members) (args .states .now)) (at-all-over3 .all-over3 .ensures) (at-if1 .if1 .taken) (c .any-ended .ensures))
+    rw (at-enum-told3 .enum-told3 .given .1) (by-step-closes (statesOf (contentAt (args .rows .now) (args .m) .listed) (args .states .now)) (at-all-over3 .all-over3 .ensures) (at-if1 .if1 .taken) (c .any-ended .ensures))
 
 returns-2 : tie.Need-returns-2
 returns-2 c = rw (c .before .enum-told .given .1) (c .all-over .ensures)
@@ -46,7 +46,7 @@ returns-4 c =
     let at-all-over3 = c .before in
     let at-enum-told3 = at-all-over3 .before in
     let args = at-enum-told3 .before .before .before .args in
-    rw (at-enum-told3 .enum-told3 .given .1) (by-step-open (statesOf (partAt (args .rows .now) (args .m) .members) (args .states .now)) (at-all-over3 .all-over3 .ensures) (c .if1 .left))
+    rw (at-enum-told3 .enum-told3 .given .1) (by-step-open (statesOf (contentAt (args .rows .now) (args .m) .listed) (args .states .now)) (at-all-over3 .all-over3 .ensures) (c .if1 .left))
 
 pub closes-spec : {M : Type 1} → statement M
 closes-spec =

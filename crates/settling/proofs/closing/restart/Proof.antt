@@ -1,9 +1,9 @@
 -- `restart` meets its contract, by the test.
 use mathlib.Core.Path.{sym, _∙_}
 use borrow.Author.Needs.{needs}
-use Rattle.meaning.specs.Settle.{makeIdle}
-use Rattle.meaning.specs.Tree.{partAt, rowsBeneath}
-use Rattle.settling.specs.Members.{alone}
+use Rattle.meaning.specs.Tree.{contentAt, rowsBeneath}
+use Rattle.meaning.specs.State.{makeIdle}
+use Rattle.settling.specs.Members.{onlyProcess}
 use Rattle.settling.proofs.Tests.{body-closes, test-holds, test-fails}
 use Rattle.settling.proofs.Recording.{records-nothing}
 use Rattle.settling.proofs.closing.restart.Statement.{statement}
@@ -27,7 +27,7 @@ returns c =
     let at-if1 = at-make-idle .before .before .before in
     let at-has-ended = at-if1 .before in
     let args = at-has-ended .before .before .before .before .args in
-    (test-holds (args .states .now) (at-has-ended .has-ended .ensures ∙ sym (body-closes (args .states .now) (partAt (args .rows .now) (args .b) .process))) (at-if1 .if1 .taken) (at-make-idle .make-idle .ensures .0), at-make-idle .make-idle .ensures .1)
+    (test-holds (args .states .now) (at-has-ended .has-ended .ensures ∙ sym (body-closes (args .states .now) (contentAt (args .rows .now) (args .b) .process))) (at-if1 .if1 .taken) (at-make-idle .make-idle .ensures .0), at-make-idle .make-idle .ensures .1)
 
 same-length-3 : tie.Need-same-length-3
 same-length-3 c = search needs
@@ -36,7 +36,7 @@ returns-2 : tie.Need-returns-2
 returns-2 c =
     let at-has-ended = c .before in
     let args = at-has-ended .before .before .before .before .args in
-    (test-fails (makeIdle (rowsBeneath (alone (partAt (args .rows .now) (args .b) .process))) (args .states .now)) (args .states .now) (at-has-ended .has-ended .ensures ∙ sym (body-closes (args .states .now) (partAt (args .rows .now) (args .b) .process))) (c .if1 .left), records-nothing)
+    (test-fails (makeIdle (rowsBeneath (onlyProcess (contentAt (args .rows .now) (args .b) .process))) (args .states .now)) (args .states .now) (at-has-ended .has-ended .ensures ∙ sym (body-closes (args .states .now) (contentAt (args .rows .now) (args .b) .process))) (c .if1 .left), records-nothing)
 
 pub restart-spec : {M : Type 1} → statement M
 restart-spec =

@@ -5,8 +5,8 @@ use Prim.Native.Nat.{ℕ}
 use lib.IntN.{ℤ}
 use borrow.Author.Needs.{needs}
 use Rattle.meaning.specs.Rows.{fieldAt, naturalAt}
-use Rattle.layout.proofs.RowNodes.{nodeOf}
-use Rattle.settling.specs.Shapes.{higherRow, shapeOf, shapeAt}
+use Rattle.base_layout.proofs.RowNodes.{nodeOf}
+use Rattle.settling.specs.Shapes.{higherRow, settlingShape, shapeAt}
 use Rattle.settling.specs.declared.shape.Shape.the-variants.{Ending, Repeating, Link}
 use Rattle.settling.specs.declared.shape.Mode.the-variants.{InTurn, Together, ByStep}
 use Rattle.settling.proofs.Standing.{told, told-past, told-neither, operand-is}
@@ -21,7 +21,7 @@ module _ (c : tie.After-natural) where
   abbrev r : ℕ
   r = c .before .before .before .before .args .r
 
-  kind-told : (k : ℕ) → c .natural .result ≡ k → shapeOf rows r (nodeOf k (fieldAt rows r 1) (naturalAt rows r 1) (naturalAt rows r 2) (naturalAt rows r 3)) ≡ shapeAt rows r
+  kind-told : (k : ℕ) → c .natural .result ≡ k → settlingShape rows r (nodeOf k (fieldAt rows r 1) (naturalAt rows r 1) (naturalAt rows r 2) (naturalAt rows r 3)) ≡ shapeAt rows r
   kind-told k e = told rows r k (c .before .before .before .if1 .left) (sym (c .natural .ensures) ∙ e)
 
   first : c .before .before .operand .result ≡ higherRow rows r (naturalAt rows r 1)

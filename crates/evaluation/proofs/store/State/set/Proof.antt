@@ -6,7 +6,7 @@ use native.Mathlib.Omega.{arith}
 use lib.ListN.{length}
 use mir.Syntax.{w32}
 use mir.ValLaws.{toZ-ofZ}
-use Rattle.evaluation.specs.Cells.{cellsOf}
+use Rattle.evaluation.specs.Cells.{stateCells}
 use Rattle.evaluation.proofs.CellLaws.{cells-with, unchanged-past}
 use Rattle.evaluation.proofs.store.State.set.Statement.{statement}
 use Rattle.evaluation.proofs.store.State.set.Tie as tie
@@ -29,7 +29,7 @@ returns-2 c =
     let v : length (s .values) ≡ 256 = search needs in
     let m : length (s .marks) ≡ 256 = search needs in
     let e = unchanged-past s (c .before .args .i) (some (c .before .args .x)) (omega arith) (omega arith) in
-    (e, ap cellsOf e ∙ cells-with s (c .before .args .i) (some (c .before .args .x)))
+    (e, ap stateCells e ∙ cells-with s (c .before .args .i) (some (c .before .args .x)))
 
 pub set-spec : {M : Type 1} → statement M
 set-spec = tie.close (tie.spec mul-x element-set-from-x element-write-self returns returns-2)

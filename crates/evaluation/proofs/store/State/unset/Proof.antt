@@ -4,7 +4,7 @@ use mathlib.Core.Path.{_≡_, ap, _∙_}
 use mathlib.Core.Option.{none}
 use native.Mathlib.Omega.{arith}
 use lib.ListN.{length}
-use Rattle.evaluation.specs.Cells.{cellsOf}
+use Rattle.evaluation.specs.Cells.{stateCells}
 use Rattle.evaluation.proofs.CellLaws.{cells-with, unchanged-past}
 use Rattle.evaluation.proofs.store.State.unset.Statement.{statement}
 use Rattle.evaluation.proofs.store.State.unset.Tie as tie
@@ -27,7 +27,7 @@ returns-2 c =
     let v : length (s .values) ≡ 256 = search needs in
     let m : length (s .marks) ≡ 256 = search needs in
     let e = unchanged-past s (c .before .args .i) none (omega arith) (omega arith) in
-    (e, ap cellsOf e ∙ cells-with s (c .before .args .i) none)
+    (e, ap stateCells e ∙ cells-with s (c .before .args .i) none)
 
 pub unset-spec : {M : Type 1} → statement M
 unset-spec = tie.close (tie.spec mul-self element-set-of-self element-write-self returns returns-2)

@@ -1,0 +1,161 @@
+-- A form whose rows are all right as far as the stages 4 and 5 say, by the declarations of a table; accepted rows have such a form.
+use mathlib.Core.Path.{_≡_, refl, sym, ap, _∙_, subst}
+use mathlib.Core.Logic.{inl, inr}
+use mathlib.Core.Bool.{Bool, true, false, not, _||_, false≢true}
+use mathlib.Core.List.{List, [], _∷_}
+use mathlib.Core.Option.{Option, none, some, Option·none-ne-some, Option·some-injective}
+use Prim.Native.Nat.{ℕ, zero, suc, _+_, _≤_, _<_}
+use native.Mathlib.Decide.{decLt}
+use native.Mathlib.Omega.{arith}
+use lib.IntN.{ℤ, pos}
+use lib.Dec.{ltb, eqb}
+use Rattle.meaning.specs.Basics.{ifElse}
+use borrow.Author.Tests.{eqb-true, ne-eqb, not-true}
+use Rattle.meaning.specs.Rows.{rowCount, fieldAt, kindAt}
+use Rattle.meaning.specs.Kinds.{Field, unused, literalValue, within, elements, capacity, variable, channel, reference, link, Shape, shapes, shapeIn, shapeOf}
+use Rattle.meaning.specs.Declarations.{declarations}
+use Rattle.meaning.specs.Verdict.{formFault, treeFault}
+use Rattle.meaning.specs.References.{Place, of-a, of-b, of-c, fieldOf, numberOf, IsTarget, IsOf}
+use Rattle.meaning.specs.Faults.{MayHold, Leads, WellFormed, WellPlaced, Placed}
+use Rattle.meaning.proofs.NoFault.{or-false}
+use Rattle.base_top_down.specs.Forms.{Form, absent, row, isReference, orPlain, referred, itemOf, formAt}
+use Rattle.base_top_down.specs.Good.{Child, Suited, Good}
+use Rattle.base_top_down.proofs.Flat.{above, formAt-at, formAt-past}
+use Rattle.base_top_down.proofs.Stages.{well-formed, well-placed}
+
+-- The table of kinds ------------------------------------------------------------------------------------------------------------
+
+-- a test of every shape of the table
+all : (Shape → Bool) → List Shape → Bool
+all test [] = true
+all test (s ∷ ss) = ifElse (test s) (all test ss) false
+
+listed : (test : Shape → Bool) (ss : List Shape) (k : ℕ) (s : Shape) → all test ss ≡ true → shapeIn ss k ≡ some s → (test s ≡ true) × (k ≡ s .kind)
+unfolding all shapeIn
+listed test [] k s e i = absurd (Option·none-ne-some s i)
+listed test (u ∷ ss) k s e i = go (test u) refl (eqb k (u .kind)) refl e i (listed test ss k s)
+  where
+    go : (t : Bool) → test u ≡ t → (b : Bool) → eqb k (u .kind) ≡ b → ifElse t (all test ss) false ≡ true → ifElse b (some u) (shapeIn ss k) ≡ some s
+        → (all test ss ≡ true → shapeIn ss k ≡ some s → (test s ≡ true) × (k ≡ s .kind)) → (test s ≡ true) × (k ≡ s .kind)
+    go false x b y e i f = absurd (false≢true e)
+    go true x false y e i f = f e i
+    go true x true y e i f =
+        let same = Option·some-injective u s i in
+        subst (λ (w : Shape). (test w ≡ true) × (k ≡ w .kind)) same (x, eqb-true k (u .kind) y)
+
+-- a field whose range hangs on another field of its row
+unfoldable pub isSize : Field → Bool
+isSize unused = false
+isSize literalValue = false
+isSize (within lo hi) = false
+isSize elements = true
+isSize capacity = true
+isSize variable = false
+isSize (channel roles) = false
+isSize (reference kinds) = false
+isSize (link kinds) = false
+
+-- only declarations have such fields
+sizeless : Shape → Bool
+sizeless s = eqb (s .kind) 1 || eqb (s .kind) 2 || not (isSize (s .a) || isSize (s .b) || isSize (s .c))
+
+no-size : (k : ℕ) (s : Shape) → shapeOf k ≡ some s → ¬ (k ≡ 1) → ¬ (k ≡ 2) → (p : Place) → isSize (fieldOf s p) ≡ false
+unfolding shapeOf all sizeless shapes isSize
+no-size k s e n m = λ p. go (isSize (s .a)) (isSize (s .b)) (isSize (s .c)) refl refl refl both p
+  where
+    l : (sizeless s ≡ true) × (k ≡ s .kind)
+    l = listed sizeless shapes k s refl e
+
+    left : (x y t : Bool) → x ≡ false → y ≡ false → (x || y || t) ≡ true → t ≡ true
+    left x y t p q h = (λ i. sym p i || sym q i || t) ∙ h
+
+    both : (isSize (s .a) || isSize (s .b) || isSize (s .c)) ≡ false
+    both = not-true (isSize (s .a) || isSize (s .b) || isSize (s .c)) (left (eqb (s .kind) 1) (eqb (s .kind) 2) (not (isSize (s .a) || isSize (s .b) || isSize (s .c))) (ne-eqb (s .kind) 1 (λ i. n (l .1 ∙ i))) (ne-eqb (s .kind) 2 (λ i. m (l .1 ∙ i))) (l .0))
+
+    go : (x y z : Bool) → isSize (s .a) ≡ x → isSize (s .b) ≡ y → isSize (s .c) ≡ z → (x || y || z) ≡ false → (p : Place) → isSize (fieldOf s p) ≡ false
+    go x y z u v w h of-a = u ∙ or-false x y (or-false (x || y) z h .0) .0
+    go x y z u v w h of-b = v ∙ or-false x y (or-false (x || y) z h .0) .1
+    go x y z u v w h of-c = w ∙ or-false (x || y) z h .1
+
+-- Accepted rows have good forms -------------------------------------------------------------------------------------------------
+
+-- a row after the declarations that is right
+unfoldable pub RightRow : List ℤ → ℕ → Type 0
+RightRow rows r =
+    ((¬ (kindAt rows r ≡ 1)) × (¬ (kindAt rows r ≡ 2)))
+    × ((s : Shape) × IsOf rows r s × ((p : Place) → MayHold rows r (fieldOf s p) (numberOf rows r p) × Leads rows r (fieldOf s p) (numberOf rows r p)))
+
+pub right-row : (rows : List ℤ) → formFault rows ≡ none → treeFault rows ≡ none → (r : ℕ) → declarations rows ≤ r → r < rowCount rows → RightRow rows r
+unfolding RightRow WellFormed WellPlaced Placed
+right-row rows e i r d l = (
+  ((λ k. let h = w .0 (inl k) in omega arith), (λ k. let h = w .0 (inr k) in omega arith)),
+  (w .1 .0, w .1 .1, λ p. (holds p, g .0 (w .1 .0) (w .1 .1) p)),
+)
+  where
+    w : WellFormed rows r
+    w = well-formed rows e r l
+
+    g : Placed rows r
+    g = well-placed rows i r (omega arith) .1 (d, l)
+
+    holds : (p : Place) → MayHold rows r (fieldOf (w .1 .0) p) (numberOf rows r p)
+    holds of-a = w .1 .2
+    holds of-b = w .1 .3
+    holds of-c = w .1 .4
+
+module _ (rows : List ℤ) (r : ℕ) (f : (t : ℕ) → r < t → t < rowCount rows → Good rows (formAt rows t)) where
+  abbrev at : ℕ → Form
+  at t = ifElse (ltb r t) (formAt rows t) absent
+
+  -- a reference
+  child : (kinds : List ℕ) (z : ℤ) → (t : ℕ) × (z ≡ pos t) × IsTarget rows r kinds t → Child kinds (referred at z) × Good rows (referred at z)
+  child kinds z h =
+      subst (λ (x : Form). Child kinds x × Good rows x) (sym (above rows r (h .0) (h .2 .0)) ∙ ap (referred at) (sym (h .1)))
+      (subst (Child kinds) (sym (formAt-at rows (h .0) (h .2 .1))) (h .2 .2), f (h .0) (h .2 .0) (h .2 .1))
+
+  good-item : (g : Field) (z : ℤ) → isSize g ≡ false → MayHold rows r g z → Leads rows r g z → Suited rows g (itemOf at (isReference g) z) × Good rows (itemOf at (isReference g) z)
+  unfolding Suited Good MayHold Leads isReference isSize
+  good-item unused z e h l = ((z, refl, h), tt)
+  good-item literalValue z e h l = ((z, refl, h), tt)
+  good-item (within lo hi) z e h l = ((z, refl, h), tt)
+  good-item elements z e h l = absurd (false≢true (sym e))
+  good-item capacity z e h l = absurd (false≢true (sym e))
+  good-item variable z e h l = ((z, refl, h), tt)
+  good-item (channel roles) z e h l = ((z, refl, h), tt)
+  good-item (reference kinds) z e h l = child kinds z l
+  good-item (link kinds) z e h (inl i) = subst (λ (y : ℤ). Suited rows (link kinds) (referred at y) × Good rows (referred at y)) (sym i) (inl refl, tt)
+  good-item (link kinds) z e h (inr i) = let c = child kinds z i in (inr (c .0), c .1)
+
+  good-row : r < rowCount rows → RightRow rows r → Good rows (formAt rows r)
+  unfolding RightRow Good
+  good-row l h =
+      subst (Good rows) (sym (formAt-at rows r l))
+      (subst (λ (o : Option Shape). Good rows (row (kindAt rows r) (item (orPlain o .a) 1) (item (orPlain o .b) 2) (item (orPlain o .c) 3))) (sym (h .1 .1))
+      (h .0, (s, h .1 .1, ((a .0, b .0), c .0)), ((a .1, b .1), c .1)))
+    where
+      s : Shape
+      s = h .1 .0
+
+      item : Field → ℕ → Form
+      item g j = itemOf at (isReference g) (fieldAt rows r j)
+
+      no : (p : Place) → isSize (fieldOf s p) ≡ false
+      no = no-size (kindAt rows r) s (h .1 .1) (h .0 .0) (h .0 .1)
+
+      a : Suited rows (s .a) (item (s .a) 1) × Good rows (item (s .a) 1)
+      a = good-item (s .a) (fieldAt rows r 1) (no of-a) (h .1 .2 of-a .0) (h .1 .2 of-a .1)
+
+      b : Suited rows (s .b) (item (s .b) 2) × Good rows (item (s .b) 2)
+      b = good-item (s .b) (fieldAt rows r 2) (no of-b) (h .1 .2 of-b .0) (h .1 .2 of-b .1)
+
+      c : Suited rows (s .c) (item (s .c) 3) × Good rows (item (s .c) 3)
+      c = good-item (s .c) (fieldAt rows r 3) (no of-c) (h .1 .2 of-c .0) (h .1 .2 of-c .1)
+
+pub good : (rows : List ℤ) → formFault rows ≡ none → treeFault rows ≡ none → (k r : ℕ) → rowCount rows ≤ r + k → declarations rows ≤ r → Good rows (formAt rows r)
+unfolding Good
+good rows e i zero r h d = subst (Good rows) (sym (formAt-past rows r (omega arith))) tt
+good rows e i (suc k) r h d = go (decLt r (rowCount rows)) (λ t l. good rows e i k t (omega arith) (omega arith))
+  where
+    go : Dec (r < rowCount rows) → ((t : ℕ) → r < t → Good rows (formAt rows t)) → Good rows (formAt rows r)
+    go (yes l) f = good-row rows r (λ t j m. f t j) l (right-row rows e i r d l)
+    go (no l) f = subst (Good rows) (sym (formAt-past rows r (omega arith))) tt

@@ -1,0 +1,65 @@
+// The run's entries: a table's rows or bytes, a sheet, choices and a budget, and the six lent buffers.
+ghost use mathlib.Core.Path.{_≡_};
+ghost use Rattle.meaning.specs.Answers.{reply, replyToBytes};
+
+pub mod tasks; // tasks.rt: the stages of a call in their order, then the run
+
+use meaning::Answer;
+
+// A run of rows lent as numbers.
+pub fn run_rows(
+    rows: &[i32],
+    sheet: &[u8],
+    choices: &[u16],
+    budget: u32,
+    cells: &mut [i32],
+    marks: &mut [u8],
+    states: &mut [u8],
+    places: &mut [u32],
+    numbers: &mut [i32],
+    counts: &mut [u32],
+) -> Answer
+    ensures { λ a. ⌜ record { answer = a; buffers = record { cells = now (cells .exit); marks = now (marks .exit); states = now (states .exit); places = now (places .exit); numbers = now (numbers .exit); counts = now (counts .exit) } } ≡ reply (record { rows = now (rows .entry); sheet = now (sheet .entry); choices = now (choices .entry); budget = budget }) (record { cells = now (cells .entry); marks = now (marks .entry); states = now (states .entry); places = now (places .entry); numbers = now (numbers .entry); counts = now (counts .entry) }) ⌝ }
+{
+    if write_buffers::too_short(
+        cells.len(),
+        marks.len(),
+        states.len(),
+        places.len(),
+        numbers.len(),
+        counts.len(),
+    ) {
+        return Answer::Refused(1, 0);
+    }
+    let done = tasks::do_rows(rows, sheet, choices, budget);
+    write_buffers::put_done(done, cells, marks, states, places, numbers, counts)
+}
+
+// A run of a table's bytes.
+pub fn run_table(
+    table: &[u8],
+    sheet: &[u8],
+    choices: &[u16],
+    budget: u32,
+    cells: &mut [i32],
+    marks: &mut [u8],
+    states: &mut [u8],
+    places: &mut [u32],
+    numbers: &mut [i32],
+    counts: &mut [u32],
+) -> Answer
+    ensures { λ a. ⌜ record { answer = a; buffers = record { cells = now (cells .exit); marks = now (marks .exit); states = now (states .exit); places = now (places .exit); numbers = now (numbers .exit); counts = now (counts .exit) } } ≡ replyToBytes (now (table .entry)) (now (sheet .entry)) (now (choices .entry)) budget (record { cells = now (cells .entry); marks = now (marks .entry); states = now (states .entry); places = now (places .entry); numbers = now (numbers .entry); counts = now (counts .entry) }) ⌝ }
+{
+    if write_buffers::too_short(
+        cells.len(),
+        marks.len(),
+        states.len(),
+        places.len(),
+        numbers.len(),
+        counts.len(),
+    ) {
+        return Answer::Refused(1, 0);
+    }
+    let done = tasks::do_table(table, sheet, choices, budget);
+    write_buffers::put_done(done, cells, marks, states, places, numbers, counts)
+}

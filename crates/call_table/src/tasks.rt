@@ -1,0 +1,103 @@
+// A task: the stages of refusal in their order, then the run. Nothing is lent here.
+ghost use mathlib.Core.Path.{_≡_};
+ghost use mathlib.Core.Option.{none};
+ghost use Rattle.meaning.specs.TableBytes.{rowsOf};
+ghost use Rattle.meaning.specs.Answers.{check, replyOf, result, resultOfBytes};
+ghost use Rattle.machine.specs.Held.{blank};
+ghost use Rattle.meaning.specs.declared.Answer.the-variants.{Refused, Ran};
+ghost use Rattle.running.specs.Ran.{arraysIn};
+ghost use Rattle.write_buffers.specs.Replies.{replyIn};
+use meaning::Answer;
+use meaning::Verdict;
+use running::result::Run;
+use write_buffers::Done;
+
+// A refusal by its number and place.
+fn refused(number: u8, place: u32) -> Done
+    ensures { λ d. ⌜ replyIn d ≡ record { answer = Refused number place; buffers = blank } ⌝ }
+{
+    let cells = [0i32; 256];
+    let marks = [0u8; 256];
+    let states = [0u8; 1024];
+    let places = [0u32; 8];
+    let numbers = [0i32; 1024];
+    let counts = [0u32; 8];
+    Done {
+        answer: Answer::Refused(number, place),
+        cells,
+        marks,
+        states,
+        places,
+        numbers,
+        counts,
+    }
+}
+
+// What a run comes to.
+fn ran(r: Run) -> Done
+    ensures { λ d. ⌜ replyIn d ≡ record { answer = Ran (r .outcome) (r .steps); buffers = arraysIn r } ⌝ }
+{
+    let outcome = r.outcome;
+    let cells = r.values;
+    let marks = r.marks;
+    let states = r.states;
+    let places = r.places;
+    let numbers = r.numbers;
+    let counts = r.counts;
+    Done {
+        answer: Answer::Ran(outcome, r.steps),
+        cells,
+        marks,
+        states,
+        places,
+        numbers,
+        counts,
+    }
+}
+
+// The run of an accepted table on its sheet, if the sheet and then the budget are not refused.
+fn run_sheet(rows: &[i32], sheet: &[u8], choices: &[u16], budget: u32) -> Done
+    requires { ⌜ check (now rows) ≡ none ⌝ }
+    ensures { λ d. ⌜ replyIn d ≡ replyOf (now (rows .entry)) blank (result (record { rows = now (rows .entry); sheet = now (sheet .entry); choices = now (choices .entry); budget = budget })) ⌝ }
+{
+    let read = read_sheet::read_sheet(rows, sheet);
+    let verdict = read.verdict;
+    match verdict {
+        Verdict::Rejected(number, line) => refused(number, line),
+        Verdict::Accepted => {
+            if 65536 < budget {
+                return refused(11, 0);
+            }
+            let values = read.values;
+            let given = read.marks;
+            ran(running::run(rows, &values, &given, read.lines, choices, budget))
+        }
+    }
+}
+
+// A task whose rows are numbers.
+pub fn do_rows(rows: &[i32], sheet: &[u8], choices: &[u16], budget: u32) -> Done
+    ensures { λ d. ⌜ replyIn d ≡ replyOf (now (rows .entry)) blank (result (record { rows = now (rows .entry); sheet = now (sheet .entry); choices = now (choices .entry); budget = budget })) ⌝ }
+{
+    let verdict = check_verdict::check_rows(rows);
+    match verdict {
+        Verdict::Rejected(number, row) => refused(number, row),
+        Verdict::Accepted => run_sheet(rows, sheet, choices, budget),
+    }
+}
+
+// A task whose table is bytes.
+pub fn do_table(table: &[u8], sheet: &[u8], choices: &[u16], budget: u32) -> Done
+    ensures { λ d. ⌜ replyIn d ≡ replyOf (rowsOf (now (table .entry))) blank (resultOfBytes (now (table .entry)) (now (sheet .entry)) (now (choices .entry)) budget) ⌝ }
+{
+    let read = read_table::read_table(table);
+    let verdict = read.verdict;
+    match verdict {
+        Verdict::Rejected(number, place) => refused(number, place),
+        Verdict::Accepted => {
+            let n = 4 * read.count;
+            let rows = read.rows;
+            do_rows(&rows[..n], sheet, choices, budget)
+        }
+    }
+}

@@ -1,0 +1,38 @@
+-- The refusal of the stages 3 to 6, or that of usage. Assumes nothing.
+use mathlib.Core.Path.{_≡_, sym, _∙_}
+use mathlib.Core.Option.{none}
+use borrow.Author.Needs.{needs}
+use Rattle.meaning.specs.Refusals.{firstFault}
+use Rattle.meaning.proofs.AnswerLaws.{accepted-none, rejected-some}
+use Rattle.check_verdict.proofs.Verdicts.{formStages, form-refused, form-limits, usage-judged}
+use Rattle.check_verdict.proofs.check_rows.Statement.{statement}
+use Rattle.check_verdict.proofs.check_rows.Tie as tie
+
+no-fault : (c : tie.After-enum-told) → firstFault formStages (c .before .before .before .args .rows .now) ≡ none
+no-fault c = accepted-none (firstFault formStages (c .before .before .before .args .rows .now)) (sym (c .enum-told .given .1) ∙ c .before .before .check-form .ensures)
+
+check-form-requires : tie.Need-check-form-requires
+check-form-requires c κs = search needs
+
+enum-known-form : tie.Need-enum-known-form
+enum-known-form c = search needs
+
+enum-told : tie.Need-enum-told
+enum-told c = search needs
+
+usage-fault-requires : tie.Need-usage-fault-requires
+usage-fault-requires c κs = form-limits (c .before .before .before .args .rows .now) (no-fault c)
+
+returns : tie.Need-returns
+returns c =
+    let rows = c .before .before .before .before .args .rows .now in
+    let g = c .before .form .given in
+    form-refused rows (g .0 .0) (g .0 .1 .0) (rejected-some (firstFault formStages rows) (g .0 .0) (g .0 .1 .0) (sym (g .1) ∙ c .before .before .before .check-form .ensures))
+
+returns-2 : tie.Need-returns-2
+returns-2 c = c .usage-fault .ensures ∙ usage-judged (c .before .before .before .before .args .rows .now) (no-fault (c .before))
+
+pub check-rows-spec : {M : Type 1} → statement M
+check-rows-spec =
+    tie.close
+    (tie.spec check-form-requires enum-known-form enum-told usage-fault-requires returns returns-2)

@@ -1,7 +1,0 @@
-pub mod Lists
-pub mod FinalState
-pub mod InRange
-pub mod PageSize
-pub mod Ranges
-pub mod Stages
-pub mod Whole

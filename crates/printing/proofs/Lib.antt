@@ -1,5 +1,0 @@
-pub mod Splits
-pub mod LineSteps
-pub mod RowLines
-pub mod PageLaws
-pub mod Encoded

@@ -1,0 +1,71 @@
+-- The loop keeps whether the bytes are equal. Assumes nothing.
+use mathlib.Core.Path.{_≡_, refl, sym, _∙_}
+use Prim.Native.Nat.{_-_}
+use native.Mathlib.Omega.{arith}
+use borrow.Author.Needs.{needs}
+use lib.ListN.{length, drop}
+use Rattle.meaning.specs.Lines.{same}
+use Rattle.read_table.proofs.ScanSteps.{same-by-length, same-at-end, same-differs, same-goes-on}
+use Rattle.read_table.proofs.scan.same.Statement.{statement}
+use Rattle.read_table.proofs.scan.same.Tie as tie
+
+abbrev Inv-loop : tie.InvT-loop
+Inv-loop a b i₀ i = (length a ≡ length b) × (same a b ≡ same (drop i a) (drop i b))
+
+abbrev μ-loop : tie.MeasureT-loop
+μ-loop a b i₀ i = length a - i
+
+returns : tie.Need-returns Inv-loop μ-loop
+returns c = sym (same-by-length (c .before .args .a .now) (c .before .args .b .now) (c .if1 .taken))
+
+loop-holds : tie.Need-loop-holds Inv-loop μ-loop
+loop-holds c = (c .if1 .left, refl)
+
+shared-slice-read-if2 : tie.Need-shared-slice-read-if2 Inv-loop μ-loop
+shared-slice-read-if2 c = search needs
+
+shared-slice-read-if2-2 : tie.Need-shared-slice-read-if2-2 Inv-loop μ-loop
+shared-slice-read-if2-2 c = search needs
+
+returns-2 : tie.Need-returns-2 Inv-loop μ-loop
+returns-2 c =
+    let l = c .before .before .before .before in
+    let a = l .before .before .args .a .now in
+    let b = l .before .before .args .b .now in
+    sym (l .loop .inv .1 ∙ same-differs a b (l .loop .i) (c .before .before .before .loop-test .taken) (omega (arith, l .loop .inv)) (c .if2 .taken))
+
+add-i : tie.Need-add-i Inv-loop μ-loop
+add-i c = search needs
+
+loop-less : tie.Need-loop-less Inv-loop μ-loop
+loop-less c = search needs
+
+loop-again : tie.Need-loop-again Inv-loop μ-loop
+loop-again c =
+    let l = c .before .before .before .before in
+    let a = l .before .before .args .a .now in
+    let b = l .before .before .args .b .now in
+    (l .loop .inv .0, l .loop .inv .1 ∙ same-goes-on a b (l .loop .i) (c .before .before .before .loop-test .taken) (omega (arith, l .loop .inv)) (c .if2 .left))
+
+returns-3 : tie.Need-returns-3 Inv-loop μ-loop
+returns-3 c =
+    let l = c .before in
+    let a = l .before .before .args .a .now in
+    let b = l .before .before .args .b .now in
+    sym (l .loop .inv .1 ∙ same-at-end a b (l .loop .i) (c .loop-test .left) (omega (arith, l .loop .inv)))
+
+pub same-spec : {M : Type 1} → statement M
+same-spec =
+    tie.close
+    (tie.spec
+    Inv-loop
+    μ-loop
+    returns
+    loop-holds
+    shared-slice-read-if2
+    shared-slice-read-if2-2
+    returns-2
+    add-i
+    loop-less
+    loop-again
+    returns-3)

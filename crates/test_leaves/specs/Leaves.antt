@@ -1,0 +1,50 @@
+-- What the exported functions answer that join several leaves.
+use mathlib.Core.List.{List, [], _∷_}
+use Prim.Native.Nat.{ℕ}
+use lib.IntN.{ℤ}
+use lib.ListN.{set}
+use lib.Dec.{leb}
+use Rattle.meaning.specs.Basics.{ifElse, isSome}
+use Rattle.meaning.specs.Limits.{maxRows}
+use Rattle.meaning.specs.Rows.{rowCount}
+use Rattle.meaning.specs.Tree.{contentAt}
+use Rattle.meaning.specs.TableBytes.{bytesFault, rowsOf, numbersFault}
+use Rattle.meaning.specs.Verdict.{formFault, treeFault, limitFault}
+use Rattle.meaning.specs.Refusals.{Stage, firstFault}
+use Rattle.meaning.specs.Values.{Message, value}
+use Rattle.meaning.specs.declared.Value.{Value}
+use Rattle.meaning.specs.declared.Value.the-variants.{Missing}
+use Rattle.meaning.specs.declared.Verdict.{Verdict}
+use Rattle.meaning.specs.declared.Verdict.the-variants.{Accepted, Rejected}
+use Rattle.read_sheet.specs.declared.SheetRead.{SheetRead}
+use Rattle.test_leaves.specs.Lent.{copied}
+
+-- the stages 3 to 6 of the verdict on rows
+abbrev pub formStages : List (Stage (List ℤ))
+formStages = numbersFault ∷ formFault ∷ treeFault ∷ limitFault ∷ []
+
+-- the first refusal of a table's bytes by the stages 2 to 6: the verdict on bytes, without usage
+unfoldable pub formOfBytes : Stage (List ℕ)
+formOfBytes bytes = firstFault (bytesFault ∷ (λ b. firstFault formStages (rowsOf b)) ∷ []) bytes
+
+-- the value of the expression of row r, of at most 1,024 rows within the limits
+unfoldable pub valueAt : List ℤ → List Message → ℕ → Value
+valueAt rows cells r =
+    let v = value cells (contentAt rows r .expr) in
+    ifElse (leb (rowCount rows) maxRows) (ifElse (isSome (limitFault rows)) (Missing 0) v) (Missing 0)
+
+-- what reading a sheet answers and leaves in three lent buffers
+pub record SheetAnswer : Type 0 where
+  pub answer : ℕ
+  pub values : List ℤ
+  pub marks : List ℕ
+  pub place : List ℕ
+
+-- a refusal with its line, or the readings with the count of lines
+abbrev pub sheetBy : Verdict → SheetRead → List ℤ → List ℕ → List ℕ → SheetAnswer
+sheetBy Accepted s values marks place =
+    record { answer = 0; values = copied (s .values) values; marks = copied (s .marks) marks; place = set place 0 (s .lines) }
+sheetBy (Rejected number p) s values marks place = record { answer = number; values = values; marks = marks; place = set place 0 p }
+
+abbrev pub sheetLent : SheetRead → List ℤ → List ℕ → List ℕ → SheetAnswer
+sheetLent s values marks place = sheetBy (s .verdict) s values marks place

@@ -1,0 +1,206 @@
+-- What a run leaves in the lent buffers says what the run's state says: the printed text made of the buffers is the printed text of the run.
+use mathlib.Core.Path.{_≡_, refl, sym, ap, ap₂, _∙_}
+use mathlib.Core.Bool.{true, false≢true}
+use mathlib.Core.List.{List, [], _∷_, _++_, map, append-assoc}
+use mathlib.Core.Option.{none, some}
+use Prim.Native.Nat.{ℕ, zero, suc, _+_, _-_, _*_, _≤_}
+use native.Mathlib.Numerals.{add-one}
+use native.Mathlib.Omega.{arith}
+use lib.IntN.{ℤ, pos}
+use lib.ListN.{length, take, drop, replicate, length-append, length-take, length-drop, length-replicate, length-map}
+use lib.Seq.{take-all, take-append-le, take-append-add, take-append-seam, drop-append-le, take-at, drop-at}
+use Rattle.meaning.specs.declared.Answer.the-variants.{Ran}
+use Rattle.meaning.specs.declared.Outcome.{Outcome}
+use Rattle.meaning.specs.Limits.{maxRows, maxCells, maxHostChannels, maxCapacity}
+use Rattle.meaning.specs.Rows.{rowCount}
+use Rattle.meaning.specs.Basics.{isSome}
+use Rattle.meaning.specs.Declarations.{declarations, sumBelow, cellsAt, capacityAt, totalCells, hostChannels, channels}
+use Rattle.meaning.specs.Values.{Message}
+use Rattle.meaning.specs.State.{State}
+use Rattle.meaning.specs.Buffers.{Buffers, sized, lent, mark, numberIn, decoded, capacities, strips, encode}
+use Rattle.meaning.specs.Printing.{Line, varWord, numbered, cellsOf, cellLines, outLines, stopLines, answerLine, runLines, printedLines}
+use Rattle.meaning.specs.Answers.{ran}
+use Rattle.meaning.specs.Runner.{printedResult}
+use Rattle.meaning.specs.PrintedForms.{Each, each-none, each-more}
+use Rattle.meaning.specs.Run.{RunResult}
+use Rattle.write_lines.specs.Decoding.{outputsIn, tableRows, resultIn}
+use Rattle.write_lines.proofs.RowLines.{cellsBelow, cells-below-none, cells-below-all, cells-below-more, total, host-channels-below, capacities-below}
+
+-- Lent buffers ----------------------------------------------------------------------------------------------------------------------
+
+module _ {A : Type 0} (limit : ℕ) (d : A) (xs old : List A) where
+  length-sized : length (sized limit d xs) ≡ limit
+  unfolding sized
+  length-sized = omega (arith, length-take limit (xs ++ replicate limit d), length-append xs (replicate limit d), length-replicate limit d)
+
+  -- what stands in the buffer up to its limit
+  lent-front : take limit (lent limit d xs old) ≡ sized limit d xs
+  unfolding lent
+  lent-front = take-at (sized limit d xs) (drop limit old) limit length-sized
+
+  -- a list that fits, and something behind it
+  sized-long : length xs ≤ limit → sized limit d xs ≡ xs ++ take (limit - length xs) (replicate limit d)
+  unfolding sized
+  sized-long h = ap (λ (n : ℕ). take n (xs ++ replicate limit d)) room ∙ take-append-add xs (replicate limit d) (limit - length xs)
+    where
+      room : limit ≡ length xs + (limit - length xs)
+      room = omega arith
+
+  lent-take : length xs ≤ limit → take (length xs) (lent limit d xs old) ≡ xs
+  unfolding lent
+  lent-take h =
+      take-append-le (length xs) (sized limit d xs) (drop limit old) (omega (arith, length-sized))
+      ∙ ap (take (length xs)) (sized-long h)
+      ∙ take-append-seam xs (take (limit - length xs) (replicate limit d))
+
+-- Cells -----------------------------------------------------------------------------------------------------------------------------
+
+-- a cell comes back from its mark and its number, with whatever stands behind
+cells-back : (cells : List Message) (ms : List ℕ) (zs : List ℤ) → decoded (map numberIn cells ++ zs) (map mark cells ++ ms) ≡ cells ++ decoded zs ms
+cells-back [] ms zs = refl
+cells-back (none ∷ cells) ms zs = ap {B = List Message} (λ l. none ∷ l) (cells-back cells ms zs)
+cells-back (some z ∷ cells) ms zs = ap {B = List Message} (λ l. some z ∷ l) (cells-back cells ms zs)
+
+module _ (rows : List ℤ) (cells more : List Message) where
+  -- a variable whose cells are there does not look behind them
+  cells-inside : (r : ℕ) → sumBelow (cellsAt rows) r + cellsAt rows r ≤ length cells → cellsOf rows (cells ++ more) r ≡ cellsOf rows cells r
+  cells-inside r h =
+      ap (take (cellsAt rows r)) (drop-append-le (sumBelow (cellsAt rows) r) cells more (omega arith))
+      ∙ take-append-le (cellsAt rows r) (drop (sumBelow (cellsAt rows) r) cells) more (omega (arith, length-drop (sumBelow (cellsAt rows) r) cells))
+
+  lines-inside : (r : ℕ) → sumBelow (cellsAt rows) r ≤ length cells → cellsBelow rows (cells ++ more) r ≡ cellsBelow rows cells r
+  unfolding sumBelow
+  lines-inside zero h = cells-below-none rows (cells ++ more) ∙ sym (cells-below-none rows cells)
+  lines-inside (suc r) h =
+      one-more (cells ++ more)
+      ∙ ap₂ (λ (l : List Line) (m : List Message). l ++ numbered varWord r 0 m) (lines-inside r (omega arith)) (cells-inside r h)
+      ∙ sym (one-more cells)
+    where
+      one-more : (l : List Message) → cellsBelow rows l (suc r) ≡ cellsBelow rows l r ++ numbered varWord r 0 (cellsOf rows l r)
+      one-more l = ap (cellsBelow rows l) (sym (add-one r)) ∙ cells-below-more rows l r
+
+  pub cell-lines-inside : length cells ≡ totalCells rows → cellLines rows (cells ++ more) ≡ cellLines rows cells
+  unfolding totalCells
+  cell-lines-inside h =
+      sym (cells-below-all rows (cells ++ more)) ∙ lines-inside (declarations rows) (omega (arith, h)) ∙ cells-below-all rows cells
+
+-- Output lists ----------------------------------------------------------------------------------------------------------------------
+
+-- every message of a list is a number
+abbrev pub Numbers : List Message → Type 0
+Numbers xs = Each (λ m. isSome m ≡ true) xs
+
+-- lists of numbers, each within its capacity
+pub data Within : List ℕ → List (List Message) → Type 0 where
+  within-none : Within [] []
+  within-more : {k : ℕ} {ks : List ℕ} {xs : List Message} {xss : List (List Message)} → length xs ≤ k → Numbers xs → Within ks xss → Within (k ∷ ks) (xs ∷ xss)
+
+numbers-back : (xs : List Message) → Numbers xs → map some (map numberIn xs) ≡ xs
+numbers-back [] each-none = refl
+numbers-back (none ∷ xs) (each-more p h) = absurd (false≢true p)
+numbers-back (some z ∷ xs) (each-more p h) = ap {B = List Message} (λ l. some z ∷ l) (numbers-back xs h)
+
+length-outputs : (ks : List ℕ) (xss : List (List Message)) → Within ks xss → length xss ≡ length ks
+length-outputs [] [] within-none = refl
+length-outputs (k ∷ ks) (xs ∷ xss) (within-more h n w) = ap suc (length-outputs ks xss w)
+
+length-strips : (f : ℕ → ℕ) (cs : List ℕ) (xss : List (List Message)) → Within (map f cs) xss → length (strips (map f cs) xss) ≡ total f cs
+unfolding strips total
+length-strips f [] [] within-none = refl
+length-strips f (c ∷ cs) (xs ∷ xss) (within-more h n w) =
+    length-append (sized (f c) (pos 0) (map numberIn xs)) (strips (map f cs) xss)
+    ∙ ap₂ (λ (i j : ℕ). i + j) (length-sized (f c) (pos 0) (map numberIn xs) []) (length-strips f cs xss w)
+
+-- a strip's numbers, with whatever stands behind the strip
+strip-back : (k : ℕ) (xs : List Message) (zs : List ℤ) → length xs ≤ k → Numbers xs → map some (take (length xs) (sized k (pos 0) (map numberIn xs) ++ zs)) ≡ xs
+strip-back k xs zs h n =
+    let e = length-map xs numberIn in
+    ap (map some) (
+    take-append-le (length xs) (sized k (pos 0) (map numberIn xs)) zs (omega (arith, length-sized k (pos 0) (map numberIn xs) []))
+    ∙ ap (take (length xs)) (sized-long k (pos 0) (map numberIn xs) [] (omega (arith, e)))
+    ∙ take-at (map numberIn xs) _ (length xs) e
+    )
+    ∙ numbers-back xs n
+
+outputs-back : (ks : List ℕ) (xss : List (List Message)) (counts : List ℕ) (zs : List ℤ) → Within ks xss → outputsIn ks (map length xss ++ counts) (strips ks xss ++ zs) ≡ xss
+unfolding outputsIn strips
+outputs-back [] [] counts zs within-none = refl
+outputs-back (k ∷ ks) (xs ∷ xss) counts zs (within-more h n w) =
+    ap (λ (l : List ℤ). map some (take (length xs) l) ∷ outputsIn ks (map length xss ++ counts) (drop k l)) (append-assoc S (strips ks xss) zs)
+    ∙ ap₂ (λ (l : List Message) (m : List ℤ). l ∷ outputsIn ks (map length xss ++ counts) m) (strip-back k xs (strips ks xss ++ zs) h n) (drop-at S (strips ks xss ++ zs) k (length-sized k (pos 0) (map numberIn xs) []))
+    ∙ ap {B = List (List Message)} (λ l. xs ∷ l) (outputs-back ks xss counts zs w)
+  where
+    S : List ℤ
+    S = sized k (pos 0) (map numberIn xs)
+
+-- The printed text --------------------------------------------------------------------------------------------------------------------------
+
+-- a state has just the rows, cells and output channels of its table, and the table is within the limits
+pub record Held (rows : List ℤ) (s : State) : Type 0 where
+  pub rows-few : rowCount rows ≤ maxRows
+  pub states-all : length (s .states) ≡ rowCount rows
+  pub cells-few : totalCells rows ≤ maxCells
+  pub cells-all : length (s .store .cells) ≡ totalCells rows
+  pub host-channels-few : hostChannels 2 rows ≤ maxHostChannels
+  pub capacity-few : sumBelow (capacityAt rows) (declarations rows) ≤ maxCapacity
+  pub outputs-within : Within (capacities rows) (s .store .outputs)
+
+module _ (rows : List ℤ) (s : State) (b : Buffers) (h : Held rows s) where
+  -- what the buffers say
+  abbrev said : Outcome → ℕ → RunResult
+  said o n =
+      let e = encode rows s b in
+      resultIn rows o n (e .cells) (e .marks) (e .states) (e .numbers) (e .counts)
+
+  cells-said : (o : Outcome) (n : ℕ) → cellLines rows (said o n .state .store .cells) ≡ cellLines rows (s .store .cells)
+  unfolding encode
+  cells-said o n =
+      let few : length (s .store .cells) ≤ maxCells = (let a = h .cells-all in let f = h .cells-few in omega arith) in
+      ap (cellLines rows) (
+      ap₂ decoded
+      (lent-front maxCells (pos 0) (map numberIn (s .store .cells)) (b .cells) ∙ sized-long maxCells (pos 0) (map numberIn (s .store .cells)) (b .cells) (omega (arith, length-map (s .store .cells) numberIn)))
+      (lent-front maxCells 0 (map mark (s .store .cells)) (b .marks) ∙ sized-long maxCells 0 (map mark (s .store .cells)) (b .marks) (omega (arith, length-map (s .store .cells) mark)))
+      ∙ cells-back (s .store .cells) _ _
+      )
+      ∙ cell-lines-inside rows (s .store .cells) _ (h .cells-all)
+
+  -- as many output lists as output channels, as many numbers as capacities
+  lists-few : length (map length (s .store .outputs)) ≤ maxHostChannels
+  unfolding channels hostChannels
+  lists-few =
+      let f = h .host-channels-few in
+      omega (arith, length-map (s .store .outputs) length, length-outputs (capacities rows) (s .store .outputs) (h .outputs-within), length-map (channels rows 2) (capacityAt rows), host-channels-below rows (declarations rows))
+
+  numbers-few : length (strips (capacities rows) (s .store .outputs)) ≤ maxCapacity
+  unfolding channels
+  numbers-few =
+      let f = h .capacity-few in
+      omega (arith, length-strips (capacityAt rows) (channels rows 2) (s .store .outputs) (h .outputs-within), capacities-below rows (declarations rows))
+
+  outputs-said : (o : Outcome) (n : ℕ) → said o n .state .store .outputs ≡ s .store .outputs
+  unfolding encode
+  outputs-said o n =
+      ap₂ (outputsIn (capacities rows))
+      (lent-front maxHostChannels 0 (map length (s .store .outputs)) (b .counts) ∙ sized-long maxHostChannels 0 (map length (s .store .outputs)) (b .counts) lists-few)
+      (lent-front maxCapacity (pos 0) (strips (capacities rows) (s .store .outputs)) (b .numbers) ∙ sized-long maxCapacity (pos 0) (strips (capacities rows) (s .store .outputs)) (b .numbers) numbers-few)
+      ∙ outputs-back (capacities rows) (s .store .outputs) _ _ (h .outputs-within)
+
+  states-said : (o : Outcome) (n : ℕ) → said o n .state .states ≡ s .states
+  unfolding encode
+  states-said o n = ap (λ (k : ℕ). take k (lent maxRows 0 (s .states) (b .states))) (sym (h .states-all)) ∙ lent-take maxRows 0 (s .states) (b .states) (let f = h .rows-few in let a = h .states-all in omega arith)
+
+  -- the lines of what is in the buffers are the lines of the run
+  pub lines-said : (o : Outcome) (n : ℕ) → runLines rows (said o n) ≡ runLines rows (record { outcome = o; steps = n; state = s })
+  unfolding runLines
+  lines-said o n =
+      ap₂ (λ (l : List Line) (xss : List (List Message)). answerLine (Ran o n) ∷ l ++ outLines (channels rows 2) xss ++ stopLines 0 (said o n .state .states)) (cells-said o n) (outputs-said o n)
+      ∙ ap (λ (qs : List ℕ). answerLine (Ran o n) ∷ cellLines rows (s .store .cells) ++ outLines (channels rows 2) (s .store .outputs) ++ stopLines 0 qs) (states-said o n)
+
+  -- what `run_page` is given by what a run leaves, it prints as the sheet runner's definition says
+  pub printed-text-said : length rows ≤ 4 * maxRows → (o : Outcome) (n : ℕ)
+      → let e = encode rows s b in
+      printedLines (runLines (tableRows rows) (resultIn (tableRows rows) o n (e .cells) (e .marks) (e .states) (e .numbers) (e .counts))) ≡ printedResult rows (ran (record { outcome = o; steps = n; state = s }))
+  printed-text-said few o n =
+      let e = encode rows s b in
+      ap (λ (t : List ℤ). printedLines (runLines t (resultIn t o n (e .cells) (e .marks) (e .states) (e .numbers) (e .counts)))) (take-all (4 * maxRows) rows few)
+      ∙ ap printedLines (lines-said o n)

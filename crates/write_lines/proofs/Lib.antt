@@ -1,0 +1,5 @@
+pub mod Splits
+pub mod LineSteps
+pub mod RowLines
+pub mod PrintedTextLaws
+pub mod Encoded

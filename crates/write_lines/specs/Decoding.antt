@@ -1,0 +1,46 @@
+-- What the lent buffers of a run say: its cells, its output lists and its row states, read back from the arrays.
+use mathlib.Core.List.{List, [], _∷_, _++_, map}
+use mathlib.Core.Option.{some}
+use Prim.Native.Nat.{ℕ, _*_}
+use lib.IntN.{ℤ}
+use lib.ListN.{take, drop}
+use Rattle.meaning.specs.declared.Outcome.{Outcome}
+use Rattle.meaning.specs.Limits.{maxRows, maxCells, maxHostChannels, maxCapacity}
+use Rattle.meaning.specs.Rows.{rowCount}
+use Rattle.meaning.specs.State.{State}
+use Rattle.meaning.specs.declared.Answer.the-variants.{Ran}
+use Rattle.meaning.specs.Declarations.{channels}
+use Rattle.meaning.specs.Values.{Message}
+use Rattle.meaning.specs.Buffers.{decoded, capacities}
+use Rattle.meaning.specs.Printing.{Line, cellLines, outLines, stopLines, answerLine}
+use Rattle.meaning.specs.Run.{RunResult}
+
+-- output lists by their capacities and counts: "A strip follows the one before it by capacity", and its count says how many numbers it has
+unfoldable pub outputsIn : List ℕ → List ℕ → List ℤ → List (List Message)
+outputsIn [] counts zs = []
+outputsIn (k ∷ ks) [] zs = []
+outputsIn (k ∷ ks) (n ∷ counts) zs = map some (take n zs) ∷ outputsIn ks counts (drop k zs)
+
+-- a table has at most 1,024 rows: what is past them is not looked at
+abbrev pub tableRows : List ℤ → List ℤ
+tableRows rows = take (4 * maxRows) rows
+
+-- the state that lent buffers hold, of each as much as its limit; the places in the readings are not printed
+abbrev pub stateIn : List ℤ → List ℤ → List ℕ → List ℕ → List ℤ → List ℕ → State
+stateIn rows values marks states numbers counts =
+    record {
+      states = take (rowCount rows) states;
+      store = record {
+        cells = decoded (take maxCells values) (take maxCells marks);
+        places = [];
+        outputs = outputsIn (capacities rows) (take maxHostChannels counts) (take maxCapacity numbers);
+      };
+    }
+
+-- a run by its outcome, its steps and what it leaves in the lent buffers: numbers and marks of cells, row states, numbers and counts of outputs
+abbrev pub resultIn : List ℤ → Outcome → ℕ → List ℤ → List ℕ → List ℕ → List ℤ → List ℕ → RunResult
+resultIn rows o steps values marks states numbers counts = record { outcome = o; steps = steps; state = stateIn rows values marks states numbers counts }
+
+-- the lines of a run by its parts
+abbrev pub partLines : List ℤ → Outcome → ℕ → List Message → List (List Message) → List ℕ → List Line
+partLines rows o steps cells outputs states = answerLine (Ran o steps) ∷ cellLines rows cells ++ outLines (channels rows 2) outputs ++ stopLines 0 states
