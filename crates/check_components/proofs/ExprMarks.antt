@@ -34,15 +34,15 @@ module _ (rows : List ℤ) (r : ℕ) where
   unfolding markTarget targetIn cellsIn
   target-marks p = rw p
 
-  pub receive-marks : {f n b c : ℕ} → f ≡ sourceAt rows (naturalAt rows r 1) .first → n ≡ sourceAt rows (naturalAt rows r 1) .size → b ≡ operandAt rows r 2 → c ≡ operandAt rows r 3
+  pub of-input-marks : {f n b c : ℕ} → f ≡ sourceAt rows (naturalAt rows r 1) .first → n ≡ sourceAt rows (naturalAt rows r 1) .size → b ≡ operandAt rows r 2 → c ≡ operandAt rows r 3
       → markInput (inputIn rows r) ≡ markTarget (contentAt rows c .target) ++ (markExpr (contentAt rows b .expr) ++ inSort 2 (countsFor f n (contentAt rows b .expr)))
   unfolding markInput inputIn
-  receive-marks p q s t = rw (p, q, s, t)
+  of-input-marks p q s t = rw (p, q, s, t)
 
-  pub send-marks : {f n b c : ℕ} → f ≡ sinkAt rows (naturalAt rows r 1) .first → n ≡ sinkAt rows (naturalAt rows r 1) .size → b ≡ operandAt rows r 2 → c ≡ operandAt rows r 3
+  pub of-output-marks : {f n b c : ℕ} → f ≡ sinkAt rows (naturalAt rows r 1) .first → n ≡ sinkAt rows (naturalAt rows r 1) .size → b ≡ operandAt rows r 2 → c ≡ operandAt rows r 3
       → marks (outputIn rows r) ≡ inSort 3 (countsFor f n (contentAt rows b .expr)) ++ (markExpr (contentAt rows b .expr) ++ markExpr (contentAt rows c .expr))
   unfolding marks outputIn
-  send-marks p q s t = rw (p, q, s, t)
+  of-output-marks p q s t = rw (p, q, s, t)
 
   module _ (h : r < rowCount rows) where
     pub element-marks : kindAt rows r ≡ 11 → {b : ℕ} → b ≡ operandAt rows r 2 → markExpr (contentAt rows r .expr) ≡ inSort 1 (cellsIn rows r) ++ markExpr (contentAt rows b .expr)

@@ -37,9 +37,9 @@ module _ (rows : List ℤ) (r : ℕ) where
     past-process = ap (λ (p : Content). allMarks (p .process)) (part-past rows r h)
 
   -- an input by its operands
-  receive-is : inputOf rows r (higherContent rows r) (naturalAt rows r 1) (naturalAt rows r 2) (naturalAt rows r 3) ≡ inputIn rows r
+  of-input-is : inputOf rows r (higherContent rows r) (naturalAt rows r 1) (naturalAt rows r 2) (naturalAt rows r 3) ≡ inputIn rows r
   unfolding inputIn
-  receive-is =
+  of-input-is =
       ap₂ (λ (p q : Content). record { channel = sourceAt rows (naturalAt rows r 1); subscript = p .expr; target = q .target }) (above-operand rows r 2 refl) (above-operand rows r 3 refl)
 
   module _ (h : r < rowCount rows) where
@@ -59,7 +59,7 @@ module _ (rows : List ℤ) (r : ℕ) where
         (λ q. refl) (λ q. refl) (λ q. refl) (λ q. refl) (λ q. refl) (λ q. refl) (λ q. absurd (n41 q)) (λ q. refl) (λ q. refl) refl)
 
     pub input-marks : kindAt rows r ≡ 23 → ofGuard markInput (contentAt rows r .guard .input) ≡ markInput (inputIn rows r)
-    input-marks e = ap (λ (p : Content). ofGuard markInput (p .guard .input)) (part-of-kind rows r 23 h e) ∙ ap markInput receive-is
+    input-marks e = ap (λ (p : Content). ofGuard markInput (p .guard .input)) (part-of-kind rows r 23 h e) ∙ ap markInput of-input-is
 
     pub guard-marks : kindAt rows r ≡ 43 → {b : ℕ} → b ≡ operandAt rows r 2 → ofGuard markInput (contentAt rows r .guard .input) ≡ ofGuard markInput (contentAt rows b .guard .input)
     guard-marks e p = ap (λ (p : Content). ofGuard markInput (p .guard .input)) (part-of-kind rows r 43 h e) ∙ ap (λ (p : Content). ofGuard markInput (p .guard .input)) (above-operand rows r 2 p)
@@ -108,7 +108,7 @@ module _ (rows : List ℤ) (r : ℕ) where
 
     pub own-input : kindAt rows r ≡ 23 → ownMarks (contentAt rows r .process) ≡ markInput (inputIn rows r)
     unfolding marks
-    own-input e = ap (λ (p : Content). ownMarks (p .process)) (part-of-kind rows r 23 h e) ∙ ap markInput receive-is
+    own-input e = ap (λ (p : Content). ownMarks (p .process)) (part-of-kind rows r 23 h e) ∙ ap markInput of-input-is
 
     pub own-output : kindAt rows r ≡ 24 → ownMarks (contentAt rows r .process) ≡ marks (outputIn rows r)
     unfolding outputIn

@@ -11,7 +11,7 @@ use Rattle.meaning.specs.Usage.{countsFor, standsIn, standsInChoices, changesBy
 use Rattle.base_sets.specs.Sets.{inSort}
 use Rattle.check_components.specs.Marks.{targetCells, markExpr, markTarget, markInput, markChoices, markGuard, markOptions, marks}
 use Rattle.base_sets.proofs.Bools.{or-assoc, or-none, or-turn, among-append, sort-same}
-use Rattle.check_components.proofs.Sorts.{Sort, changed, used, inputFrom, outputTo, code, listOf, exprIn, receiveIn, marked, none-in, expr-sort, two, target-sort, receive-sort}
+use Rattle.check_components.proofs.Sorts.{Sort, changed, used, inputFrom, outputTo, code, listOf, exprIn, inputLists, marked, none-in, expr-sort, two, target-sort, input-lists}
 
 module _ (x : ℕ) where
   -- a sort of which no expression has a number
@@ -54,21 +54,21 @@ module _ (x : ℕ) where
   choices-used (t ∷ l) = two x used (markExpr (t .boolean)) (markChoices l) (expr-sort x used (t .boolean)) (choices-used l) ∙ sym (among-append x (standsIn (t .boolean)) (standsInChoices l))
 
   -- options
-  input-sort : (s : Sort) (o : Option ChannelInput) → marked x s (ofGuard markInput o) ≡ among x (ofGuard (receiveIn s) o)
+  input-sort : (s : Sort) (o : Option ChannelInput) → marked x s (ofGuard markInput o) ≡ among x (ofGuard (inputLists s) o)
   unfolding anyPasses
   input-sort s none = refl
-  input-sort s (some i) = receive-sort x s i
+  input-sort s (some i) = input-lists x s i
 
-  guard-sort : (s : Sort) (g : AltGuard) → marked x s (markGuard g) ≡ (among x (exprIn s (g .boolean)) || among x (ofGuard (receiveIn s) (g .input)))
+  guard-sort : (s : Sort) (g : AltGuard) → marked x s (markGuard g) ≡ (among x (exprIn s (g .boolean)) || among x (ofGuard (inputLists s) (g .input)))
   unfolding markGuard
   guard-sort s g = two x s (markExpr (g .boolean)) (ofGuard markInput (g .input)) (expr-sort x s (g .boolean)) (input-sort s (g .input))
 
-  options-bare : (s : Sort) → Bare s → (bs : List AltOption) → marked x s (markOptions bs) ≡ among x (ofGuards (receiveIn s) bs)
+  options-bare : (s : Sort) → Bare s → (bs : List AltOption) → marked x s (markOptions bs) ≡ among x (ofGuards (inputLists s) bs)
   unfolding markOptions anyPasses
   options-bare s h [] = refl
   options-bare s h (b ∷ l) =
-      two x s (markGuard (b .guard)) (markOptions l) (guard-sort s (b .guard) ∙ ap (λ (a : Bool). a || among x (ofGuard (receiveIn s) (b .guard .input))) (h (b .guard .boolean))) (options-bare s h l)
-      ∙ sym (among-append x (ofGuard (receiveIn s) (b .guard .input)) (ofGuards (receiveIn s) l))
+      two x s (markGuard (b .guard)) (markOptions l) (guard-sort s (b .guard) ∙ ap (λ (a : Bool). a || among x (ofGuard (inputLists s) (b .guard .input))) (h (b .guard .boolean))) (options-bare s h l)
+      ∙ sym (among-append x (ofGuard (inputLists s) (b .guard .input)) (ofGuards (inputLists s) l))
 
   options-used : (bs : List AltOption) → marked x used (markOptions bs) ≡ among x (standsInGuards bs ++ ofGuards usesBy bs)
   unfolding markOptions anyPasses
@@ -81,12 +81,12 @@ module _ (x : ℕ) where
       ∙ ap₂ (λ (a b : Bool). a || b) (sym (among-append x e (standsInGuards l))) (sym (among-append x g (ofGuards usesBy l)))
       ∙ sym (among-append x (e ++ standsInGuards l) (g ++ ofGuards usesBy l))
 
-  no-outputs : (bs : List AltOption) → among x (ofGuards (receiveIn outputTo) bs) ≡ false
+  no-outputs : (bs : List AltOption) → among x (ofGuards (inputLists outputTo) bs) ≡ false
   unfolding anyPasses
   no-outputs [] = refl
-  no-outputs (b ∷ l) = among-append x (ofGuard (receiveIn outputTo) (b .guard .input)) (ofGuards (receiveIn outputTo) l) ∙ ap₂ (λ (a b : Bool). a || b) (one (b .guard .input)) (no-outputs l)
+  no-outputs (b ∷ l) = among-append x (ofGuard (inputLists outputTo) (b .guard .input)) (ofGuards (inputLists outputTo) l) ∙ ap₂ (λ (a b : Bool). a || b) (one (b .guard .input)) (no-outputs l)
     where
-      one : (o : Option ChannelInput) → among x (ofGuard (receiveIn outputTo) o) ≡ false
+      one : (o : Option ChannelInput) → among x (ofGuard (inputLists outputTo) o) ≡ false
       one none = refl
       one (some i) = refl
 
@@ -104,7 +104,7 @@ module _ (x : ℕ) where
   marks-sort changed sequence = refl
   marks-sort changed parallel = refl
   marks-sort changed (assign v e f) = assigned changed (record { name = v; subscript = e }) f ∙ or-none (among x (countsFor (v .first) (v .size) e))
-  marks-sort changed (input i) = receive-sort x changed i
+  marks-sort changed (input i) = input-lists x changed i
   marks-sort changed (output c e f) = sent changed (countsFor (c .first) (c .size) e) e f (none-in x 3 changed (countsFor (c .first) (c .size) e) (omega arith) (λ q. omega arith))
   marks-sort changed (conditional ts) = choices-bare changed (λ e. refl) ts
   marks-sort changed (loop e b) = expr-sort x changed e
@@ -120,7 +120,7 @@ module _ (x : ℕ) where
       ∙ or-assoc (among x c) (among x (standsIn e)) (among x (standsIn f))
       ∙ ap (λ (a : Bool). among x c || a) (sym (among-append x (standsIn e) (standsIn f)))
       ∙ sym (among-append x c (standsIn e ++ standsIn f))
-  marks-sort used (input i) = receive-sort x used i
+  marks-sort used (input i) = input-lists x used i
   marks-sort used (output c e f) = sent used (countsFor (c .first) (c .size) e) e f (none-in x 3 used (countsFor (c .first) (c .size) e) (omega arith) (λ q. omega arith)) ∙ sym (among-append x (standsIn e) (standsIn f))
   marks-sort used (conditional ts) = choices-used ts
   marks-sort used (loop e b) = expr-sort x used e
@@ -130,7 +130,7 @@ module _ (x : ℕ) where
   marks-sort inputFrom sequence = refl
   marks-sort inputFrom parallel = refl
   marks-sort inputFrom (assign v e f) = assigned inputFrom (record { name = v; subscript = e }) f
-  marks-sort inputFrom (input i) = receive-sort x inputFrom i
+  marks-sort inputFrom (input i) = input-lists x inputFrom i
   marks-sort inputFrom (output c e f) = sent inputFrom (countsFor (c .first) (c .size) e) e f (none-in x 3 inputFrom (countsFor (c .first) (c .size) e) (omega arith) (λ q. omega arith))
   marks-sort inputFrom (conditional ts) = choices-bare inputFrom (λ e. refl) ts
   marks-sort inputFrom (loop e b) = expr-sort x inputFrom e
@@ -140,7 +140,7 @@ module _ (x : ℕ) where
   marks-sort outputTo sequence = refl
   marks-sort outputTo parallel = refl
   marks-sort outputTo (assign v e f) = assigned outputTo (record { name = v; subscript = e }) f
-  marks-sort outputTo (input i) = receive-sort x outputTo i
+  marks-sort outputTo (input i) = input-lists x outputTo i
   marks-sort outputTo (output c e f) = sent outputTo (countsFor (c .first) (c .size) e) e f (sort-same 3 x (countsFor (c .first) (c .size) e)) ∙ or-none (among x (countsFor (c .first) (c .size) e))
   marks-sort outputTo (conditional ts) = choices-bare outputTo (λ e. refl) ts
   marks-sort outputTo (loop e b) = expr-sort x outputTo e

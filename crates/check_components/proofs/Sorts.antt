@@ -41,11 +41,11 @@ exprIn used e = standsIn e
 exprIn inputFrom e = []
 exprIn outputTo e = []
 
-abbrev pub receiveIn : Sort → ChannelInput → List ℕ
-receiveIn changed i = changesBy i
-receiveIn used i = usesBy i
-receiveIn inputFrom i = inputsBy i
-receiveIn outputTo i = []
+abbrev pub inputLists : Sort → ChannelInput → List ℕ
+inputLists changed i = changesBy i
+inputLists used i = usesBy i
+inputLists inputFrom i = inputsBy i
+inputLists outputTo i = []
 
 module _ (x : ℕ) where
   -- is number x of a sort among marks
@@ -85,19 +85,19 @@ module _ (x : ℕ) where
   used-order false false true = refl
   used-order false false false = refl
 
-  pub receive-sort : (s : Sort) (i : ChannelInput) → marked s (markInput i) ≡ among x (receiveIn s i)
+  pub input-lists : (s : Sort) (i : ChannelInput) → marked s (markInput i) ≡ among x (inputLists s i)
   unfolding anyPasses
-  receive-sort changed i =
+  input-lists changed i =
       whole changed i (sort-same 0 x (changesBy i)) (none-in 1 changed (changesBy i) (omega arith) (λ q. omega arith)) (none-in 2 changed (inputsBy i) (omega arith) (λ q. omega arith))
       ∙ or-none (among x (changesBy i) || false)
       ∙ or-none (among x (changesBy i))
-  receive-sort used i =
+  input-lists used i =
       whole used i (none-in 0 used (changesBy i) (omega arith) (λ q. omega arith)) (sort-same 1 x (changesBy i)) (none-in 2 used (inputsBy i) (omega arith) (λ q. omega arith))
       ∙ used-order (among x (changesBy i)) (among x (standsIn (i .target .subscript))) (among x (standsIn (i .subscript)))
       ∙ sym
       (among-append x (changesBy i) (standsIn (i .subscript) ++ standsIn (i .target .subscript))
       ∙ ap (λ (b : Bool). among x (changesBy i) || b) (among-append x (standsIn (i .subscript)) (standsIn (i .target .subscript))))
-  receive-sort inputFrom i =
+  input-lists inputFrom i =
       whole inputFrom i (none-in 0 inputFrom (changesBy i) (omega arith) (λ q. omega arith)) (none-in 1 inputFrom (changesBy i) (omega arith) (λ q. omega arith)) (sort-same 2 x (inputsBy i))
-  receive-sort outputTo i =
+  input-lists outputTo i =
       whole outputTo i (none-in 0 outputTo (changesBy i) (omega arith) (λ q. omega arith)) (none-in 1 outputTo (changesBy i) (omega arith) (λ q. omega arith)) (none-in 2 outputTo (inputsBy i) (omega arith) (λ q. omega arith))

@@ -100,7 +100,7 @@ fn target_at<'a>(rows: &'a [i32], names: &'a [u16], c: usize, sets: &mut [u64])
 }
 
 // The input of row r: its target, its subscript, and the elements of its channel.
-fn receive<'a>(rows: &'a [i32], names: &'a [u16], r: usize, sets: &mut [u64])
+fn of_input<'a>(rows: &'a [i32], names: &'a [u16], r: usize, sets: &mut [u64])
     requires { ⌜ (r < rowCount (now rows)) × Named (now rows) (now names) ⌝ }
     ensures { λ _. ⌜ now (sets .exit) ≡ withAll (now (sets .entry)) (markInput (inputIn (now (rows .entry)) r)) ⌝ }
 {
@@ -112,7 +112,7 @@ fn receive<'a>(rows: &'a [i32], names: &'a [u16], r: usize, sets: &mut [u64])
 }
 
 // The output of row r: the elements of its channel, its subscript, and its expression.
-fn send<'a>(rows: &'a [i32], names: &'a [u16], r: usize, sets: &mut [u64])
+fn of_output<'a>(rows: &'a [i32], names: &'a [u16], r: usize, sets: &mut [u64])
     requires { ⌜ (r < rowCount (now rows)) × Named (now rows) (now names) ⌝ }
     ensures { λ _. ⌜ now (sets .exit) ≡ withAll (now (sets .entry)) (marks (outputIn (now (rows .entry)) r)) ⌝ }
 {
@@ -147,7 +147,7 @@ fn guard_input<'a>(rows: &'a [i32], names: &'a [u16], g: usize, sets: &mut [u64]
     }
     match natural(rows, g, 0) {
         23 => {
-            receive(rows, names, g, sets);
+            of_input(rows, names, g, sets);
         }
         43 => {
             guard_input(rows, names, operand(rows, g, 2), sets);
@@ -195,10 +195,10 @@ fn step<'a>(rows: &'a [i32], names: &'a [u16], r: usize, sets: &mut [u64])
             expression(rows, names, operand(rows, r, 3), sets);
         }
         23 => {
-            receive(rows, names, r, sets);
+            of_input(rows, names, r, sets);
         }
         24 => {
-            send(rows, names, r, sets);
+            of_output(rows, names, r, sets);
         }
         _ => {}
     }

@@ -1,4 +1,4 @@
--- `sets::join` meets its contract. The loop has joined the words before i; the measure is what is left of them.
+-- `join` meets its contract. The loop has joined the words before i; the measure is what is left of them.
 use mathlib.Core.Path.{_≡_, refl, sym, _∙_}
 use mathlib.Core.List.{_++_}
 use Prim.Native.Nat.{_-_}

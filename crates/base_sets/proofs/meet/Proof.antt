@@ -1,4 +1,4 @@
--- `sets::meet` meets its contract: four words compared one after another.
+-- `meet` meets its contract: four words compared one after another.
 use mathlib.Core.Path.{ap, _∙_}
 use mathlib.Core.Bool.{Bool, _||_}
 use borrow.Author.Needs.{needs}

@@ -1,4 +1,4 @@
--- `sets::put` meets its contract: a number is set in its word, and one past the words or past 255 changes nothing.
+-- `put` meets its contract: a number is set in its word, and one past the words or past 255 changes nothing.
 use borrow.Author.Needs.{needs}
 use Rattle.base_sets.proofs.SetLaws.{put-large, put-in, put-past}
 use Rattle.base_sets.proofs.put.Statement.{statement}

@@ -1,4 +1,4 @@
--- `sets::put_range` meets its contract. The loop puts in the first k numbers of the range; the rest of it is still to be put in.
+-- `put_range` meets its contract. The loop puts in the first k numbers of the range; the rest of it is still to be put in.
 use mathlib.Core.Path.{_≡_, refl, sym, ap, _∙_}
 use mathlib.Core.List.{List}
 use Prim.Native.Nat.{ℕ, _+_, _-_, _≤_}

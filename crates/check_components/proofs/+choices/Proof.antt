@@ -1,4 +1,4 @@
--- `marks::choices`, which calls itself on the next choice, meets its contract. The measure is the rows left to the table's end.
+-- `choices`, which calls itself on the next choice, meets its contract. The measure is the rows left to the table's end.
 use mathlib.Core.Path.{sym, _∙_}
 use Prim.Native.Nat.{_/_, _-_, ℕ, _<_}
 use native.Mathlib.Omega.{arith}

@@ -1,4 +1,4 @@
--- `marks::expression`, which calls itself on operands, meets its contract. The measure is the rows left to the table's end.
+-- `expression`, which calls itself on operands, meets its contract. The measure is the rows left to the table's end.
 use mathlib.Core.Path.{sym, _∙_}
 use Prim.Native.Nat.{_/_, _-_, ℕ, _<_}
 use native.Mathlib.Omega.{arith}

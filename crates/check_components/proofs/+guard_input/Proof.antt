@@ -1,4 +1,4 @@
--- `marks::guard_input`, which calls itself on the row that a guard refers to, meets its contract. The measure is the rows left to the table's end.
+-- `guard_input`, which calls itself on the row that a guard refers to, meets its contract. The measure is the rows left to the table's end.
 use mathlib.Core.Path.{sym, _∙_}
 use Prim.Native.Nat.{_/_, _-_, ℕ, _<_}
 use native.Mathlib.Omega.{arith}
@@ -15,7 +15,7 @@ use Rattle.check_components.proofs.+guard_input.{statement}
 use Rattle.check_components.proofs.guard_input.Reads as guard-input
 use Rattle.check_components.proofs.guard_input.Kinds as guard-input-kinds
 use Rattle.check_components.proofs.+guard_input.Lts-guard_input as guard-input-lts
-use Rattle.check_components.proofs.receive.Reads as receive-reads
+use Rattle.check_components.proofs.of_input.Reads as of-input-reads
 use Rattle.check_components.proofs.+guard_input.Tie.{close}
 
 abbrev μ-guard-input : Measures 2 guard-input-kinds.ps ℕ
@@ -30,7 +30,7 @@ guard-input-below t =
     and 2 guard-input-kinds.ps (falls 2 guard-input-kinds.ps _<_ μ-guard-input t) guard-input.Pre
 
 abbrev guard-input-claims : ℕ → guard-input-lts.Claims
-guard-input-claims t = (natural-reads.Asked, natural-reads.Learnt, receive-reads.Asked, receive-reads.Learnt, operand-reads.Asked, operand-reads.Learnt, guard-input-below t, guard-input.Post)
+guard-input-claims t = (natural-reads.Asked, natural-reads.Learnt, of-input-reads.Asked, of-input-reads.Learnt, operand-reads.Asked, operand-reads.Learnt, guard-input-below t, guard-input.Post)
 
 guard-input-returns : (t : ℕ) → guard-input-lts.Need-returns (guard-input-claims t) (guard-input-at t) guard-input.Post
 guard-input-returns t c =
@@ -40,8 +40,8 @@ guard-input-returns t c =
 guard-input-natural-requires : (t : ℕ) → guard-input-lts.Need-natural-requires (guard-input-claims t) (guard-input-at t) guard-input.Post
 guard-input-natural-requires t c κs = search needs
 
-guard-input-receive-requires : (t : ℕ) → guard-input-lts.Need-receive-requires (guard-input-claims t) (guard-input-at t) guard-input.Post
-guard-input-receive-requires t c κs = search needs
+guard-input-of-input-requires : (t : ℕ) → guard-input-lts.Need-of-input-requires (guard-input-claims t) (guard-input-at t) guard-input.Post
+guard-input-of-input-requires t c κs = search needs
 
 guard-input-operand-requires : (t : ℕ) → guard-input-lts.Need-operand-requires (guard-input-claims t) (guard-input-at t) guard-input.Post
 guard-input-operand-requires t c κs = search needs
@@ -57,7 +57,7 @@ guard-input-same-length t c = search needs
 guard-input-returns-2 : (t : ℕ) → guard-input-lts.Need-returns-2 (guard-input-claims t) (guard-input-at t) guard-input.Post
 guard-input-returns-2 t c =
     let s = c .before .before .before .before .before .before .before .before .before in
-    one-call _ _ (c .before .before .receive .ensures) (input-marks (s .args .rows .now) (s .args .g) (c .before .before .before .before .before .before .if1 .left) (sym (c .before .before .before .before .before .natural .ensures) ∙ c .before .before .before .before .match .keys1))
+    one-call _ _ (c .before .before .of-input .ensures) (input-marks (s .args .rows .now) (s .args .g) (c .before .before .before .before .before .before .if1 .left) (sym (c .before .before .before .before .before .natural .ensures) ∙ c .before .before .before .before .match .keys1))
 
 guard-input-same-length-2 : (t : ℕ) → guard-input-lts.Need-same-length-2 (guard-input-claims t) (guard-input-at t) guard-input.Post
 guard-input-same-length-2 t c = search needs
@@ -76,7 +76,7 @@ pub +guard-input-spec : {M : Type 1} → statement M
 +guard-input-spec = close μ-guard-input λ t. guard-input-lts.spec (guard-input-claims t) (guard-input-at t) guard-input.Post
     (guard-input-returns t)
     (guard-input-natural-requires t)
-    (guard-input-receive-requires t)
+    (guard-input-of-input-requires t)
     (guard-input-operand-requires t)
     (guard-input-guard-input-requires t)
     (guard-input-same-length t)

@@ -1,4 +1,4 @@
--- `marks::options`, which calls itself on the next option, meets its contract. The measure is the rows left to the table's end.
+-- `options`, which calls itself on the next option, meets its contract. The measure is the rows left to the table's end.
 use mathlib.Core.Path.{sym, _∙_}
 use Prim.Native.Nat.{_/_, _-_, ℕ, _<_}
 use native.Mathlib.Omega.{arith}

@@ -1,4 +1,4 @@
--- `marks::action` meets its contract: by the row's kind.
+-- `action` meets its contract: by the row's kind.
 use mathlib.Core.Path.{sym, _∙_}
 use borrow.Author.Needs.{needs}
 use Rattle.base_sets.proofs.SetLaws.{one-call}

@@ -1,4 +1,4 @@
--- `marks::cells` meets its contract: the layout gives the variable that the row names.
+-- `cells` meets its contract: the layout gives the variable that the row names.
 use mathlib.Core.Path.{ap}
 use borrow.Author.Needs.{needs}
 use Rattle.base_sets.specs.Sets.{inSort}

@@ -1,4 +1,4 @@
--- `marks::count` meets its contract: by the row of the subscript, a literal in the array, a literal outside it, or anything else.
+-- `count` meets its contract: by the row of the subscript, a literal in the array, a literal outside it, or anything else.
 use mathlib.Core.Path.{sym, ap, _∙_}
 use mathlib.Core.Logic.{⊎-elim}
 use borrow.Author.Needs.{needs}

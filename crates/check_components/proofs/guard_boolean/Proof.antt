@@ -1,4 +1,4 @@
--- `marks::guard_boolean` meets its contract: only a guard row has a boolean that is not a literal.
+-- `guard_boolean` meets its contract: only a guard row has a boolean that is not a literal.
 use mathlib.Core.Path.{sym, _∙_}
 use borrow.Author.Needs.{needs}
 use Rattle.base_sets.proofs.SetLaws.{no-call, one-call}

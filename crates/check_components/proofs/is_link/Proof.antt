@@ -1,4 +1,4 @@
--- `marks::is_link` meets its contract.
+-- `is_link` meets its contract.
 use mathlib.Core.Path.{sym}
 use borrow.Author.Tests.{le-ltb, lt-ltb, le-leb, lt-leb}
 use borrow.Author.Needs.{needs}

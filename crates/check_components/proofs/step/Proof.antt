@@ -1,4 +1,4 @@
--- `marks::step` meets its contract: by the row's kind.
+-- `step` meets its contract: by the row's kind.
 use mathlib.Core.Path.{sym, _∙_}
 use borrow.Author.Needs.{needs}
 use Rattle.base_sets.proofs.SetLaws.{no-call, one-call, two-calls}
@@ -18,11 +18,11 @@ operand-requires c κs = search needs
 expression-requires : tie.Need-expression-requires
 expression-requires c κs = search needs
 
-receive-requires : tie.Need-receive-requires
-receive-requires c κs = search needs
+of-input-requires : tie.Need-of-input-requires
+of-input-requires c κs = search needs
 
-send-requires : tie.Need-send-requires
-send-requires c κs = search needs
+of-output-requires : tie.Need-of-output-requires
+of-output-requires c κs = search needs
 
 same-length : tie.Need-same-length
 same-length c = search needs
@@ -38,7 +38,7 @@ same-length-2 c = search needs
 returns-2 : tie.Need-returns-2
 returns-2 c =
     let s = c .before .before .before .before .before .before .before .before in
-    one-call _ _ (c .before .before .receive .ensures) (own-input (s .args .rows .now) (s .args .r) (s .pre .0) (sym (c .before .before .before .before .before .natural .ensures) ∙ c .before .before .before .before .match .keys2))
+    one-call _ _ (c .before .before .of-input .ensures) (own-input (s .args .rows .now) (s .args .r) (s .pre .0) (sym (c .before .before .before .before .before .natural .ensures) ∙ c .before .before .before .before .match .keys2))
 
 same-length-3 : tie.Need-same-length-3
 same-length-3 c = search needs
@@ -46,7 +46,7 @@ same-length-3 c = search needs
 returns-3 : tie.Need-returns-3
 returns-3 c =
     let s = c .before .before .before .before .before .before .before .before in
-    one-call _ _ (c .before .before .send .ensures) (own-output (s .args .rows .now) (s .args .r) (s .pre .0) (sym (c .before .before .before .before .before .natural .ensures) ∙ c .before .before .before .before .match .keys3))
+    one-call _ _ (c .before .before .of-output .ensures) (own-output (s .args .rows .now) (s .args .r) (s .pre .0) (sym (c .before .before .before .before .before .natural .ensures) ∙ c .before .before .before .before .match .keys3))
 
 returns-4 : tie.Need-returns-4
 returns-4 c =
@@ -61,8 +61,8 @@ step-spec =
     target-requires
     operand-requires
     expression-requires
-    receive-requires
-    send-requires
+    of-input-requires
+    of-output-requires
     same-length
     returns
     same-length-2

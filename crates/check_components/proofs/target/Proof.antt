@@ -1,4 +1,4 @@
--- `marks::target` meets its contract: its cells are changed and used, and its subscript stands in it.
+-- `target` meets its contract: its cells are changed and used, and its subscript stands in it.
 use borrow.Author.Needs.{needs}
 use Rattle.base_sets.proofs.SetLaws.{three-calls}
 use Rattle.check_components.proofs.ExprMarks.{target-marks}

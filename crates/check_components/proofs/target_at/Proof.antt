@@ -1,4 +1,4 @@
--- `marks::target_at` meets its contract: only an element is a target.
+-- `target_at` meets its contract: only an element is a target.
 use mathlib.Core.Path.{sym, ap, _∙_}
 use borrow.Author.Needs.{needs}
 use Rattle.check_components.specs.Marks.{markTarget}

@@ -1,4 +1,4 @@
--- `usage::earliest_of` meets its contract.
+-- `earliest_of` meets its contract.
 use borrow.Author.Tests.{eq-eqb, ne-eqb}
 use Rattle.check_usage.specs.Clashes.{earliest}
 use Rattle.check_usage.proofs.earliest_of.Statement.{statement}

@@ -1,4 +1,4 @@
--- `usage::usage_fault` meets its contract: the layout of a table within the limits names what the rows declare.
+-- `usage_fault` meets its contract: the layout of a table within the limits names what the rows declare.
 use Rattle.check_usage.proofs.UsageFault.{within-limits}
 use Rattle.check_usage.proofs.usage_fault.Statement.{statement}
 use Rattle.check_usage.proofs.usage_fault.Tie as tie

@@ -1,4 +1,4 @@
--- `usage::usage_fault_with` meets its contract. No row before r has a clash of cells; `inputs` and `outputs` are the earliest rows with the other clashes.
+-- `usage_fault_with` meets its contract. No row before r has a clash of cells; `inputs` and `outputs` are the earliest rows with the other clashes.
 use mathlib.Core.Path.{_≡_, sym, ap, _∙_, subst}
 use mathlib.Core.Bool.{false}
 use Prim.Native.Nat.{ℕ, _-_, _<_, _≤_}

@@ -1,6 +1,6 @@
 -- `target` meets its contract: past the table and at other kinds there is none; at an element its variable and subscript are found.
 use mathlib.Core.Path.{sym, _∙_}
-use Rattle.evaluation.specs.Cells.{decoded}
+use Rattle.meaning.specs.Buffers.{decoded}
 use borrow.Author.Needs.{needs}
 use Rattle.offers.proofs.FoundTargets.{target-past, target-other, target-found}
 use Rattle.offers.proofs.target.Statement.{statement}

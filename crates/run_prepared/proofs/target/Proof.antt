@@ -4,7 +4,7 @@ use mathlib.Core.Path.{ap, _∙_}
 use mir.Syntax.{w32}
 use mir.ValLaws.{toZ-ofZ}
 use Rattle.meaning.specs.Rows.{naturalOf}
-use Rattle.evaluation.specs.Cells.{decoded}
+use Rattle.meaning.specs.Buffers.{decoded}
 use Rattle.run_prepared.proofs.CodeValues.{second-inside}
 use Rattle.run_prepared.proofs.Targets.{cell-target, element-at, no-target}
 use Rattle.run_prepared.proofs.target.Statement.{statement}

@@ -1,4 +1,4 @@
--- `usage::clash::among_members` meets its contract. The loop has compared the members before row `at` with each other; `earlier` holds what they count for.
+-- `clash::among_members` meets its contract. The loop has compared the members before row `at` with each other; `earlier` holds what they count for.
 use mathlib.Core.Path.{_≡_, refl, sym, ap, ap₂, _∙_}
 use mathlib.Core.List.{List}
 use Prim.Native.Nat.{ℕ, _/_, _-_}

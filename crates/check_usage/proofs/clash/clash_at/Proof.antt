@@ -1,4 +1,4 @@
--- `usage::clash::clash_at` meets its contract: only a PAR has components.
+-- `clash::clash_at` meets its contract: only a PAR has components.
 use mathlib.Core.Path.{sym, _∙_}
 use borrow.Author.Needs.{needs}
 use Rattle.check_usage.proofs.MemberSteps.{par-clashes, no-par}

@@ -1,4 +1,4 @@
--- `usage::clash::with_member` meets its contract: the sets of a member and those of the members before it, compared in each sort.
+-- `clash::with_member` meets its contract: the sets of a member and those of the members before it, compared in each sort.
 use mathlib.Core.Path.{ap, ap₂, _∙_}
 use mathlib.Core.Bool.{Bool, _||_}
 use borrow.Author.Needs.{needs}

@@ -1,10 +1,10 @@
--- `marks::receive` meets its contract: the layout gives the channel that the input names.
+-- `of_input` meets its contract: the layout gives the channel that the input names.
 use borrow.Author.Needs.{needs}
 use Rattle.base_sets.proofs.SetLaws.{three-calls}
-use Rattle.check_components.proofs.ExprMarks.{receive-marks}
+use Rattle.check_components.proofs.ExprMarks.{of-input-marks}
 use Rattle.check_components.proofs.NamedLaws.{source-named}
-use Rattle.check_components.proofs.receive.Statement.{statement}
-use Rattle.check_components.proofs.receive.Tie as tie
+use Rattle.check_components.proofs.of_input.Statement.{statement}
+use Rattle.check_components.proofs.of_input.Tie as tie
 
 operand-requires : tie.Need-operand-requires
 operand-requires c κs = search needs
@@ -34,10 +34,10 @@ returns : tie.Need-returns
 returns c =
     let s = c .before .before .before .before .before .before .before .before .before .before .before .before .before .before .before .before .before .before in
     let v = source-named (s .args .rows .now) (s .args .names .now) (s .pre .1) (s .args .r) (c .before .before .before .before .before .natural .ensures) (c .before .before .before .before .source-at .ensures) in
-    three-calls _ _ _ _ (c .before .before .before .before .before .before .before .before .before .before .before .before .before .target-at .ensures) (c .before .before .before .before .before .before .before .before .expression .ensures) (c .before .before .count .ensures) (receive-marks (s .args .rows .now) (s .args .r) (v .0) (v .1) (c .before .before .before .before .before .before .before .before .before .before .operand2 .ensures) (c .before .before .before .before .before .before .before .before .before .before .before .before .before .before .before .operand .ensures))
+    three-calls _ _ _ _ (c .before .before .before .before .before .before .before .before .before .before .before .before .before .target-at .ensures) (c .before .before .before .before .before .before .before .before .expression .ensures) (c .before .before .count .ensures) (of-input-marks (s .args .rows .now) (s .args .r) (v .0) (v .1) (c .before .before .before .before .before .before .before .before .before .before .operand2 .ensures) (c .before .before .before .before .before .before .before .before .before .before .before .before .before .before .before .operand .ensures))
 
-pub receive-spec : {M : Type 1} → statement M
-receive-spec =
+pub of-input-spec : {M : Type 1} → statement M
+of-input-spec =
     tie.close
     (tie.spec
     operand-requires

@@ -1,10 +1,10 @@
--- `marks::send` meets its contract: the layout gives the channel that the output names.
+-- `of_output` meets its contract: the layout gives the channel that the output names.
 use borrow.Author.Needs.{needs}
 use Rattle.base_sets.proofs.SetLaws.{three-calls}
-use Rattle.check_components.proofs.ExprMarks.{send-marks}
+use Rattle.check_components.proofs.ExprMarks.{of-output-marks}
 use Rattle.check_components.proofs.NamedLaws.{sink-named}
-use Rattle.check_components.proofs.send.Statement.{statement}
-use Rattle.check_components.proofs.send.Tie as tie
+use Rattle.check_components.proofs.of_output.Statement.{statement}
+use Rattle.check_components.proofs.of_output.Tie as tie
 
 operand-requires : tie.Need-operand-requires
 operand-requires c κs = search needs
@@ -34,10 +34,10 @@ returns : tie.Need-returns
 returns c =
     let s = c .before .before .before .before .before .before .before .before .before .before .before .before .before .before .before .before .before .before in
     let v = sink-named (s .args .rows .now) (s .args .names .now) (s .pre .1) (s .args .r) (c .before .before .before .before .before .before .before .before .before .before .before .before .before .before .natural .ensures) (c .before .before .before .before .before .before .before .before .before .before .before .before .before .sink-at .ensures) in
-    three-calls _ _ _ _ (c .before .before .before .before .before .before .before .before .before .before .before .count .ensures) (c .before .before .before .before .before .before .before .expression .ensures) (c .before .before .expression2 .ensures) (send-marks (s .args .rows .now) (s .args .r) (v .0) (v .1) (c .before .before .before .before .before .before .before .before .before .before .before .before .before .before .before .operand .ensures) (c .before .before .before .before .operand2 .ensures))
+    three-calls _ _ _ _ (c .before .before .before .before .before .before .before .before .before .before .before .count .ensures) (c .before .before .before .before .before .before .before .expression .ensures) (c .before .before .expression2 .ensures) (of-output-marks (s .args .rows .now) (s .args .r) (v .0) (v .1) (c .before .before .before .before .before .before .before .before .before .before .before .before .before .before .before .operand .ensures) (c .before .before .before .before .operand2 .ensures))
 
-pub send-spec : {M : Type 1} → statement M
-send-spec =
+pub of-output-spec : {M : Type 1} → statement M
+of-output-spec =
     tie.close
     (tie.spec
     operand-requires
