@@ -11,7 +11,7 @@ use Rattle.meaning.specs.Values.{Message}
 use Rattle.meaning.specs.State.{Write, writeCell, Effect}
 use Rattle.meaning.specs.Labels.{Label, own, pass, takeOption, takeWithOutput}
 use Rattle.meaning.specs.Intent.{Offer, openOffer, inputOffer, Intent, waits, moves, inputsFrom, outputsTo, selects}
-use Rattle.meaning.specs.Ready.{ownEffect, WaitingInput, communicationWhere, communicationEffect, passEffect, takeEffect, takeFromEffect, optionRow, offerEffectAt, offerEffect, effectOf}
+use Rattle.meaning.specs.Ready.{ownEffect, WaitingInput, communicationWhere, communicationEffect, passEffect, takeOptionEffect, takeWithOutputEffect, optionRow, offerEffectAt, offerEffect, effectOf}
 use Rattle.meaning.specs.Step.{becomes, effect}
 pub use Rattle.agreement.specs.RowsOfSteps.{RowOf, of-own, of-input, of-output, of-alt, of-alt-input, of-alt-output, offerAt}
 
@@ -85,26 +85,26 @@ module _ (w : ℕ → Intent) where
   active-offer x r j e f k (outputsTo d v) h q = absurd (Option·none-ne-some e q)
   active-offer x r j e f k (selects os) h q = let (o, g, z) = found-at j f e os q in k os o h g z
 
-  active-take : (r j : ℕ) (e : Effect) (os : List Offer) (o : Offer) → w r ≡ selects os → offerAt j os ≡ some o → takeEffect r o ≡ some e → Active w (takeOption r j) e
+  active-take : (r j : ℕ) (e : Effect) (os : List Offer) (o : Offer) → w r ≡ selects os → offerAt j os ≡ some o → takeOptionEffect r o ≡ some e → Active w (takeOption r j) e
   active-take r j e os (openOffer i q ws) h g z = same-effect (takeOption r j) e (effect (becomes r q 1 ∷ []) ws) z (takes-open h g)
   active-take r j e os (inputOffer i q d a) h g z = absurd (Option·none-ne-some e z)
 
-  active-takeFrom : (r j o : ℕ) (e : Effect) (os : List Offer) (p : Offer) → w r ≡ selects os → offerAt j os ≡ some p → takeFromEffect r o (w o) p ≡ some e → Active w (takeWithOutput r j o) e
+  active-takeFrom : (r j o : ℕ) (e : Effect) (os : List Offer) (p : Offer) → w r ≡ selects os → offerAt j os ≡ some p → takeWithOutputEffect r o (w o) p ≡ some e → Active w (takeWithOutput r j o) e
   active-takeFrom r j o e os (openOffer i q ws) h g z = absurd (Option·none-ne-some e z)
   active-takeFrom r j o e os (inputOffer i q d a) h g z = meets-output (takeWithOutput r j o) e (record { element = d; cell = a; change = becomes r q 1 }) o (w o) refl (λ m k. takes-input h g k) z
 
   pub active : (x : Label) (e : Effect) → effectOf x w ≡ some e → Active w x e
   active (own r) e q = active-own r e (w r) refl q
   active (pass i o) e q = active-pass i o e (w i) refl q
-  active (takeOption r j) e q = active-offer (takeOption r j) r j e (takeEffect r) (active-take r j e) (w r) refl q
-  active (takeWithOutput r j o) e q = active-offer (takeWithOutput r j o) r j e (takeFromEffect r o (w o)) (active-takeFrom r j o e) (w r) refl q
+  active (takeOption r j) e q = active-offer (takeOption r j) r j e (takeOptionEffect r) (active-take r j e) (w r) refl q
+  active (takeWithOutput r j o) e q = active-offer (takeWithOutput r j o) r j e (takeWithOutputEffect r o (w o)) (active-takeFrom r j o e) (w r) refl q
 
 -- a step does the same where its rows would do the same
 pub effect-same : (x : Label) (w u : ℕ → Intent) → ((r : ℕ) → RowOf x r → w r ≡ u r) → effectOf x w ≡ effectOf x u
 effect-same (own r) w u h = ap (ownEffect r) (h r of-own)
 effect-same (pass i o) w u h = ap₂ (passEffect i o) (h i of-input) (h o of-output)
-effect-same (takeOption r j) w u h = ap (offerEffect j (takeEffect r)) (h r of-alt)
-effect-same (takeWithOutput r j o) w u h = ap₂ (λ (a b : Intent). offerEffect j (takeFromEffect r o a) b) (h o of-alt-output) (h r of-alt-input)
+effect-same (takeOption r j) w u h = ap (offerEffect j (takeOptionEffect r)) (h r of-alt)
+effect-same (takeWithOutput r j o) w u h = ap₂ (λ (a b : Intent). offerEffect j (takeWithOutputEffect r o a) b) (h o of-alt-output) (h r of-alt-input)
 
 -- ---- what a row would do is one thing
 

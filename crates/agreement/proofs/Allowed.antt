@@ -19,7 +19,7 @@ use Rattle.meaning.specs.State.{State, Program, processAt, Write, writeCell, wr
 use Rattle.meaning.specs.Labels.{Label, own, pass, takeOption, takeWithOutput}
 use Rattle.meaning.specs.Readings.{Sheet}
 use Rattle.meaning.specs.Intent.{Offer, openOffer, inputOffer, Intent, waits, moves, inputsFrom, outputsTo, selects, assigning, testing, choosing, hostWrite, outputting, InputResult, lacks, notYet, reads, fromElement, hostRead, inputResultOf, inputting, OptionsResult, fails, offers, adding, admitting, opening, guarding, selecting, inputResult, inputResultIf, tests, optionsResult, intent}
-use Rattle.meaning.specs.Ready.{allIdle, isLive, intentAt, ownEffect, WaitingInput, communicationWhere, communicationEffect, passEffect, takeEffect, takeFromEffect, optionRow, offerEffectAt, offerEffect, effectOf}
+use Rattle.meaning.specs.Ready.{allIdle, isLive, intentAt, ownEffect, WaitingInput, communicationWhere, communicationEffect, passEffect, takeOptionEffect, takeWithOutputEffect, optionRow, offerEffectAt, offerEffect, effectOf}
 use Rattle.meaning.specs.Step.{channelElement, targetCell, Holds, holds, refuted, LacksIn, channel-lacks, target-lacks, FirstTrue, LacksTest, boolean-lacks, input-lacks, Complete, closed, open-skip, open-input, LacksOption, AllComplete, complete-none, complete-more, assign-subscript, assign-value, input-subscript, output-subscript, output-value, while-test, if-test, alt-guard, InnerInput, inner-input, HostInput, host-input, InnerOutput, inner-output, Live, becomes, effect, Allows, assignment, while-false, while-true, if-true, communication, host-read, host-write, alt-skip, alt-read, alt-communication, stopping}
 
 is-true : (t : Bool) → t ≡ true → T t
@@ -272,13 +272,13 @@ module _ (P : Program) (sheet : Sheet) (s : State) where
       go true g q ih = k o h (eqb→eq (optionRow o) j (is-true (eqb (optionRow o) j) g)) q
       go false g q ih = ih q
 
-  one-take : (r j : ℕ) (e : Effect) (bs : List AltOption) → Live P s r (alternation bs) → AllComplete cells bs → (o : Offer) → OfferOf bs o → optionRow o ≡ j → takeEffect r o ≡ some e → To (takeOption r j) e
+  one-take : (r j : ℕ) (e : Effect) (bs : List AltOption) → Live P s r (alternation bs) → AllComplete cells bs → (o : Offer) → OfferOf bs o → optionRow o ≡ j → takeOptionEffect r o ≡ some e → To (takeOption r j) e
   one-take r j e bs g c o (by-skip b m h i) n q = to (takeOption r j) e (effect (becomes r (b .process) 1 ∷ []) []) q (rw (← n) (alt-skip g c m h i))
   one-take r j e bs g c o (by-host b i a k v m h u t) n q =
       to (takeOption r j) e (effect (becomes r (b .process) 1 ∷ []) (writeCell a v ∷ writePlace (i .channel .number) (suc k) ∷ [])) q (rw (← n) (alt-read g c m h u t))
   one-take r j e bs g c o (by-inner b i d a m h u t) n q = absurd (Option·none-ne-some e q)
 
-  one-takeFrom : (r j o : ℕ) (e : Effect) (u : Intent) (bs : List AltOption) → Sound o u → Live P s r (alternation bs) → AllComplete cells bs → (p : Offer) → OfferOf bs p → optionRow p ≡ j → takeFromEffect r o u p ≡ some e
+  one-takeFrom : (r j o : ℕ) (e : Effect) (u : Intent) (bs : List AltOption) → Sound o u → Live P s r (alternation bs) → AllComplete cells bs → (p : Offer) → OfferOf bs p → optionRow p ≡ j → takeWithOutputEffect r o u p ≡ some e
       → To (takeWithOutput r j o) e
   one-takeFrom r j o e u bs k g c p (by-skip b m h i) n q = absurd (Option·none-ne-some e q)
   one-takeFrom r j o e u bs k g c p (by-host b i a y v m h w t) n q = absurd (Option·none-ne-some e q)
@@ -297,6 +297,6 @@ module _ (P : Program) (sheet : Sheet) (s : State) where
   pub allowed : (x : Label) (e : Effect) → effectOf x (intentAt P sheet s) ≡ some e → Allows P sheet s x e
   allowed (own r) e q = own-allowed r e (intentAt P sheet s r) (wanted r) q
   allowed (pass i o) e q = pass-allowed i o e (intentAt P sheet s i) (intentAt P sheet s o) (wanted i) (wanted o) q
-  allowed (takeOption r j) e q = take-allowed (takeOption r j) j e (takeEffect r) r (intentAt P sheet s r) (wanted r) (one-take r j e) q
+  allowed (takeOption r j) e q = take-allowed (takeOption r j) j e (takeOptionEffect r) r (intentAt P sheet s r) (wanted r) (one-take r j e) q
   allowed (takeWithOutput r j o) e q =
-      take-allowed (takeWithOutput r j o) j e (takeFromEffect r o (intentAt P sheet s o)) r (intentAt P sheet s r) (wanted r) (λ bs g c p h n z. one-takeFrom r j o e (intentAt P sheet s o) bs (wanted o) g c p h n z) q
+      take-allowed (takeWithOutput r j o) j e (takeWithOutputEffect r o (intentAt P sheet s o)) r (intentAt P sheet s r) (wanted r) (λ bs g c p h n z. one-takeFrom r j o e (intentAt P sheet s o) bs (wanted o) g c p h n z) q

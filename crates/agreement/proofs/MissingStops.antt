@@ -15,7 +15,7 @@ use Rattle.meaning.specs.Labels.{Label, own, pass, takeOption, takeWithOutput}
 use Rattle.meaning.specs.Readings.{Sheet}
 use Rattle.meaning.specs.Settle.{settled}
 use Rattle.meaning.specs.Intent.{Offer, openOffer, inputOffer, Intent, waits, moves, inputsFrom, outputsTo, selects}
-use Rattle.meaning.specs.Ready.{intentAt, takeFromEffect, optionRow, offerEffectAt, offerEffect, passEffect, effectOf}
+use Rattle.meaning.specs.Ready.{intentAt, takeWithOutputEffect, optionRow, offerEffectAt, offerEffect, passEffect, effectOf}
 use Rattle.meaning.specs.Step.{Lacks, Live, Allows, Leaves, Step, stopping}
 use Rattle.agreement.specs.MissingClaims.{OfRow, OneReason, stopEffect, LackingOnlyStops}
 use Rattle.agreement.proofs.Takeable.{takeable, live-want, lacks-want}
@@ -58,18 +58,18 @@ module _ (rows : List ℤ) (sheet : Sheet) (s : State) (r reason : ℕ) (a : Act
   nothing-sent i (selects l) u e q p = Option·none-ne-some e p
 
   -- nor does an offer of an ALT
-  nothing-taken : (q j : ℕ) (l : List Offer) (e : Effect) → ¬ (offerEffectAt j (takeFromEffect q r (moves r (10 + reason) [])) l ≡ some e)
+  nothing-taken : (q j : ℕ) (l : List Offer) (e : Effect) → ¬ (offerEffectAt j (takeWithOutputEffect q r (moves r (10 + reason) [])) l ≡ some e)
   nothing-taken q j [] e p = Option·none-ne-some e p
   nothing-taken q j (o ∷ l) e p = here o (eqb (optionRow o) j) p (λ h. nothing-taken q j l e h)
     where
-      here : (o : Offer) (t : Bool) → ifElse t (takeFromEffect q r (moves r (10 + reason) []) o) (offerEffectAt j (takeFromEffect q r (moves r (10 + reason) [])) l) ≡ some e
-          → ¬ (offerEffectAt j (takeFromEffect q r (moves r (10 + reason) [])) l ≡ some e) → ⊥
+      here : (o : Offer) (t : Bool) → ifElse t (takeWithOutputEffect q r (moves r (10 + reason) []) o) (offerEffectAt j (takeWithOutputEffect q r (moves r (10 + reason) [])) l) ≡ some e
+          → ¬ (offerEffectAt j (takeWithOutputEffect q r (moves r (10 + reason) [])) l ≡ some e) → ⊥
       here (openOffer k x ws) true p h = Option·none-ne-some e p
       here (inputOffer k x d c) true p h = Option·none-ne-some e p
       here (openOffer k x ws) false p h = h p
       here (inputOffer k x d c) false p h = h p
 
-  nothing-taken-from : (q j : ℕ) (w u : Intent) (e : Effect) → u ≡ moves r (10 + reason) [] → ¬ (offerEffect j (takeFromEffect q r u) w ≡ some e)
+  nothing-taken-from : (q j : ℕ) (w u : Intent) (e : Effect) → u ≡ moves r (10 + reason) [] → ¬ (offerEffect j (takeWithOutputEffect q r u) w ≡ some e)
   nothing-taken-from q j waits u e z p = Option·none-ne-some e p
   nothing-taken-from q j (moves x v ws) u e z p = Option·none-ne-some e p
   nothing-taken-from q j (inputsFrom d c) u e z p = Option·none-ne-some e p

@@ -16,7 +16,7 @@ use Rattle.meaning.specs.State.{State, Program, processAt, Write, writeCell, St
 use Rattle.meaning.specs.Labels.{Label, own, pass, takeOption, takeWithOutput, orderRow}
 use Rattle.meaning.specs.Readings.{Sheet}
 use Rattle.meaning.specs.Intent.{Offer, openOffer, inputOffer, Intent, waits, moves, inputsFrom, outputsTo, selects, intent}
-use Rattle.meaning.specs.Ready.{allIdle, runningFrom, ownEffect, WaitingInput, communicationWhere, communicationEffect, passEffect, takeEffect, takeFromEffect, optionRow, offerEffectAt, offerEffect, effectOf, RunningRow, outputAt, outputsAt, offered, stepsOf, stepsAll, stepsAt, byRow, isLive, intentAt, runningRows, ready}
+use Rattle.meaning.specs.Ready.{allIdle, runningFrom, ownEffect, WaitingInput, communicationWhere, communicationEffect, passEffect, takeOptionEffect, takeWithOutputEffect, optionRow, offerEffectAt, offerEffect, effectOf, RunningRow, outputAt, outputsAt, offered, stepsOf, stepsAll, stepsAt, byRow, isLive, intentAt, runningRows, ready}
 
 true-is : (t : Bool) → T t → t ≡ true
 true-is true h = refl
@@ -229,11 +229,11 @@ module _ (P : Program) (sheet : Sheet) (s : State) where
 
   module _ (D : (r : ℕ) (l : List Offer) → W r ≡ selects l → Distinct l) where
     made : (r : ℕ) (l : List Offer) (x : Label) → W r ≡ selects l → Makes r B l x → (e : Effect) × (effectOf x W ≡ some e)
-    made r l x h (by-free j q ws m) = (effect (mark r q 1 ∷ []) ws, rw h (found (takeEffect r) (openOffer j q ws) l (D r l h) m))
+    made r l x h (by-free j q ws m) = (effect (mark r q 1 ∷ []) ws, rw h (found (takeOptionEffect r) (openOffer j q ws) l (D r l h) m))
     made r l x h (by-meets j q d a o m n) =
         let (z, g) = giver-wants d o n in
         let (e, k) = from-gives (record { element = d; cell = a; change = mark r q 1 }) o z g in
-        (e, rw h (found (takeFromEffect r o (W o)) (inputOffer j q d a) l (D r l h) m ∙ k))
+        (e, rw h (found (takeWithOutputEffect r o (W o)) (inputOffer j q d a) l (D r l h) m ∙ k))
 
     step-can : (r : ℕ) (w : Intent) (x : Label) → W r ≡ w → List·Memᴰ x (stepsOf B r w) → (e : Effect) × (effectOf x W ≡ some e)
     step-can r waits x h m = absurd (List·Memᴰ·not-nil m)
@@ -304,11 +304,11 @@ module _ (P : Program) (sheet : Sheet) (s : State) where
           let b = L r l h o m in
           listed x r (rw h) (rw h (k l o m g t)) (omega arith)
 
-      free-listed : (r j : ℕ) (e : Effect) (l : List Offer) (o : Offer) → List·Memᴰ o l → optionRow o ≡ j → takeEffect r o ≡ some e → List·Memᴰ (takeOption r j) (offered r B l)
+      free-listed : (r j : ℕ) (e : Effect) (l : List Offer) (o : Offer) → List·Memᴰ o l → optionRow o ≡ j → takeOptionEffect r o ≡ some e → List·Memᴰ (takeOption r j) (offered r B l)
       free-listed r j e l (openOffer i q ws) m g t = rw (← g) (free-mem r i q ws B l m)
       free-listed r j e l (inputOffer i q d a) m g t = absurd (Option·none-ne-some e t)
 
-      meets-listed : (r j p : ℕ) (e : Effect) (l : List Offer) (o : Offer) → List·Memᴰ o l → optionRow o ≡ j → takeFromEffect r p (W p) o ≡ some e → List·Memᴰ (takeWithOutput r j p) (offered r B l)
+      meets-listed : (r j p : ℕ) (e : Effect) (l : List Offer) (o : Offer) → List·Memᴰ o l → optionRow o ≡ j → takeWithOutputEffect r p (W p) o ≡ some e → List·Memᴰ (takeWithOutput r j p) (offered r B l)
       meets-listed r j p e l (openOffer i q ws) m g t = absurd (Option·none-ne-some e t)
       meets-listed r j p e l (inputOffer i q d a) m g t =
           let (z, h) = partner (record { element = d; cell = a; change = mark r q 1 }) p e (W p) t in
@@ -318,5 +318,5 @@ module _ (P : Program) (sheet : Sheet) (s : State) where
       pub can-ready : (x : Label) (e : Effect) → effectOf x W ≡ some e → List·Memᴰ x (ready P sheet s)
       can-ready (own r) e q = own-listed r e (W r) refl q
       can-ready (pass i o) e q = pass-listed i o e (W i) refl q
-      can-ready (takeOption r j) e q = offer-listed r j (takeOption r j) e (takeEffect r) (W r) refl (free-listed r j e) refl q
-      can-ready (takeWithOutput r j o) e q = offer-listed r j (takeWithOutput r j o) e (takeFromEffect r o (W o)) (W r) refl (meets-listed r j o e) refl q
+      can-ready (takeOption r j) e q = offer-listed r j (takeOption r j) e (takeOptionEffect r) (W r) refl (free-listed r j e) refl q
+      can-ready (takeWithOutput r j o) e q = offer-listed r j (takeWithOutput r j o) e (takeWithOutputEffect r o (W o)) (W r) refl (meets-listed r j o e) refl q

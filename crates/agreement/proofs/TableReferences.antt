@@ -20,7 +20,7 @@ use Rattle.meaning.specs.TableBytes.{numbersFault}
 use Rattle.meaning.specs.Kinds.{Field, unused, literalValue, within, elements, capacity, variable, channel, reference, link, Shape, shape, shapeOf, shapes, shapeIn, expression, process}
 use Rattle.meaning.specs.Declarations.{declarations}
 use Rattle.meaning.specs.Nodes.{nodeAt}
-use Rattle.meaning.specs.References.{Place, of-a, of-b, of-c, fieldOf, numberOf, IsTarget, RefersBy, Refers}
+use Rattle.meaning.specs.References.{Column, of-a, of-b, of-c, fieldOf, numberOf, IsTarget, RefersBy, Refers}
 use Rattle.meaning.specs.Faults.{Leads, Once, Placed, WellPlaced}
 use Rattle.meaning.proofs.AnswerLaws.{RightRows}
 use Rattle.meaning.proofs.OneTreeLaw.{declared, declares-only}
@@ -55,7 +55,7 @@ Leading (reference kinds) = Unit {0}
 Leading (link kinds) = Unit {0}
 
 -- a reference that is not a guard's: neither field c of an option nor field b of a guard
-abbrev pub unguarded : ℕ → Place → Bool
+abbrev pub unguarded : ℕ → Column → Bool
 unguarded k of-a = true
 unguarded k of-b = not (eqb k 43)
 unguarded k of-c = not (eqb k 42)
@@ -70,7 +70,7 @@ module _ (rows : List ℤ) where
   abbrev pub Shaped : ℕ → ℕ → Shape → Type 0
   Shaped r k s = (kindAt rows r ≡ k) × (2 < k) × (shapeOf k ≡ some s)
 
-  abbrev pub Holding : ℕ → Place → ℕ → Type 0
+  abbrev pub Holding : ℕ → Column → ℕ → Type 0
   Holding r p b = naturalOf (numberOf rows r p) ≡ b
 
   -- the fields of a row that holds processes together
@@ -138,7 +138,7 @@ module _ (rows : List ℤ) where
     row-placed r d l = placed r (omega arith) .1 (d, l)
 
     -- a field leads to where it may
-    pub row-leads : (r k : ℕ) (s : Shape) → r < rowCount rows → Shaped r k s → (p : Place) → Leads rows r (fieldOf s p) (numberOf rows r p)
+    pub row-leads : (r k : ℕ) (s : Shape) → r < rowCount rows → Shaped r k s → (p : Column) → Leads rows r (fieldOf s p) (numberOf rows r p)
     unfolding Placed
     row-leads r k s l h p = row-placed r (undeclared r (rw (h .0) (h .1))) l .0 s (rw (h .0) (h .2)) p
 
@@ -149,7 +149,7 @@ module _ (rows : List ℤ) where
     to-row r b (link ks) z u (inr h) e l = let i : h .0 ≡ b = sym (ap naturalOf (h .1)) ∙ e in (h .1 ∙ ap pos i, subst (IsTarget rows r ks) i (h .2))
 
     -- so where a field may refer to a row and holds one, it does refer to it
-    pub row-refers : (r k b : ℕ) (s : Shape) (p : Place) → r < rowCount rows → Shaped r k s → Leading (fieldOf s p) → Holding r p b → b < rowCount rows → Refers rows r p b
+    pub row-refers : (r k b : ℕ) (s : Shape) (p : Column) → r < rowCount rows → Shaped r k s → Leading (fieldOf s p) → Holding r p b → b < rowCount rows → Refers rows r p b
     unfolding Refers
     row-refers r k b s p l h u e m = (s, rw (h .0) (h .2), to-row r b (fieldOf s p) (numberOf rows r p) u (row-leads r k s l h p) e m)
 
@@ -166,18 +166,18 @@ module _ (rows : List ℤ) where
     pub placed-at : (r : ℕ) → declarations rows ≤ r → r < rowCount rows → Placed rows r
     placed-at = row-placed few-rows (A .2)
 
-    pub leads-at : (r k : ℕ) (s : Shape) → r < rowCount rows → Shaped r k s → (p : Place) → Leads rows r (fieldOf s p) (numberOf rows r p)
+    pub leads-at : (r k : ℕ) (s : Shape) → r < rowCount rows → Shaped r k s → (p : Column) → Leads rows r (fieldOf s p) (numberOf rows r p)
     leads-at = row-leads few-rows (A .2)
 
-    pub refers-to : (r k b : ℕ) (s : Shape) (p : Place) → r < rowCount rows → Shaped r k s → Leading (fieldOf s p) → Holding r p b → b < rowCount rows → Refers rows r p b
+    pub refers-to : (r k b : ℕ) (s : Shape) (p : Column) → r < rowCount rows → Shaped r k s → Leading (fieldOf s p) → Holding r p b → b < rowCount rows → Refers rows r p b
     refers-to = row-refers few-rows (A .2)
 
-    pub refers-up : (r c : ℕ) (p : Place) → Refers rows r p c → (r < c) × (c < rowCount rows)
+    pub refers-up : (r c : ℕ) (p : Column) → Refers rows r p c → (r < c) × (c < rowCount rows)
     unfolding Refers
     refers-up r c p h = bounds rows c r (fieldOf (h .0) p) (numberOf rows r p) (h .2)
 
     -- a row is referred to by one row and one of its fields
-    pub once : (r q c : ℕ) (p o : Place) → Refers rows r p c → Refers rows q o c → (r ≡ q) × (p ≡ o)
+    pub once : (r q c : ℕ) (p o : Column) → Refers rows r p c → Refers rows q o c → (r ≡ q) × (p ≡ o)
     unfolding Placed Once
     once r q c p o h i = go (decLt c (declarations rows)) (decLt (declarations rows) c)
       where
@@ -196,18 +196,18 @@ module _ (rows : List ℤ) where
     -- row c itself, and the rows beneath it but for those of guards
     pub data Desc (c : ℕ) : ℕ → Type 0 where
       self : Desc c c
-      down : {y x : ℕ} (p : Place) → Desc c y → Refers rows y p x → unguarded (kindAt rows y) p ≡ true → Desc c x
+      down : {y x : ℕ} (p : Column) → Desc c y → Refers rows y p x → unguarded (kindAt rows y) p ≡ true → Desc c x
 
     pub desc-le : {c x : ℕ} → Desc c x → c ≤ x
     desc-le {c} self = omega arith
     desc-le (down {y} {x} p h r u) = let l = desc-le h in let u = refers-up y x p r in omega arith
 
-    pub desc-from : {r c x : ℕ} (p : Place) → Refers rows r p c → unguarded (kindAt rows r) p ≡ true → Desc c x → Desc r x
+    pub desc-from : {r c x : ℕ} (p : Column) → Refers rows r p c → unguarded (kindAt rows r) p ≡ true → Desc c x → Desc r x
     desc-from p e u self = down p self e u
     desc-from p e u (down o h r v) = down o (desc-from p e u h) r v
 
     -- two rows that one row refers to have nothing beneath in common
-    pub parted : (r : ℕ) {c c′ x : ℕ} (p o : Place) → Refers rows r p c → Refers rows r o c′ → c ≢ c′ → Desc c x → Desc c′ x → ⊥
+    pub parted : (r : ℕ) {c c′ x : ℕ} (p o : Column) → Refers rows r p c → Refers rows r o c′ → c ≢ c′ → Desc c x → Desc c′ x → ⊥
     parted r p o e e′ ne self self = ne refl
     parted r {c} {c′} p o e e′ ne self (down {y} i h q v) = let l = desc-le h in let s = once r y c p i e q .0 in let u = refers-up r c′ o e′ in omega arith
     parted r {c} {c′} p o e e′ ne (down {y} i h q v) self = let l = desc-le h in let s = once r y c′ o i e′ q .0 in let u = refers-up r c p e in omega arith

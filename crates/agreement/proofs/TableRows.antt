@@ -11,7 +11,7 @@ use Rattle.meaning.specs.declared.Node.{Node}
 use Rattle.meaning.specs.declared.Node.the-variants.{Literal, Element, Monadic, Dyadic, Stop, Skip, Assignment, Input, Output, Seq, Par, If, While, Alt, Member, Choice, OptionRow, Guard, Other}
 use Rattle.meaning.specs.Rows.{rowCount, kindAt}
 use Rattle.meaning.specs.Kinds.{Shape}
-use Rattle.meaning.specs.References.{Place, of-a, of-b, fieldOf, Refers}
+use Rattle.meaning.specs.References.{Column, of-a, of-b, fieldOf, Refers}
 use Rattle.meaning.specs.Tree.{Action, stop, skip, sequence, parallel, assign, input, output, conditional, loop, alternation, Process, node, Processes, empty, Content, noContent, andProcess, inputOf, contentOf, contentAt, rowsIn, rowsBeneath}
 use Rattle.meaning.specs.Declarations.{variableAt, sinkAt}
 use Rattle.meaning.specs.Nodes.{nodeAt}
@@ -47,37 +47,37 @@ module _ (rows : List ℤ) (A : RightRows rows) where
   nothing r = (λ x m. absurd (List·Memᴰ·not-nil m), tt, λ x m. absurd (List·Memᴰ·not-nil m), tt)
 
   -- all these rows are at a row to which field p of row r refers, or beneath it
-  abbrev By : ℕ → Place → List ℕ → Type 0
+  abbrev By : ℕ → Column → List ℕ → Type 0
   By r p R = (x : ℕ) → List·Memᴰ x R → (b : ℕ) × Refers rows r p b × (unguarded (kindAt rows r) p ≡ true) × Desc rows A b x
 
-  by-down : (r : ℕ) (p : Place) (R : List ℕ) → By r p R → Down r R
+  by-down : (r : ℕ) (p : Column) (R : List ℕ) → By r p R → Down r R
   by-down r p R f x m = let (b, g, u, d) = f x m in desc-from rows A p g u d
 
   -- a row of its own before members that hang at a field
-  row-out : (r : ℕ) (p : Place) (R : List ℕ) → By r p R → Out r R
+  row-out : (r : ℕ) (p : Column) (R : List ℕ) → By r p R → Out r R
   row-out r p R f m = let (b, g, v, d) = f r m in let l = desc-le rows A d in let u = refers-up rows A r b p g in omega arith
 
   with-row : (r : ℕ) (R : List ℕ) → Down r R → Down r (r ∷ R)
   with-row r R f x (List·Memᴰ·head e) = rw e self
   with-row r R f x (List·Memᴰ·tail m) = f x m
 
-  apart : (r : ℕ) (p o : Place) (R Q : List ℕ) → (p ≡ o → ⊥) → By r p R → By r o Q → Off R Q
+  apart : (r : ℕ) (p o : Column) (R Q : List ℕ) → (p ≡ o → ⊥) → By r p R → By r o Q → Off R Q
   apart r p o R Q ne f g x m n =
       let (b, i, u, d) = f x m in
       let (c, j, v, e) = g x n in
       parted rows A r p o i j (λ s. ne (once rows A r r b p o i (subst (λ (y : ℕ). Refers rows r o y) (sym s) j) .1)) d e
 
-  abbrev ProcessBy : ℕ → Place → Option Process → Type 0
+  abbrev ProcessBy : ℕ → Column → Option Process → Type 0
   ProcessBy r p o = By r p (rowsOf o) × SoundO o (rowCount rows)
 
-  abbrev MembersBy : ℕ → Place → Processes → Type 0
+  abbrev MembersBy : ℕ → Column → Processes → Type 0
   MembersBy r p ms = By r p (rowsBeneath ms) × SoundM ms (rowCount rows)
 
-  none-by : (r : ℕ) (p : Place) → MembersBy r p empty
+  none-by : (r : ℕ) (p : Column) → MembersBy r p empty
   none-by r p = (λ x m. absurd (List·Memᴰ·not-nil m), tt)
 
   -- a process and members that hang at two fields of a row
-  join : (r : ℕ) (p o : Place) → (p ≡ o → ⊥) → (q : Option Process) (ms : Processes) → ProcessBy r p q → MembersBy r o ms
+  join : (r : ℕ) (p o : Column) → (p ≡ o → ⊥) → (q : Option Process) (ms : Processes) → ProcessBy r p q → MembersBy r o ms
       → Down r (rowsBeneath (andProcess q ms)) × SoundM (andProcess q ms) (rowCount rows)
   join r p o ne none ms f g = (by-down r o (rowsBeneath ms) (g .0), g .1)
   join r p o ne (some q) ms f g = (
@@ -86,12 +86,12 @@ module _ (rows : List ℤ) (A : RightRows rows) where
   )
 
   -- one process that hangs at a field
-  single : (r : ℕ) (p : Place) (q : Option Process) → ProcessBy r p q → MembersBy r p (andProcess q empty)
+  single : (r : ℕ) (p : Column) (q : Option Process) → ProcessBy r p q → MembersBy r p (andProcess q empty)
   single r p none f = none-by r p
   single r p (some q) f = (λ x m. ⊎-elim (f .0 x) (λ n. absurd (List·Memᴰ·not-nil n)) (List·Memᴰ·append-cases (rowsIn q) m), (f .1, tt, λ x m n. List·Memᴰ·not-nil n))
 
   -- the process of a row, by its members; a row of members
-  group : (r : ℕ) (k : Action) (p : Place) (ms : Processes) → r < rowCount rows → MembersBy r p ms → Here r (some (node k r ms)) empty
+  group : (r : ℕ) (k : Action) (p : Column) (ms : Processes) → r < rowCount rows → MembersBy r p ms → Here r (some (node k r ms)) empty
   group r k p ms l f = (with-row r (rowsBeneath ms) (by-down r p (rowsBeneath ms) (f .0)), (l, row-out r p (rowsBeneath ms) (f .0), f .1), λ x m. absurd (List·Memᴰ·not-nil m), tt)
 
   alone : (r : ℕ) (k : Action) → r < rowCount rows → Here r (some (node k r empty)) empty
@@ -102,14 +102,14 @@ module _ (rows : List ℤ) (A : RightRows rows) where
 
   module _ (r : ℕ) (l : r < rowCount rows) (at : ℕ → Content) (known : (b : ℕ) → Known rows RowsOk r b (at b)) where
     -- what stands at the row that a field holds hangs at that field
-    process-by : (k : ℕ) (s : Shape) (p : Place) (b : ℕ) → Shaped rows r k s → Leading (fieldOf s p) → unguarded k p ≡ true → Holding rows r p b → ProcessBy r p (at b .process)
+    process-by : (k : ℕ) (s : Shape) (p : Column) (b : ℕ) → Shaped rows r k s → Leading (fieldOf s p) → unguarded k p ≡ true → Holding rows r p b → ProcessBy r p (at b .process)
     process-by k s p b h u v e = go (at b) (known b)
       where
         go : (q : Content) → Known rows RowsOk r b q → ProcessBy r p (q .process)
         go q (inl z) = rw z (λ x m. absurd (List·Memᴰ·not-nil m), tt)
         go q (inr i) = (λ x m. (b, refers-to rows A r k b s p l h u e (i .1), ap (λ (j : ℕ). unguarded j p) (h .0) ∙ v, i .3 .0 x m), i .3 .1)
 
-    members-by : (k : ℕ) (s : Shape) (p : Place) (b : ℕ) → Shaped rows r k s → Leading (fieldOf s p) → unguarded k p ≡ true → Holding rows r p b → MembersBy r p (at b .listed)
+    members-by : (k : ℕ) (s : Shape) (p : Column) (b : ℕ) → Shaped rows r k s → Leading (fieldOf s p) → unguarded k p ≡ true → Holding rows r p b → MembersBy r p (at b .listed)
     members-by k s p b h u v e = go (at b) (known b)
       where
         go : (q : Content) → Known rows RowsOk r b q → MembersBy r p (q .listed)

@@ -17,7 +17,7 @@ use Rattle.meaning.specs.Kinds.{Field, reference, Shape, processes}
 use Rattle.meaning.specs.Declarations.{declares, leading, declarations, root}
 use Rattle.meaning.specs.Nodes.{nodeAt}
 use Rattle.meaning.specs.PrintedForms.{Each, each-none, each-more}
-use Rattle.meaning.specs.References.{Place, of-a, of-b, fieldOf, numberOf}
+use Rattle.meaning.specs.References.{Column, of-a, of-b, fieldOf, numberOf}
 use Rattle.meaning.specs.Faults.{Leads, Placed, WellPlaced}
 use Rattle.meaning.specs.Tree.{IfChoice, AltOption, Action, Process, node, Processes, empty, Content, noContent, andProcess, contentOf, contentAt, actionOf, processesIn, rowOf}
 use Rattle.meaning.proofs.AnswerLaws.{RightRows}
@@ -105,7 +105,7 @@ module _ (rows : List ℤ) (A : RightRows rows) where
   root-process = is-process rows (declarations rows) root-below (placed-at rows A (declarations rows) (omega arith) root-below .1 refl)
 
   -- where a field should refer to a process it does
-  field-process : (r k b : ℕ) (s : Shape) (p : Place) → r < rowCount rows → Shaped rows r k s → fieldOf s p ≡ reference processes → Holding rows r p b → (r < b) × (b < rowCount rows) × IsProcess rows b
+  field-process : (r k b : ℕ) (s : Shape) (p : Column) → r < rowCount rows → Shaped rows r k s → fieldOf s p ≡ reference processes → Holding rows r p b → (r < b) × (b < rowCount rows) × IsProcess rows b
   unfolding Leads
   field-process r k b s p l h f e =
       let (t, z, i) = subst (λ (g : Field). Leads rows r g (numberOf rows r p)) f (leads-at rows A r k s l h p) in
@@ -124,7 +124,7 @@ module _ (rows : List ℤ) (A : RightRows rows) where
     at = higherContent rows r
 
     -- the process that a field refers to comes first among the members
-    comes-first : (k b : ℕ) (s : Shape) (p : Place) (ms : Processes) → Shaped rows r k s → fieldOf s p ≡ reference processes → Holding rows r p b → Child b (andProcess (at b .process) ms)
+    comes-first : (k b : ℕ) (s : Shape) (p : Column) (ms : Processes) → Shaped rows r k s → fieldOf s p ≡ reference processes → Holding rows r p b → Child b (andProcess (at b .process) ms)
     comes-first k b s p ms h f e =
         let (g, m, (j, ps, i)) = field-process r k b s p l h f e in
         child-first (at b .process) ms b (node j b ps) (ap (λ (t : Bool). ifElse t (contentAt rows b) noContent .process) (lt-ltb r b g) ∙ i) refl

@@ -19,7 +19,7 @@ use Rattle.meaning.specs.State.{State, Program, Write, writeCell, writePlace, w
 use Rattle.meaning.specs.Labels.{Label, own}
 use Rattle.meaning.specs.Readings.{Sheet}
 use Rattle.meaning.specs.Intent.{Offer, openOffer, inputOffer, Intent, moves, inputsFrom, outputsTo, InputResult, lacks, notYet, reads, fromElement, hostRead, OptionsResult, fails, offers, adding, admitting, guarding, inputResult, inputResultIf, tests, optionsResult, intent}
-use Rattle.meaning.specs.Ready.{allIdle, isLive, intentAt, ownEffect, WaitingInput, communicationEffect, takeEffect, takeFromEffect, optionRow, offerEffectAt, offerEffect, effectOf}
+use Rattle.meaning.specs.Ready.{allIdle, isLive, intentAt, ownEffect, WaitingInput, communicationEffect, takeOptionEffect, takeWithOutputEffect, optionRow, offerEffectAt, offerEffect, effectOf}
 use Rattle.meaning.specs.Step.{channelElement, targetCell, Holds, holds, refuted, LacksIn, channel-lacks, target-lacks, FirstTrue, LacksTest, boolean-lacks, input-lacks, Complete, closed, open-skip, open-input, LacksOption, AllComplete, complete-none, complete-more, Lacks, assign-subscript, assign-value, input-subscript, output-subscript, output-value, while-test, if-test, alt-guard, InnerInput, inner-input, HostInput, host-input, InnerOutput, inner-output, Live, becomes, effect, Allows, assignment, while-false, while-true, if-true, communication, host-read, host-write, alt-skip, alt-read, alt-communication, stopping}
 
 true-is : (t : Bool) → T t → t ≡ true
@@ -241,11 +241,11 @@ module _ (P : Program) (sheet : Sheet) (s : State) where
   takeable D x t (host-read {r} {a} {n} {i} {v} g h) = can-own r (input i) g r 2 (writeCell a v ∷ writePlace (i .channel .number) (suc n) ∷ []) (can-read r a n i v h)
   takeable D x t (host-write {r} {d} {c} {e} {f} {z} {l} g h p q o m) = can-own r (output c e f) g r 2 (writeOutput (c .number) (l ++ (some z ∷ [])) ∷ []) (can-write r d c e f z l h p q o m)
   takeable D x t (alt-skip {r} {bs} {b} g c m (holds e h) q) =
-      can-pick x r bs b (openOffer (b .row) (b .process) []) (takeEffect r) _ g c (D r bs g) m (λ L. rw (e, h, q)) refl refl
+      can-pick x r bs b (openOffer (b .row) (b .process) []) (takeOptionEffect r) _ g c (D r bs g) m (λ L. rw (e, h, q)) refl refl
   takeable D x t (alt-read {r} {a} {n} {bs} {b} {i} {v} g c m h q k) =
       let ws = writeCell a v ∷ writePlace (i .channel .number) (suc n) ∷ [] in
-      can-pick x r bs b (openOffer (b .row) (b .process) ws) (takeEffect r) _ g c (D r bs g) m (λ L. open-is b i h q L ∙ rw (in-host i a n v k)) refl refl
+      can-pick x r bs b (openOffer (b .row) (b .process) ws) (takeOptionEffect r) _ g c (D r bs g) m (λ L. open-is b i h q L ∙ rw (in-host i a n v k)) refl refl
   takeable D x t (alt-communication {r} {o} {d} {a} {bs} {b} {i} {c = ch} {e} {f} {m = z} g c m k h q w y) =
-      can-pick x r bs b (inputOffer (b .row) (b .process) d a) (takeFromEffect r o (intentAt P sheet s o)) _ g c (D r bs g) m (λ L. open-is b i h q L ∙ rw (in-inner i d a w)) refl
+      can-pick x r bs b (inputOffer (b .row) (b .process) d a) (takeWithOutputEffect r o (intentAt P sheet s o)) _ g c (D r bs g) m (λ L. open-is b i h q L ∙ rw (in-inner i d a w)) refl
       (meets-is (record { element = d; cell = a; change = becomes r (b .process) 1 }) o z (intentAt P sheet s o) (live-want o (output ch e f) k ∙ sends-is o d ch e f z y))
   takeable D x t (stopping {r} {k} {a} g h) = can-own r a g r (10 + k) [] (lacks-want r k a h)

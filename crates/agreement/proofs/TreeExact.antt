@@ -13,7 +13,7 @@ use borrow.Author.Tests.{eqb-true}
 use Rattle.meaning.specs.Rows.{rowCount, fieldAt, kindAt}
 use Rattle.meaning.specs.Kinds.{Shape, shapes, shapeIn, shapeOf, expressions, processes}
 use Rattle.meaning.specs.Declarations.{declarations, root}
-use Rattle.meaning.specs.References.{Place, of-a, of-b, of-c, fieldOf, numberOf, RefersBy, Refers, Beneath, direct, further}
+use Rattle.meaning.specs.References.{Column, of-a, of-b, of-c, fieldOf, numberOf, RefersBy, Refers, Beneath, direct, further}
 use Rattle.meaning.specs.Faults.{Placed}
 use Rattle.meaning.specs.Tree.{Action, Process, node, Processes, rowOf, processesIn, contentAt, orStop, rowsIn, rowsBeneath}
 use Rattle.meaning.specs.State.{program, processAt, whole}
@@ -39,7 +39,7 @@ not-false false e = sym e
 
 module _ (rows : List ℤ) where
   -- a reference that is a guard's goes to a row of a guard
-  guarded : (q b : ℕ) (p : Place) → Refers rows q p b → unguarded (kindAt rows q) p ≡ false → OfGuard rows b
+  guarded : (q b : ℕ) (p : Column) → Refers rows q p b → unguarded (kindAt rows q) p ≡ false → OfGuard rows b
   guarded q b of-a h e = absurd (false≢true (sym e))
   guarded q b of-b h e = of-guard q (eqb-true (kindAt rows q) 43 (not-false (eqb (kindAt rows q) 43) e)) h
   guarded q b of-c h e = of-option q (eqb-true (kindAt rows q) 42 (not-false (eqb (kindAt rows q) 42) e)) h
@@ -102,11 +102,11 @@ module _ (rows : List ℤ) where
         (and-then (λ h u. absurd (expression-low (h .1 .2)), λ h u. absurd (false≢true u), never)
         none-left))))))))))))))))))))
 
-    upper : (p : Place) → Refers rows q p b → unguarded (kindAt rows q) p ≡ true → Upper (kindAt rows q)
+    upper : (p : Column) → Refers rows q p b → unguarded (kindAt rows q) p ≡ true → Upper (kindAt rows q)
     unfolding Refers
     upper p h u = go (kindAt rows q) (h .0) p (each-upper (kindAt rows q) (h .0) (h .1)) (h .2) u
       where
-        go : (k : ℕ) (s : Shape) (p : Place) → EachUpper k s → RefersBy rows q (fieldOf s p) (numberOf rows q p) b → unguarded k p ≡ true → Upper k
+        go : (k : ℕ) (s : Shape) (p : Column) → EachUpper k s → RefersBy rows q (fieldOf s p) (numberOf rows q p) b → unguarded k p ≡ true → Upper k
         go k s of-a f = f .0
         go k s of-b f = f .1
         go k s of-c f = f .2
@@ -126,7 +126,7 @@ module _ (rows : List ℤ) where
         go false e f = absurd (n (guarded s b p g e))
 
     -- and what is reached by no guard is the row itself, or beneath it and not of a guard
-    unguarded-row : (q b : ℕ) (p : Place) → Refers rows q p b → unguarded (kindAt rows q) p ≡ true → ¬ OfGuard rows b
+    unguarded-row : (q b : ℕ) (p : Column) → Refers rows q p b → unguarded (kindAt rows q) p ≡ true → ¬ OfGuard rows b
     unguarded-row q b p h u (of-option o e g) =
         let (f, i) = once rows A q o b p of-c h g in
         false≢true (sym (ap (λ (k : ℕ). unguarded k of-c) e) ∙ sym (λ j. unguarded (kindAt rows (f j)) (i j)) ∙ u)

@@ -12,7 +12,7 @@ use Rattle.meaning.specs.Rows.{naturalOf, rowCount, fieldAt, naturalAt, kindAt}
 use Rattle.meaning.specs.Basics.{anyPasses, among}
 use Rattle.meaning.specs.Kinds.{Shape, shapes, shapeOf, expressions, processes}
 use Rattle.meaning.specs.Nodes.{nodeAt}
-use Rattle.meaning.specs.References.{Place, of-a, of-b, of-c, fieldOf, numberOf, IsTarget, RefersBy, Refers}
+use Rattle.meaning.specs.References.{Column, of-a, of-b, of-c, fieldOf, numberOf, IsTarget, RefersBy, Refers}
 use Rattle.meaning.specs.Faults.{WellFormed}
 use Rattle.meaning.specs.Tree.{Process, Processes, empty, Content, andProcess, contentOf, contentAt, rowsIn, rowsBeneath}
 use Rattle.meaning.proofs.AnswerLaws.{RightRows}
@@ -131,7 +131,7 @@ module _ (rows : List ℤ) (A : RightRows rows) where
     of-options t = by-kind (λ y. In x y → List·Memᴰ x (rowsBeneath (y .listed))) c (42 ∷ []) (t .1) (t .2) (linked, tt)
 
     -- what a field of row q refers to has its rows in row q as kind k
-    abbrev Up : ℕ → Place → Type 0
+    abbrev Up : ℕ → Column → Type 0
     Up k p = unguarded k p ≡ true → In x (contentAt rows c) → In x (partBy rows q k)
 
     abbrev EachUp : ℕ → Shape → Type 0
@@ -180,7 +180,7 @@ module _ (rows : List ℤ) (A : RightRows rows) where
         (and-then (λ h u i. absurd (of-expression (h .1) i), λ h u i. absurd (false≢true u), never)
         none-left))))))))))))))))))))
 
-    up : (p : Place) → Refers rows q p c → unguarded (kindAt rows q) p ≡ true → In x (contentAt rows c) → In x (contentAt rows q)
+    up : (p : Column) → Refers rows q p c → unguarded (kindAt rows q) p ≡ true → In x (contentAt rows c) → In x (contentAt rows q)
     unfolding Refers
     up p h u i =
         let l = refers-up rows A q c p h in
@@ -188,7 +188,7 @@ module _ (rows : List ℤ) (A : RightRows rows) where
         subst (In x) (sym (part-is rows q k (each-fits q k) ∙ ap (contentOf rows q (contentAt rows)) (node-of-kind rows q (kindAt rows q) refl)))
         (go (kindAt rows q) (h .0) p (each-up (kindAt rows q) (h .0) (h .1)) (h .2) u i)
       where
-        go : (k : ℕ) (s : Shape) (p : Place) → EachUp k s → RefersBy rows q (fieldOf s p) (numberOf rows q p) c → Up k p
+        go : (k : ℕ) (s : Shape) (p : Column) → EachUp k s → RefersBy rows q (fieldOf s p) (numberOf rows q p) c → Up k p
         go k s of-a f = f .0
         go k s of-b f = f .1
         go k s of-c f = f .2

@@ -12,7 +12,7 @@ use Rattle.meaning.specs.Rows.{naturalOf, rowCount, fieldAt, naturalAt, kindAt}
 use Rattle.meaning.specs.Kinds.{Shape, shapes, shapeIn, shapeOf}
 use Rattle.meaning.specs.Declarations.{declarations}
 use Rattle.meaning.specs.Nodes.{nodeAt}
-use Rattle.meaning.specs.References.{Place, of-a, of-b, of-c, fieldOf, numberOf, RefersBy, Refers}
+use Rattle.meaning.specs.References.{Column, of-a, of-b, of-c, fieldOf, numberOf, RefersBy, Refers}
 use Rattle.meaning.specs.Faults.{Leads, WellFormed, Placed, WellPlaced}
 use Rattle.meaning.proofs.KindLaws.{none-left, and-then, by-shape}
 use Rattle.meaning.proofs.OneTreeLaw.{declared, refers-by}
@@ -83,11 +83,11 @@ module _ (rows : List ℤ) where
         (and-then (λ h. at0 za (h .0), λ h. at1 zb (h .0), never)
         none-left))))))))))))))))))))
 
-    pub refers-listed : (p : Place) → Refers rows r p t → List·Memᴰ t (references (nodeAt rows r))
+    pub refers-listed : (p : Column) → Refers rows r p t → List·Memᴰ t (references (nodeAt rows r))
     unfolding Refers
     refers-listed p h = subst (List·Memᴰ t) (sym (list-is r)) (go (kindAt rows r) (h .0) p (each-listed (kindAt rows r) (h .0) (h .1)) (h .2))
       where
-        go : (k : ℕ) (s : Shape) (p : Place) → Listed k s → RefersBy rows r (fieldOf s p) (numberOf rows r p) t → List·Memᴰ t (listBy r k)
+        go : (k : ℕ) (s : Shape) (p : Column) → Listed k s → RefersBy rows r (fieldOf s p) (numberOf rows r p) t → List·Memᴰ t (listBy r k)
         go k s of-a f = f .0
         go k s of-b f = f .1
         go k s of-c f = f .2
@@ -123,12 +123,12 @@ module _ (rows : List ℤ) where
     -- what is in the list of row r and a row of the table, row r refers to
     module _ (r : ℕ) (l : r < rowCount rows) where
       abbrev By : Shape → ℕ → Type 0
-      By s c = (p : Place) × RefersBy rows r (fieldOf s p) (numberOf rows r p) c
+      By s c = (p : Column) × RefersBy rows r (fieldOf s p) (numberOf rows r p) c
 
       abbrev Referred : ℕ → Shape → Type 0
-      Referred k s = ((p : Place) → Leads rows r (fieldOf s p) (numberOf rows r p)) → (c : ℕ) → List·Memᴰ c (listBy r k) → c < rowCount rows → By s c
+      Referred k s = ((p : Column) → Leads rows r (fieldOf s p) (numberOf rows r p)) → (c : ℕ) → List·Memᴰ c (listBy r k) → c < rowCount rows → By s c
 
-      by : (s : Shape) (p : Place) → Leading (fieldOf s p) → ((o : Place) → Leads rows r (fieldOf s o) (numberOf rows r o)) → naturalOf (numberOf rows r p) < rowCount rows → By s (naturalOf (numberOf rows r p))
+      by : (s : Shape) (p : Column) → Leading (fieldOf s p) → ((o : Column) → Leads rows r (fieldOf s o) (numberOf rows r o)) → naturalOf (numberOf rows r p) < rowCount rows → By s (naturalOf (numberOf rows r p))
       by s p u h m = (p, to-row rows few placed r (naturalOf (numberOf rows r p)) (fieldOf s p) (numberOf rows r p) u (h p) refl m)
 
       each-referred : (k : ℕ) (s : Shape) → shapeOf k ≡ some s → Referred k s
@@ -157,11 +157,11 @@ module _ (rows : List ℤ) where
           (and-then (λ h. two _ _ _ (by _ of-a tt h) (by _ of-b tt h))
           none-left))))))))))))))))))))
 
-      pub listed-refers : (c : ℕ) → List·Memᴰ c (references (nodeAt rows r)) → c < rowCount rows → (p : Place) × Refers rows r p c
+      pub listed-refers : (c : ℕ) → List·Memᴰ c (references (nodeAt rows r)) → c < rowCount rows → (p : Column) × Refers rows r p c
       unfolding Refers WellFormed Placed
       listed-refers c m i = go (decLt r (declarations rows))
         where
-          go : Dec (r < declarations rows) → (p : Place) × Refers rows r p c
+          go : Dec (r < declarations rows) → (p : Column) × Refers rows r p c
           go (yes d) = absurd (⊎-elim (λ e. List·Memᴰ·not-nil (listed 1 e)) (λ e. List·Memᴰ·not-nil (listed 2 e)) (declared rows r d))
             where
               listed : (k : ℕ) → kindAt rows r ≡ k → List·Memᴰ c (listBy r k)

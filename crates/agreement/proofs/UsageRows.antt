@@ -17,7 +17,7 @@ use Rattle.meaning.specs.Rows.{naturalOf, rowCount, fieldAt, naturalAt, kindAt}
 use Rattle.meaning.specs.Kinds.{Shape, shapes, shapeIn, shapeOf, expressions, processes}
 use Rattle.meaning.specs.Declarations.{declarations}
 use Rattle.meaning.specs.Nodes.{nodeAt}
-use Rattle.meaning.specs.References.{IsOf, IsTarget, Place, of-a, of-b, of-c, fieldOf, numberOf}
+use Rattle.meaning.specs.References.{IsOf, IsTarget, Column, of-a, of-b, of-c, fieldOf, numberOf}
 use Rattle.meaning.specs.Faults.{MayHold, WellFormed, Leads, Placed, WellPlaced}
 use Rattle.meaning.proofs.OneTreeLaw.{declared}
 use Rattle.agreement.proofs.TableReferences.{if-else}
@@ -100,7 +100,7 @@ module _ (rows : List ℤ) where
     to-link r kinds z l (inr h) = let g = to-target r kinds z h in (g .0, λ i. g .2)
 
     module _ (r : ℕ) (l : r < rowCount rows) (d : declarations rows ≤ r) where
-      leads-to : (s : Shape) → IsOf rows r s → (p : Place) → Leads rows r (fieldOf s p) (numberOf rows r p)
+      leads-to : (s : Shape) → IsOf rows r s → (p : Column) → Leads rows r (fieldOf s p) (numberOf rows r p)
       unfolding WellPlaced Placed
       leads-to = placed r (omega arith) .1 (d, l) .0
 

@@ -13,7 +13,7 @@ use Rattle.meaning.specs.Kinds.{expressions, processes}
 use Rattle.meaning.specs.Declarations.{variableAt, sourceAt, sinkAt}
 use Rattle.meaning.specs.Nodes.{nodeAt}
 use Rattle.meaning.specs.Tree.{element, Process, empty, Content, ofProcess, andProcess, contentOf, contentAt}
-use Rattle.meaning.specs.References.{Place, fieldOf, numberOf, IsTarget, Refers, Beneath, direct, further}
+use Rattle.meaning.specs.References.{Column, fieldOf, numberOf, IsTarget, Refers, Beneath, direct, further}
 use Rattle.meaning.specs.Clash.{Within}
 use Rattle.meaning.proofs.PartLaws.{part-unfolds}
 use Rattle.meaning.proofs.ReferenceCounts.{bounds}
@@ -234,15 +234,15 @@ module _ (rows : List ℤ) (M : Mark) where
     Some r = (d : ℕ) × Within rows r d × Bears (nodeAt rows d)
 
     -- beneath what row r refers to is beneath row r
-    beneath-first : {r c d : ℕ} (p : Place) → Refers rows r p c → Beneath rows c d → Beneath rows r d
+    beneath-first : {r c d : ℕ} (p : Column) → Refers rows r p c → Beneath rows c d → Beneath rows r d
     beneath-first p f (direct o g) = further o (direct p f) g
     beneath-first p f (further o w g) = further o (beneath-first p f w) g
 
-    within-first : {r c d : ℕ} (p : Place) → Refers rows r p c → Within rows c d → Within rows r d
+    within-first : {r c d : ℕ} (p : Column) → Refers rows r p c → Within rows c d → Within rows r d
     within-first {r} p f (inl e) = inr (direct p (subst (Refers rows r p) (sym e) f))
     within-first p f (inr w) = inr (beneath-first p f w)
 
-    refers-below : (r c : ℕ) (p : Place) → Refers rows r p c → c < rowCount rows
+    refers-below : (r c : ℕ) (p : Column) → Refers rows r p c → c < rowCount rows
     unfolding Refers
     refers-below r c p h = bounds rows c r (fieldOf (h .0) p) (numberOf rows r p) (h .2) .1
 
@@ -270,7 +270,7 @@ module _ (rows : List ℤ) (M : Mark) where
             let g = listed-refers rows passed r i (d .0) (d .1) (at-below (d .0) (d .2)) in
             (w .0, within-first (g .0) (g .1) (w .1), w .2)
 
-    at-refers : (r c : ℕ) (p : Place) → r < rowCount rows → Refers rows r p c → At c → At r
+    at-refers : (r c : ℕ) (p : Column) → r < rowCount rows → Refers rows r p c → At c → At r
     at-refers r c p l g h = subst (InPart M) (sym (part-is rows r l (fits r l))) (up r (nodeAt rows r) (fits r l) c (refers-listed rows r c p g) h)
 
     at-beneath : {r d : ℕ} → r < rowCount rows → Beneath rows r d → At d → At r

@@ -12,7 +12,7 @@ use lib.Seq.{take-suc, length-take-le, set-at, getD-set-same, getD-set-other}
 use Rattle.meaning.specs.Rows.{rowCount}
 use Rattle.meaning.specs.Declarations.{declarations}
 use Rattle.meaning.specs.Verdict.{treeFault}
-use Rattle.meaning.specs.References.{Place, Refers}
+use Rattle.meaning.specs.References.{Column, Refers}
 use Rattle.meaning.specs.Usage.{numbersFrom}
 use Rattle.meaning.proofs.OneTreeLaw.{declared, declares-only}
 use Rattle.base_top_down.specs.Forms.{formAt, formSize}
@@ -61,7 +61,7 @@ sizes-set rows r old sizes v l h e i =
 
 -- the root, and the rows that rows below r refer to
 unfoldable pub Reached : List ℤ → ℕ → ℕ → Type 0
-Reached rows r t = (t ≡ declarations rows) ⊎ ((q : ℕ) × (p : Place) × (q < r) × Refers rows q p t)
+Reached rows r t = (t ≡ declarations rows) ⊎ ((q : ℕ) × (p : Column) × (q < r) × Refers rows q p t)
 
 -- their numbers are right
 abbrev pub RightTo : List ℤ → ℕ → List ℕ → Type 0
@@ -76,7 +76,7 @@ pub reached : (rows : List ℤ) → treeFault rows ≡ none → (r t : ℕ) → 
 unfolding Reached
 reached rows tree r t d l h = go (decLt (declarations rows) t)
   where
-    go : Dec (declarations rows < t) → (t ≡ declarations rows) ⊎ ((q : ℕ) × (p : Place) × (q < r) × Refers rows q p t)
+    go : Dec (declarations rows < t) → (t ≡ declarations rows) ⊎ ((q : ℕ) × (p : Column) × (q < r) × Refers rows q p t)
     go (yes i) = let w = referrer rows tree t i l in let b = w .4 in inr (w .0, w .1, omega arith, w .2)
     go (no i) = inl (omega arith)
 

@@ -16,7 +16,7 @@ use Rattle.meaning.specs.Rows.{naturalOf, rowCount, kindAt}
 use Rattle.meaning.specs.Kinds as M
 use Rattle.meaning.specs.Kinds.{Field, unused, literalValue, within, elements, capacity, variable, channel, reference, link, shapeOf}
 use Rattle.meaning.specs.Declarations.{declarations}
-use Rattle.meaning.specs.References.{Place, of-a, of-b, of-c, fieldOf, numberOf, IsTarget, RefersBy, IsOf, Refers}
+use Rattle.meaning.specs.References.{Column, of-a, of-b, of-c, fieldOf, numberOf, IsTarget, RefersBy, IsOf, Refers}
 use Rattle.meaning.specs.Faults.{Leads}
 use Rattle.base_kinds.specs.declared.Shape.{Shape}
 use Rattle.base_kinds.specs.Table as K
@@ -29,20 +29,20 @@ use Rattle.base_top_down.proofs.New.{fields-sum, number-within, stands}
 use Rattle.base_numbering.specs.Fields.{heldIn, placedIn}
 use Rattle.base_numbering.specs.Arrays.{numberedField, numberedRow}
 
-abbrev pub entryOf : Shape → Place → ℕ
+abbrev pub entryOf : Shape → Column → ℕ
 entryOf s of-a = s .a
 entryOf s of-b = s .b
 entryOf s of-c = s .c
 
 -- entries that mean a shape
-meant : (k : ℕ) (s : Shape) (u : M.Shape) → meantShape k s ≡ some u → (p : Place) → fieldOf u p ≡ K.fieldMeant (entryOf s p)
+meant : (k : ℕ) (s : Shape) (u : M.Shape) → meantShape k s ≡ some u → (p : Column) → fieldOf u p ≡ K.fieldMeant (entryOf s p)
 unfolding meantShape
 meant k s u = go (eqb (s .a) 9)
   where
     is : M.Shape
     is = M.shape k (K.fieldMeant (s .a)) (K.fieldMeant (s .b)) (K.fieldMeant (s .c))
 
-    go : (b : Bool) → ifElse b none (some is) ≡ some u → (p : Place) → fieldOf u p ≡ K.fieldMeant (entryOf s p)
+    go : (b : Bool) → ifElse b none (some is) ≡ some u → (p : Column) → fieldOf u p ≡ K.fieldMeant (entryOf s p)
     go true e p = absurd (Option·none-ne-some u e)
     go false e of-a = ap (λ (w : M.Shape). w .a) (sym (Option·some-injective is u e))
     go false e of-b = ap (λ (w : M.Shape). w .b) (sym (Option·some-injective is u e))
@@ -85,10 +85,10 @@ module _ (rows : List ℤ) (sound : FormPassed rows) (r : ℕ) (d : declarations
   at t = ifElse (ltb r t) (formAt rows t) absent
 
   -- a field of the row, with its entry
-  pub data Known (p : Place) : Type 0 where
+  pub data Known (p : Column) : Type 0 where
     known : (u : M.Shape) → IsOf rows r u → K.fieldMeant (entryOf s p) ≡ fieldOf u p → Leads rows r (fieldOf u p) (numberOf rows r p) → Known p
 
-  pub knows : (p : Place) → Known p
+  pub knows : (p : Column) → Known p
   unfolding RightRow
   knows p =
       let w = right-row rows (sound .form) (sound .tree) r d l in
@@ -113,7 +113,7 @@ module _ (rows : List ℤ) (sound : FormPassed rows) (r : ℕ) (d : declarations
   held-field (link kinds) z sizes w (inl h) = subst (λ (y : ℤ). getD sizes (naturalOf y) 0 ≡ formSize (referred at y)) (sym h) (let q = w .short in List·getD-eq-default sizes 0 (omega arith))
   held-field (link kinds) z sizes w (inr h) = held-child kinds z sizes w h
 
-  pub held-size : (sizes : List ℕ) → Sizes rows (suc r) sizes → (p : Place) → heldIn sizes (isReference (K.fieldMeant (entryOf s p))) (numberOf rows r p) ≡ formSize (itemOfRow rows r p)
+  pub held-size : (sizes : List ℕ) → Sizes rows (suc r) sizes → (p : Column) → heldIn sizes (isReference (K.fieldMeant (entryOf s p))) (numberOf rows r p) ≡ formSize (itemOfRow rows r p)
   held-size sizes w p = go (knows p)
     where
       go : Known p → heldIn sizes (isReference (K.fieldMeant (entryOf s p))) (numberOf rows r p) ≡ formSize (itemOfRow rows r p)
@@ -141,11 +141,11 @@ module _ (rows : List ℤ) (sound : FormPassed rows) (r : ℕ) (d : declarations
   keep-field (link kinds) z numbers v q h (inr w) t g = keep-child z numbers v (w .0) (h (w .0) (w .1, w .2)) (w .1) t g
 
   -- v is the number of the row that field p refers to, if it does so
-  abbrev Given : Place → ℕ → Type 0
+  abbrev Given : Column → ℕ → Type 0
   Given p v = (u : ℕ) → Refers rows r p u → New rows u v
 
   -- a field's number keeps what is right
-  place-keeps : (p : Place) (numbers : List ℕ) (v : ℕ) → length numbers ≤ 1024 → Given p v → (t : ℕ) → RightAt rows numbers t → RightAt rows (placedIn numbers (isReference (K.fieldMeant (entryOf s p))) (numberOf rows r p) v) t
+  place-keeps : (p : Column) (numbers : List ℕ) (v : ℕ) → length numbers ≤ 1024 → Given p v → (t : ℕ) → RightAt rows numbers t → RightAt rows (placedIn numbers (isReference (K.fieldMeant (entryOf s p))) (numberOf rows r p) v) t
   unfolding Refers
   place-keeps p numbers v q h t g = go (knows p)
     where
@@ -155,7 +155,7 @@ module _ (rows : List ℤ) (sound : FormPassed rows) (r : ℕ) (d : declarations
           (keep-field (fieldOf u p) (numberOf rows r p) numbers v q (λ o b. h o (u, x, b)) w t g)
 
   -- and is right for the row that it refers to
-  place-new : (p : Place) (numbers : List ℕ) (v : ℕ) → rowCount rows ≤ length numbers → Given p v → (t : ℕ) → Refers rows r p t → RightAt rows (placedIn numbers (isReference (K.fieldMeant (entryOf s p))) (numberOf rows r p) v) t
+  place-new : (p : Column) (numbers : List ℕ) (v : ℕ) → rowCount rows ≤ length numbers → Given p v → (t : ℕ) → Refers rows r p t → RightAt rows (placedIn numbers (isReference (K.fieldMeant (entryOf s p))) (numberOf rows r p) v) t
   unfolding Refers
   place-new p numbers v q h t w =
       let x = refers-is rows r t (fieldOf (w .0) p) (numberOf rows r p) (w .2) in
@@ -165,10 +165,10 @@ module _ (rows : List ℤ) (sound : FormPassed rows) (r : ℕ) (d : declarations
       (subst (λ (z : ℤ). RightAt rows (set numbers (naturalOf z) v) t) (sym (x .1)) (set-new rows numbers v t (h t w) (omega arith)))
 
   -- the numbers of all three fields
-  abbrev placed : Place → List ℕ → ℕ → List ℕ
+  abbrev placed : Column → List ℕ → ℕ → List ℕ
   placed p numbers v = placedIn numbers (isReference (K.fieldMeant (entryOf s p))) (numberOf rows r p) v
 
-  placed-length : (p : Place) (numbers : List ℕ) (v : ℕ) → length (placed p numbers v) ≡ length numbers
+  placed-length : (p : Column) (numbers : List ℕ) (v : ℕ) → length (placed p numbers v) ≡ length numbers
   placed-length p numbers v = go (isReference (K.fieldMeant (entryOf s p)))
     where
       go : (b : Bool) → length (placedIn numbers b (numberOf rows r p) v) ≡ length numbers
@@ -215,19 +215,19 @@ module _ (rows : List ℤ) (sound : FormPassed rows) (r : ℕ) (d : declarations
       kc : (t : ℕ) → RightAt rows nb t → RightAt rows (placed of-c nb vc) t
       kc = place-keeps of-c nb vc (omega (arith, ea, eb)) lc
 
-      new : (p : Place) (t : ℕ) → Refers rows r p t → RightAt rows (placed of-c nb vc) t
+      new : (p : Column) (t : ℕ) → Refers rows r p t → RightAt rows (placed of-c nb vc) t
       new of-a t w = kc t (kb t (place-new of-a numbers va q la t w))
       new of-b t w = kc t (place-new of-b na vb (omega (arith, ea)) lb t w)
       new of-c t w = place-new of-c nb vc (omega (arith, ea, eb)) lc t w
 
   -- and they are those that the row gives
-  field-same : (p : Place) → isReference (K.fieldMeant (entryOf s p)) ≡ isReference (fieldOf (shapeFor (kindAt rows r)) p)
+  field-same : (p : Column) → isReference (K.fieldMeant (entryOf s p)) ≡ isReference (fieldOf (shapeFor (kindAt rows r)) p)
   field-same p = go (knows p)
     where
       go : Known p → isReference (K.fieldMeant (entryOf s p)) ≡ isReference (fieldOf (shapeFor (kindAt rows r)) p)
       go (known u x y h) = ap isReference y ∙ ap (λ (o : Option M.Shape). isReference (fieldOf (orPlain o) p)) (sym x)
 
-  placed-same : (p : Place) {numbers numbers′ : List ℕ} {v v′ : ℕ} → numbers ≡ numbers′ → v ≡ v′ → placed p numbers v ≡ numberedField rows r p v′ numbers′
+  placed-same : (p : Column) {numbers numbers′ : List ℕ} {v v′ : ℕ} → numbers ≡ numbers′ → v ≡ v′ → placed p numbers v ≡ numberedField rows r p v′ numbers′
   placed-same p e f = λ j. placedIn (e j) (field-same p j) (numberOf rows r p) (f j)
 
   pub numbered-row : (numbers : List ℕ) (va vb vc : ℕ) → va ≡ getD numbers r 0 + 1 → vb ≡ va + formSize (itemOfRow rows r of-a) → vc ≡ vb + formSize (itemOfRow rows r of-b)

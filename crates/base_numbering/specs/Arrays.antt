@@ -5,7 +5,7 @@ use lib.IntN.{ℤ}
 use lib.ListN.{getD, take, drop, set}
 use Rattle.meaning.specs.Rows.{rowCount, kindAt}
 use Rattle.meaning.specs.Declarations.{declarations}
-use Rattle.meaning.specs.References.{Place, of-a, of-b, of-c, fieldOf, numberOf}
+use Rattle.meaning.specs.References.{Column, of-a, of-b, of-c, fieldOf, numberOf}
 use Rattle.meaning.specs.Usage.{numbersFrom}
 use Rattle.base_top_down.specs.Forms.{isReference, shapeFor, formAt, formSize}
 use Rattle.base_top_down.specs.New.{childRow}
@@ -17,7 +17,7 @@ module _ (rows : List ℤ) where
   sizesFrom r old = take r old ++ (map (λ t. formSize (formAt rows t)) (numbersFrom r (rowCount rows - r)) ++ drop (rowCount rows) old)
 
   -- the row that field p of row r refers to gets the number v
-  abbrev pub numberedField : ℕ → Place → ℕ → List ℕ → List ℕ
+  abbrev pub numberedField : ℕ → Column → ℕ → List ℕ → List ℕ
   numberedField r p v numbers = placedIn numbers (isReference (fieldOf (shapeFor (kindAt rows r)) p)) (numberOf rows r p) v
 
   -- row r gives the rows that it refers to their numbers, from its own

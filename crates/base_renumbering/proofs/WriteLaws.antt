@@ -17,7 +17,7 @@ use Rattle.meaning.specs.Rows.{naturalOf, rowCount, fieldAt, kindAt}
 use Rattle.meaning.specs.Kinds as M
 use Rattle.meaning.specs.Kinds.{Field, unused, literalValue, within, elements, capacity, variable, channel, reference, link, shapes, shapeIn, shapeOf}
 use Rattle.meaning.specs.Declarations.{declarations}
-use Rattle.meaning.specs.References.{Place, of-a, of-b, of-c, fieldOf, numberOf, RefersBy, Refers}
+use Rattle.meaning.specs.References.{Column, of-a, of-b, of-c, fieldOf, numberOf, RefersBy, Refers}
 use Rattle.meaning.specs.Faults.{Leads}
 use Rattle.base_kinds.specs.declared.Shape.{Shape}
 use Rattle.base_kinds.specs.Table as K
@@ -169,7 +169,7 @@ module _ (rows : List ℤ) (sound : FormPassed rows) (r : ℕ) (d : declarations
       subst (λ (y : ℤ). getD numbers (naturalOf y) 0 < 2147483648) (sym h) (let q = w .short in let g = List·getD-eq-default numbers 0 {n = 4294967295} (omega arith) in omega arith)
   field-small (link kinds) z (inr h) x = child-small rows sound r numbers small z (h .0) (h .1) (h .2 .0) (h .2 .1) d
 
-  pub number-small : (p : Place) → isReference (K.fieldMeant (entryOf s p)) ≡ true → getD numbers (naturalOf (numberOf rows r p)) 0 < 2147483648
+  pub number-small : (p : Column) → isReference (K.fieldMeant (entryOf s p)) ≡ true → getD numbers (naturalOf (numberOf rows r p)) 0 < 2147483648
   number-small p x = go (knows rows sound r d l k i s e p)
     where
       go : Known rows sound r d l k i s e p → getD numbers (naturalOf (numberOf rows r p)) 0 < 2147483648
@@ -197,7 +197,7 @@ module _ (rows : List ℤ) (sound : FormPassed rows) (r : ℕ) (d : declarations
       (ap (λ (c : Bool). ifElse c (pos (getD numbers 4294967295 0)) (negsuc 0)) (sym (le-ltb 4294967295 (length numbers) (let q = w .short in omega arith))))
   field-written (link kinds) z v (inr h) x = child-written z v (h .0) (h .1) (h .2 .0) (h .2 .1) (x (h .0) (h .1, h .2))
 
-  item-written : (p : Place) → writtenField (childRow rows r p m) (itemOfRow rows r p) ≡ renumberedIn numbers (isReference (K.fieldMeant (entryOf s p))) (numberOf rows r p)
+  item-written : (p : Column) → writtenField (childRow rows r p m) (itemOfRow rows r p) ≡ renumberedIn numbers (isReference (K.fieldMeant (entryOf s p))) (numberOf rows r p)
   unfolding NewOne Refers
   item-written p = go (knows rows sound r d l k i s e p)
     where

@@ -15,7 +15,7 @@ use Rattle.meaning.specs.Rows.{rowCount, fieldAt, kindAt}
 use Rattle.meaning.specs.Kinds.{Field, unused, literalValue, within, elements, capacity, variable, channel, reference, link, Shape, shapes, shapeIn, shapeOf}
 use Rattle.meaning.specs.Declarations.{declarations}
 use Rattle.meaning.specs.Verdict.{formFault, treeFault}
-use Rattle.meaning.specs.References.{Place, of-a, of-b, of-c, fieldOf, numberOf, IsTarget, IsOf}
+use Rattle.meaning.specs.References.{Column, of-a, of-b, of-c, fieldOf, numberOf, IsTarget, IsOf}
 use Rattle.meaning.specs.Faults.{MayHold, Leads, WellFormed, WellPlaced, Placed}
 use Rattle.meaning.proofs.NoFault.{or-false}
 use Rattle.base_top_down.specs.Forms.{Form, absent, row, isReference, orPlain, referred, itemOf, formAt}
@@ -59,7 +59,7 @@ isSize (link kinds) = false
 sizeless : Shape → Bool
 sizeless s = eqb (s .kind) 1 || eqb (s .kind) 2 || not (isSize (s .a) || isSize (s .b) || isSize (s .c))
 
-no-size : (k : ℕ) (s : Shape) → shapeOf k ≡ some s → ¬ (k ≡ 1) → ¬ (k ≡ 2) → (p : Place) → isSize (fieldOf s p) ≡ false
+no-size : (k : ℕ) (s : Shape) → shapeOf k ≡ some s → ¬ (k ≡ 1) → ¬ (k ≡ 2) → (p : Column) → isSize (fieldOf s p) ≡ false
 unfolding shapeOf all sizeless shapes isSize
 no-size k s e n m = λ p. go (isSize (s .a)) (isSize (s .b)) (isSize (s .c)) refl refl refl both p
   where
@@ -72,7 +72,7 @@ no-size k s e n m = λ p. go (isSize (s .a)) (isSize (s .b)) (isSize (s .c)) ref
     both : (isSize (s .a) || isSize (s .b) || isSize (s .c)) ≡ false
     both = not-true (isSize (s .a) || isSize (s .b) || isSize (s .c)) (left (eqb (s .kind) 1) (eqb (s .kind) 2) (not (isSize (s .a) || isSize (s .b) || isSize (s .c))) (ne-eqb (s .kind) 1 (λ i. n (l .1 ∙ i))) (ne-eqb (s .kind) 2 (λ i. m (l .1 ∙ i))) (l .0))
 
-    go : (x y z : Bool) → isSize (s .a) ≡ x → isSize (s .b) ≡ y → isSize (s .c) ≡ z → (x || y || z) ≡ false → (p : Place) → isSize (fieldOf s p) ≡ false
+    go : (x y z : Bool) → isSize (s .a) ≡ x → isSize (s .b) ≡ y → isSize (s .c) ≡ z → (x || y || z) ≡ false → (p : Column) → isSize (fieldOf s p) ≡ false
     go x y z u v w h of-a = u ∙ or-false x y (or-false (x || y) z h .0) .0
     go x y z u v w h of-b = v ∙ or-false x y (or-false (x || y) z h .0) .1
     go x y z u v w h of-c = w ∙ or-false (x || y) z h .1
@@ -83,7 +83,7 @@ no-size k s e n m = λ p. go (isSize (s .a)) (isSize (s .b)) (isSize (s .c)) ref
 unfoldable pub RightRow : List ℤ → ℕ → Type 0
 RightRow rows r =
     ((¬ (kindAt rows r ≡ 1)) × (¬ (kindAt rows r ≡ 2)))
-    × ((s : Shape) × IsOf rows r s × ((p : Place) → MayHold rows r (fieldOf s p) (numberOf rows r p) × Leads rows r (fieldOf s p) (numberOf rows r p)))
+    × ((s : Shape) × IsOf rows r s × ((p : Column) → MayHold rows r (fieldOf s p) (numberOf rows r p) × Leads rows r (fieldOf s p) (numberOf rows r p)))
 
 pub right-row : (rows : List ℤ) → formFault rows ≡ none → treeFault rows ≡ none → (r : ℕ) → declarations rows ≤ r → r < rowCount rows → RightRow rows r
 unfolding RightRow WellFormed WellPlaced Placed
@@ -98,7 +98,7 @@ right-row rows e i r d l = (
     g : Placed rows r
     g = well-placed rows i r (omega arith) .1 (d, l)
 
-    holds : (p : Place) → MayHold rows r (fieldOf (w .1 .0) p) (numberOf rows r p)
+    holds : (p : Column) → MayHold rows r (fieldOf (w .1 .0) p) (numberOf rows r p)
     holds of-a = w .1 .2
     holds of-b = w .1 .3
     holds of-c = w .1 .4
@@ -139,7 +139,7 @@ module _ (rows : List ℤ) (r : ℕ) (f : (t : ℕ) → r < t → t < rowCount r
       item : Field → ℕ → Form
       item g j = itemOf at (isReference g) (fieldAt rows r j)
 
-      no : (p : Place) → isSize (fieldOf s p) ≡ false
+      no : (p : Column) → isSize (fieldOf s p) ≡ false
       no = no-size (kindAt rows r) s (h .1 .1) (h .0 .0) (h .0 .1)
 
       a : Suited rows (s .a) (item (s .a) 1) × Good rows (item (s .a) 1)

@@ -11,7 +11,7 @@ use Rattle.meaning.specs.Rows.{rowCount}
 use Rattle.meaning.specs.Kinds.{Field, unused, literalValue, within, elements, capacity, variable, channel, reference, link}
 use Rattle.meaning.specs.Declarations.{declarations}
 use Rattle.meaning.specs.Verdict.{treeFault}
-use Rattle.meaning.specs.References.{Place, of-a, of-b, of-c, fieldOf, numberOf, RefersBy, Refers, Beneath, direct, further}
+use Rattle.meaning.specs.References.{Column, of-a, of-b, of-c, fieldOf, numberOf, RefersBy, Refers, Beneath, direct, further}
 use Rattle.meaning.proofs.Decides.{pos-injective}
 use Rattle.base_top_down.specs.Forms.{Form, formAt, formSize, rowOfB, rowOfC}
 use Rattle.base_top_down.specs.New.{itemOfRow, childRow, New, at-root, at-child, NewOne, NewApart, BeneathInside}
@@ -37,12 +37,12 @@ field-one rows r t (reference kinds) z h = h .0
 field-one rows r t (link kinds) z h = h .0
 
 module _ (rows : List ℤ) where
-  refers-one : (r t u : ℕ) (p : Place) → Refers rows r p t → Refers rows r p u → t ≡ u
+  refers-one : (r t u : ℕ) (p : Column) → Refers rows r p t → Refers rows r p u → t ≡ u
   unfolding Refers
   refers-one r t u p a b = pos-injective (sym (field-one rows r t (fieldOf (a .0) p) (numberOf rows r p) (a .2)) ∙ field-one rows r u (fieldOf (b .0) p) (numberOf rows r p) (b .2))
 
   -- the rows of what a row refers to are within its own
-  child-inside : (r t m : ℕ) (p : Place) → Refers rows r p t → (m < childRow rows r p m) × (childRow rows r p m + formSize (formAt rows t) ≤ m + formSize (formAt rows r))
+  child-inside : (r t m : ℕ) (p : Column) → Refers rows r p t → (m < childRow rows r p m) × (childRow rows r p m + formSize (formAt rows t) ≤ m + formSize (formAt rows r))
   child-inside r t m of-a w =
       let e = ap formSize (referred-item rows r t of-a w) in let b = refers-bounds rows r t of-a w in let l = b .0 in let h = b .1 in let s = fields-sum rows r (omega arith) in (omega arith, omega arith)
   child-inside r t m of-b w =
@@ -63,18 +63,18 @@ module _ (rows : List ℤ) where
   Under : ℕ → ℕ → Type 0
   Under r t = (t ≡ r) ⊎ Beneath rows r t
 
-  deeper : (r s t : ℕ) (p : Place) → Under r s → Refers rows s p t → Beneath rows r t
+  deeper : (r s t : ℕ) (p : Column) → Under r s → Refers rows s p t → Beneath rows r t
   unfolding Under
   deeper r s t p (inl e) w = direct p (subst (λ (x : ℕ). Refers rows x p t) e w)
   deeper r s t p (inr b) w = further p b w
 
-  top : (r t : ℕ) → Beneath rows r t → (p : Place) × (u : ℕ) × Refers rows r p u × Under u t
+  top : (r t : ℕ) → Beneath rows r t → (p : Column) × (u : ℕ) × Refers rows r p u × Under u t
   unfolding Under
   top r t (direct p w) = (p, t, w, inl refl)
   top r t (further {s} p b w) = let i = top r s b in (i .0, i .1, i .2, inr (deeper (i .1) s t p (i .3) w))
 
   -- beneath what a row refers to is beneath it
-  lift : (r u t : ℕ) (p : Place) → Refers rows r p u → Beneath rows u t → Beneath rows r t
+  lift : (r u t : ℕ) (p : Column) → Refers rows r p u → Beneath rows u t → Beneath rows r t
   lift r u t p w (direct o v) = further o (direct p w) v
   lift r u t p w (further {s} o b v) = further o (lift r u s p w b) v
 
@@ -120,22 +120,22 @@ module _ (rows : List ℤ) where
         Deeper = (q i : ℕ) → rowCount rows ≤ q + k → New rows q i → Under q t → Under q u → New rows t x → New rows u x → t ≡ u
 
         -- two fields
-        two : Deeper → (p o : Place) (v w : ℕ) → Refers rows r p v → Refers rows r o w → Under v t → Under w u → t ≡ u
+        two : Deeper → (p o : Column) (v w : ℕ) → Refers rows r p v → Refers rows r o w → Under v t → Under w u → t ≡ u
         two f p o v w y z g i = by p o y z (span v t (childRow rows r p m) x (at-child p a y) g d) (span w u (childRow rows r o m) x (at-child o a z) i e) (ap formSize (referred-item rows r v p y)) (ap formSize (referred-item rows r w o z))
           where
-            one : (p : Place) → Refers rows r p v → Refers rows r p w → t ≡ u
+            one : (p : Column) → Refers rows r p v → Refers rows r p w → t ≡ u
             one p y z =
                 let b = refers-bounds rows r v p y in
                 let l = b .0 in
                 f v (childRow rows r p m) (omega arith) (at-child p a y) g (subst (λ (j : ℕ). Under j u) (sym (refers-one r v w p y z)) i) d e
 
-            In : Place → ℕ → Type 0
+            In : Column → ℕ → Type 0
             In p j = (childRow rows r p m ≤ x) × (x < childRow rows r p m + formSize (formAt rows j))
 
-            Of : Place → ℕ → Type 0
+            Of : Column → ℕ → Type 0
             Of p j = formSize (itemOfRow rows r p) ≡ formSize (formAt rows j)
 
-            by : (p o : Place) → Refers rows r p v → Refers rows r o w → In p v → In o w → Of p v → Of o w → t ≡ u
+            by : (p o : Column) → Refers rows r p v → Refers rows r o w → In p v → In o w → Of p v → Of o w → t ≡ u
             by of-a of-a y z g i q s = one of-a y z
             by of-b of-b y z g i q s = one of-b y z
             by of-c of-c y z g i q s = one of-c y z
@@ -181,11 +181,11 @@ module _ (rows : List ℤ) where
         Deeper : Type 0
         Deeper = (q y : ℕ) → rowCount rows ≤ q + k → New rows q y → (z : ℕ) → y ≤ z → z < y + formSize (formAt rows q) → Found q z
 
-        up : (p : Place) (u t : ℕ) → Refers rows r p u → (t ≡ u) ⊎ Beneath rows u t → Beneath rows r t
+        up : (p : Column) (u t : ℕ) → Refers rows r p u → (t ≡ u) ⊎ Beneath rows u t → Beneath rows r t
         up p u t w (inl e) = direct p (subst (Refers rows r p) (sym e) w)
         up p u t w (inr b) = lift r u t p w b
 
-        inner : Deeper → (p : Place) → childRow rows r p m ≤ x → x < childRow rows r p m + formSize (itemOfRow rows r p) → Found r x
+        inner : Deeper → (p : Column) → childRow rows r p m ≤ x → x < childRow rows r p m + formSize (itemOfRow rows r p) → Found r x
         inner f p b c =
             let w = refers-some rows tree r p (range r m a .0) (range r m a .1) (omega arith) in
             let q = refers-bounds rows r (w .0) p (w .1) in

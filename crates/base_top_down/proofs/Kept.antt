@@ -15,7 +15,7 @@ use Rattle.meaning.specs.Rows.{naturalOf, rowCount, fieldAt, kindAt}
 use Rattle.meaning.specs.Kinds.{Field, unused, literalValue, within, elements, capacity, variable, channel, reference, link, Shape, shapeOf, processes}
 use Rattle.meaning.specs.Declarations.{declarations, root}
 use Rattle.meaning.specs.Verdict.{formFault, treeFault, targetOf, target, targetsBy, targets, targetsBelow, occurrences}
-use Rattle.meaning.specs.References.{Place, of-a, of-b, of-c, fieldOf, numberOf, IsTarget}
+use Rattle.meaning.specs.References.{Column, of-a, of-b, of-c, fieldOf, numberOf, IsTarget}
 use Rattle.meaning.specs.Faults.{MayHold, Leads, WellFormed, WellPlaced, Placed}
 use Rattle.meaning.proofs.Decides.{Decides, holding, failing, decides-le, decides-eq}
 use Rattle.meaning.proofs.Counting.{occurrences-append}
@@ -123,7 +123,7 @@ module _ (rows T : List ℤ) (same : declarations T ≡ declarations rows) (fiel
       to : (f : Field) {y z : ℤ} → y ≡ z → MayHold T m f z → Leads T m f z → MayHold T m f y × Leads T m f y
       to f e h i = subst (λ (x : ℤ). MayHold T m f x × Leads T m f x) (sym e) (h, i)
 
-      each : (p : Place) → MayHold T m (fieldOf s p) (numberOf T m p) × Leads T m (fieldOf s p) (numberOf T m p)
+      each : (p : Column) → MayHold T m (fieldOf s p) (numberOf T m p) × Leads T m (fieldOf s p) (numberOf T m p)
       each of-a = to (s .a) (l .0 .2) (suited-holds (s .a) a m (suc m) (g .1 .2 .0 .0)) (suited-leads (s .a) a m (suc m) (omega arith) (l .1 .0 .0) (g .1 .2 .0 .0))
       each of-b = to (s .b) (l .0 .3) (suited-holds (s .b) b m (rowOfB m a) (g .1 .2 .0 .1)) (suited-leads (s .b) b m (rowOfB m a) (omega arith) (l .1 .0 .1) (g .1 .2 .0 .1))
       each of-c = to (s .c) (l .0 .4) (suited-holds (s .c) c m (rowOfC m a b) (g .1 .2 .1)) (suited-leads (s .c) c m (rowOfC m a b) (omega arith) (l .1 .1) (g .1 .2 .1))

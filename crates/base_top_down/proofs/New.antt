@@ -13,7 +13,7 @@ use Rattle.meaning.specs.Rows.{rowCount, kindAt}
 use Rattle.meaning.specs.Kinds.{Field, unused, literalValue, within, elements, capacity, variable, channel, reference, link, Shape, shapeOf}
 use Rattle.meaning.specs.Declarations.{declarations, root}
 use Rattle.meaning.specs.Verdict.{treeFault}
-use Rattle.meaning.specs.References.{Place, of-a, of-b, of-c, fieldOf, numberOf, RefersBy, IsOf, Refers}
+use Rattle.meaning.specs.References.{Column, of-a, of-b, of-c, fieldOf, numberOf, RefersBy, IsOf, Refers}
 use Rattle.meaning.specs.Faults.{Leads, Once, WellPlaced, Placed}
 use Rattle.meaning.proofs.ReferenceCounts.{bounds}
 use Rattle.meaning.proofs.OneTreeLaw.{declared, declares-only}
@@ -62,22 +62,22 @@ module _ (rows : List ℤ) where
   refers-item r t (reference kinds) z h = ap (referred (λ t. ifElse (ltb r t) (formAt rows t) absent)) (h .0) ∙ above rows r t (h .1 .0)
   refers-item r t (link kinds) z h = ap (referred (λ t. ifElse (ltb r t) (formAt rows t) absent)) (h .0) ∙ above rows r t (h .1 .0)
 
-  pub referred-item : (r t : ℕ) (p : Place) → Refers rows r p t → itemOfRow rows r p ≡ formAt rows t
+  pub referred-item : (r t : ℕ) (p : Column) → Refers rows r p t → itemOfRow rows r p ≡ formAt rows t
   unfolding Refers
   referred-item r t p h =
       subst (λ (o : _). itemOf (λ t. ifElse (ltb r t) (formAt rows t) absent) (isReference (fieldOf (orPlain o) p)) (numberOf rows r p) ≡ formAt rows t) (sym (h .1))
       (refers-item r t (fieldOf (h .0) p) (numberOf rows r p) (h .2))
 
-  child-stands : (T : List ℤ) (r t m : ℕ) (p : Place) → r < rowCount rows → Laid T m (formAt rows r) → Refers rows r p t → Laid T (childRow rows r p m) (formAt rows t)
+  child-stands : (T : List ℤ) (r t m : ℕ) (p : Column) → r < rowCount rows → Laid T m (formAt rows r) → Refers rows r p t → Laid T (childRow rows r p m) (formAt rows t)
   child-stands T r t m of-a l h w = let f = fields-laid T r m l h in subst (Laid T (suc m)) (referred-item r t of-a w) (f .1)
   child-stands T r t m of-b l h w = let f = fields-laid T r m l h in subst (Laid T (rowOfB m (itemOfRow rows r of-a))) (referred-item r t of-b w) (f .2)
   child-stands T r t m of-c l h w = let f = fields-laid T r m l h in subst (Laid T (rowOfC m (itemOfRow rows r of-a) (itemOfRow rows r of-b))) (referred-item r t of-c w) (f .3)
 
-  pub refers-bounds : (r t : ℕ) (p : Place) → Refers rows r p t → (r < t) × (t < rowCount rows)
+  pub refers-bounds : (r t : ℕ) (p : Column) → Refers rows r p t → (r < t) × (t < rowCount rows)
   unfolding Refers
   refers-bounds r t p w = bounds rows t r (fieldOf (w .0) p) (numberOf rows r p) (w .2)
 
-  pub root-before : (r t : ℕ) (p : Place) → Refers rows r p t → declarations rows ≤ t
+  pub root-before : (r t : ℕ) (p : Column) → Refers rows r p t → declarations rows ≤ t
   root-before r t p w = go (decLt r (declarations rows))
     where
       go : Dec (r < declarations rows) → declarations rows ≤ t
@@ -91,14 +91,14 @@ module _ (rows : List ℤ) where
 
   module _ (tree : treeFault rows ≡ none) where
     -- a row after the root is referred to by a row from the root on
-    pub referrer : (t : ℕ) → declarations rows < t → t < rowCount rows → (q : ℕ) × (p : Place) × (Refers rows q p t) × (declarations rows ≤ q) × (q < t)
+    pub referrer : (t : ℕ) → declarations rows < t → t < rowCount rows → (q : ℕ) × (p : Column) × (Refers rows q p t) × (declarations rows ≤ q) × (q < t)
     unfolding WellPlaced Placed Once Refers
     referrer t d l =
         let w = well-placed rows tree t (omega arith) .1 (omega arith, l) .3 (λ e. omega arith) in
         let b = bounds rows t (w .0) (fieldOf (w .2 .0) (w .1)) (numberOf rows (w .0) (w .1)) (w .2 .2) in
         (w .0, w .1, w .2, after (w .0) (w .1) (w .2) (decLt (w .0) (declarations rows)), b .0)
       where
-        after : (q : ℕ) (p : Place) → Refers rows q p t → Dec (q < declarations rows) → declarations rows ≤ q
+        after : (q : ℕ) (p : Column) → Refers rows q p t → Dec (q < declarations rows) → declarations rows ≤ q
         after q p w (yes h) = absurd (declares-only rows q p t (declared rows q h) w)
         after q p w (no h) = omega arith
 
@@ -140,21 +140,21 @@ new-each rows e r d l = each rows e (suc r) r (omega arith) d l
 module _ (rows : List ℤ) where
   data Comes (t m : ℕ) : Type 0 where
     root-comes : t ≡ declarations rows → m ≡ declarations rows → Comes t m
-    child-comes : (r i : ℕ) (p : Place) → New rows r i → Refers rows r p t → m ≡ childRow rows r p i → Comes t m
+    child-comes : (r i : ℕ) (p : Column) → New rows r i → Refers rows r p t → m ≡ childRow rows r p i → Comes t m
 
   comes : (t m : ℕ) → New rows t m → Comes t m
   comes t m at-root = root-comes refl refl
   comes t m (at-child {r} {m = i} p n w) = child-comes r i p n w refl
 
   module _ (tree : treeFault rows ≡ none) where
-    not-root : (r t : ℕ) (p : Place) → Refers rows r p t → t ≡ declarations rows → ⊥
+    not-root : (r t : ℕ) (p : Column) → Refers rows r p t → t ≡ declarations rows → ⊥
     unfolding WellPlaced Placed
     not-root r t p w e =
         let b = refers-bounds rows r t p w in
         let l = b .1 in
         well-placed rows tree t (omega arith) .1 (omega arith, l) .2 e r p w
 
-    only : (r q t : ℕ) (p o : Place) → Refers rows r p t → Refers rows q o t → (r ≡ q) × (p ≡ o)
+    only : (r q t : ℕ) (p o : Column) → Refers rows r p t → Refers rows q o t → (r ≡ q) × (p ≡ o)
     unfolding WellPlaced Placed Once
     only r q t p o w v =
         let b = refers-bounds rows r t p w in
@@ -195,17 +195,17 @@ module _ (rows : List ℤ) (tree : treeFault rows ≡ none) where
       let n = subst (λ (y : ℤ). 0 < formSize (referred (λ t. ifElse (ltb r t) (formAt rows t) absent) y)) e l in absurd (omega arith)
   field-some r (link kinds) z (inr h) l = (h .0, (h .1, h .2))
 
-  pub refers-some : (r : ℕ) (p : Place) → declarations rows ≤ r → r < rowCount rows → 0 < formSize (itemOfRow rows r p) → (t : ℕ) × Refers rows r p t
+  pub refers-some : (r : ℕ) (p : Column) → declarations rows ≤ r → r < rowCount rows → 0 < formSize (itemOfRow rows r p) → (t : ℕ) × Refers rows r p t
   unfolding WellPlaced Placed Refers isReference formSize
   refers-some r p d l h = go (shapeOf (kindAt rows r)) refl h
     where
-      leads : (s : Shape) → IsOf rows r s → (p : Place) → Leads rows r (fieldOf s p) (numberOf rows r p)
+      leads : (s : Shape) → IsOf rows r s → (p : Column) → Leads rows r (fieldOf s p) (numberOf rows r p)
       leads = well-placed rows tree r (omega arith) .1 (d, l) .0
 
       go : (o : Option Shape) → shapeOf (kindAt rows r) ≡ o → 0 < formSize (itemOf (λ t. ifElse (ltb r t) (formAt rows t) absent) (isReference (fieldOf (orPlain o) p)) (numberOf rows r p)) → (t : ℕ) × Refers rows r p t
       go none e i = absurd (plain p i)
         where
-          plain : (p : Place) → 0 < formSize (itemOf (λ t. ifElse (ltb r t) (formAt rows t) absent) (isReference (fieldOf (orPlain none) p)) (numberOf rows r p)) → ⊥
+          plain : (p : Column) → 0 < formSize (itemOf (λ t. ifElse (ltb r t) (formAt rows t) absent) (isReference (fieldOf (orPlain none) p)) (numberOf rows r p)) → ⊥
           plain of-a i = omega arith
           plain of-b i = omega arith
           plain of-c i = omega arith
@@ -226,7 +226,7 @@ module _ (rows : List ℤ) (tree : treeFault rows ≡ none) where
       Deeper : Type 0
       Deeper = (t q : ℕ) → rowCount rows ≤ t + k → declarations rows ≤ t → t < rowCount rows → New rows t q → (y : ℕ) → q ≤ y → y < q + formSize (formAt rows t) → Found y
 
-      inner : Deeper → (p : Place) → childRow rows r p m ≤ x → x < childRow rows r p m + formSize (itemOfRow rows r p) → Found x
+      inner : Deeper → (p : Column) → childRow rows r p m ≤ x → x < childRow rows r p m + formSize (itemOfRow rows r p) → Found x
       inner f p a b =
           let w = refers-some r p d l (omega arith) in
           let q = refers-bounds rows r (w .0) p (w .1) in

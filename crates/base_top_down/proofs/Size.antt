@@ -14,7 +14,7 @@ use Rattle.meaning.specs.Rows.{rowCount, fieldAt, kindAt}
 use Rattle.meaning.specs.Declarations.{declarations, root, sumBelow}
 use Rattle.meaning.specs.Kinds.{Field, unused, literalValue, within, elements, capacity, variable, channel, reference, link, Shape, shapes, shapeIn, shapeOf}
 use Rattle.meaning.specs.Verdict.{treeFault, targetOf, target, targetsBy, targets, targetsBelow, occurrences}
-use Rattle.meaning.specs.References.{Place, of-a, of-b, of-c, fieldOf, numberOf, IsTarget, IsOf, Refers}
+use Rattle.meaning.specs.References.{Column, of-a, of-b, of-c, fieldOf, numberOf, IsTarget, IsOf, Refers}
 use Rattle.meaning.specs.Faults.{Leads, WellPlaced, Placed}
 use Rattle.meaning.proofs.Decides.{Decides, holding, failing, decides-lt, decides-eq}
 use Rattle.meaning.proofs.ReferenceCounts.{decides-target, bounds, Never, count-all, never-zero, once-one}
@@ -111,7 +111,7 @@ module _ (rows : List ℤ) where
     item-size : Field → ℕ → ℕ
     item-size f j = formSize (itemOf at (isReference f) (fieldAt rows r j))
 
-    row-size : r < rowCount rows → ((s : Shape) → IsOf rows r s → (p : Place) → Leads rows r (fieldOf s p) (numberOf rows r p)) → size r ≡ suc (sumOver size (targets rows r))
+    row-size : r < rowCount rows → ((s : Shape) → IsOf rows r s → (p : Column) → Leads rows r (fieldOf s p) (numberOf rows r p)) → size r ≡ suc (sumOver size (targets rows r))
     unfolding formSize item-size isReference sumOver
     row-size l h = ap formSize (formAt-at rows r l) ∙ go (shapeOf (kindAt rows r)) refl
       where
@@ -129,10 +129,10 @@ module _ (rows : List ℤ) where
             omega arith
 
   -- the references of a declaration, of which there are none, lead to where they may
-  leads-by : (r : ℕ) (s : Shape) (p : Place) (k : ℕ) (u : Shape) → kindAt rows r ≡ k → shapeOf k ≡ some u → IsOf rows r s → Leads rows r (fieldOf u p) (numberOf rows r p) → Leads rows r (fieldOf s p) (numberOf rows r p)
+  leads-by : (r : ℕ) (s : Shape) (p : Column) (k : ℕ) (u : Shape) → kindAt rows r ≡ k → shapeOf k ≡ some u → IsOf rows r s → Leads rows r (fieldOf u p) (numberOf rows r p) → Leads rows r (fieldOf s p) (numberOf rows r p)
   leads-by r s p k u e j i h = subst (λ (w : Shape). Leads rows r (fieldOf w p) (numberOf rows r p)) (Option·some-injective u s (sym j ∙ ap shapeOf (sym e) ∙ i)) h
 
-  declared-leads : (r : ℕ) → (kindAt rows r ≡ 1) ⊎ (kindAt rows r ≡ 2) → (s : Shape) → IsOf rows r s → (p : Place) → Leads rows r (fieldOf s p) (numberOf rows r p)
+  declared-leads : (r : ℕ) → (kindAt rows r ≡ 1) ⊎ (kindAt rows r ≡ 2) → (s : Shape) → IsOf rows r s → (p : Column) → Leads rows r (fieldOf s p) (numberOf rows r p)
   unfolding shapeOf shapeIn shapes Leads
   declared-leads r (inl e) s i of-a = leads-by r s of-a 1 _ e refl i tt
   declared-leads r (inl e) s i of-b = leads-by r s of-b 1 _ e refl i tt
@@ -156,11 +156,11 @@ module _ (rows : List ℤ) where
     unfolding WellPlaced
     placed r h l = well-placed rows fine r (omega arith) .1 (h, l)
 
-    leads-all : (r : ℕ) → r < rowCount rows → (s : Shape) → IsOf rows r s → (p : Place) → Leads rows r (fieldOf s p) (numberOf rows r p)
+    leads-all : (r : ℕ) → r < rowCount rows → (s : Shape) → IsOf rows r s → (p : Column) → Leads rows r (fieldOf s p) (numberOf rows r p)
     unfolding Placed
     leads-all r l = go (decLt r D)
       where
-        go : Dec (r < D) → (s : Shape) → IsOf rows r s → (p : Place) → Leads rows r (fieldOf s p) (numberOf rows r p)
+        go : Dec (r < D) → (s : Shape) → IsOf rows r s → (p : Column) → Leads rows r (fieldOf s p) (numberOf rows r p)
         go (yes h) = declared-leads r (declared rows r h)
         go (no h) = placed r (omega arith) l .0
 
@@ -182,7 +182,7 @@ module _ (rows : List ℤ) where
     unfolding times Never Placed Refers
     times-none t h = never-zero rows t (count-all rows t) .1 (go (decLt t D))
       where
-        go : Dec (t < D) → (q : ℕ) (o : Place) → ¬ Refers rows q o t
+        go : Dec (t < D) → (q : ℕ) (o : Column) → ¬ Refers rows q o t
         go (yes l) q o w = let b = bounds rows t q (fieldOf (w .0) o) (numberOf rows q o) (w .2) in declares-only rows q o t (declared rows q (omega arith)) w
         go (no l) q o w = placed t (omega arith) (let r = root-there in omega arith) .2 (omega arith) q o w
 

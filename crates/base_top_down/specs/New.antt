@@ -10,7 +10,7 @@ use Rattle.meaning.specs.Basics.{ifElse}
 use Rattle.meaning.specs.Rows.{rowCount, kindAt}
 use Rattle.meaning.specs.Declarations.{declarations}
 use Rattle.meaning.specs.Verdict.{formFault, treeFault}
-use Rattle.meaning.specs.References.{Place, of-a, of-b, of-c, fieldOf, numberOf, Refers, Beneath}
+use Rattle.meaning.specs.References.{Column, of-a, of-b, of-c, fieldOf, numberOf, Refers, Beneath}
 use Rattle.base_top_down.specs.Forms.{Form, absent, isReference, shapeFor, itemOf, formAt, formSize, rowOfB, rowOfC, topDown}
 use Rattle.base_top_down.specs.Laid.{Laid}
 
@@ -27,11 +27,11 @@ pub record Sizes (rows : List ℤ) (r : ℕ) (sizes : List ℕ) : Type 0 where
   pub right : (t : ℕ) → r ≤ t → t < rowCount rows → getD sizes t 0 ≡ formSize (formAt rows t)
 
 -- what field p of row r holds
-abbrev pub itemOfRow : List ℤ → ℕ → Place → Form
+abbrev pub itemOfRow : List ℤ → ℕ → Column → Form
 itemOfRow rows r p = itemOf (λ t. ifElse (ltb r t) (formAt rows t) absent) (isReference (fieldOf (shapeFor (kindAt rows r)) p)) (numberOf rows r p)
 
 -- where that begins, if row r gets the number m
-abbrev pub childRow : List ℤ → ℕ → Place → ℕ → ℕ
+abbrev pub childRow : List ℤ → ℕ → Column → ℕ → ℕ
 childRow rows r of-a m = suc m
 childRow rows r of-b m = rowOfB m (itemOfRow rows r of-a)
 childRow rows r of-c m = rowOfC m (itemOfRow rows r of-a) (itemOfRow rows r of-b)
@@ -39,7 +39,7 @@ childRow rows r of-c m = rowOfC m (itemOfRow rows r of-a) (itemOfRow rows r of-b
 -- the new number of a row: the root keeps its own, and each row gives theirs to the rows that it refers to
 pub data New (rows : List ℤ) : ℕ → ℕ → Type 0 where
   at-root : New rows (declarations rows) (declarations rows)
-  at-child : {r m t : ℕ} (p : Place) → New rows r m → Refers rows r p t → New rows t (childRow rows r p m)
+  at-child : {r m t : ℕ} (p : Column) → New rows r m → Refers rows r p t → New rows t (childRow rows r p m)
 
 -- its form stands there in the table that is numbered top down
 unfoldable pub NewStands : Type 0
@@ -63,7 +63,7 @@ RightAt rows numbers t = New rows t (getD numbers t 0)
 pub record Numbered (rows : List ℤ) (r : ℕ) (before after : List ℕ) : Type 0 where
   pub long : length after ≡ length before
   pub kept : (t : ℕ) → RightAt rows before t → RightAt rows after t
-  pub given : (p : Place) (t : ℕ) → Refers rows r p t → RightAt rows after t
+  pub given : (p : Column) (t : ℕ) → Refers rows r p t → RightAt rows after t
 
 -- the new numbers of all rows after the declarations
 pub record Numbers (rows : List ℤ) (numbers : List ℕ) : Type 0 where

@@ -13,7 +13,7 @@ use Rattle.meaning.specs.Labels.{Label, own, pass, takeOption, takeWithOutput}
 use Rattle.meaning.specs.Readings.{Sheet}
 use Rattle.meaning.specs.Settle.{settled}
 use Rattle.meaning.specs.Intent.{Offer, openOffer, inputOffer, Intent, moves, inputsFrom, outputsTo, selects}
-use Rattle.meaning.specs.Ready.{takeEffect, takeFromEffect, optionRow, offerEffectAt, effectOf, intentAt, after}
+use Rattle.meaning.specs.Ready.{takeOptionEffect, takeWithOutputEffect, optionRow, offerEffectAt, effectOf, intentAt, after}
 use Rattle.meaning.specs.Step.{becomes, effect}
 use Rattle.agreement.proofs.Active.{offerAt, Active, acts-alone, passes-on, takes-open, takes-input}
 
@@ -40,12 +40,12 @@ module _ (w : ℕ → Intent) where
 
   -- an ALT and its option, by itself
   pub take-effect : (r j i q : ℕ) (ws : List Write) (os : List Offer) → w r ≡ selects os → offerAt j os ≡ some (openOffer i q ws) → effectOf (takeOption r j) w ≡ some (effect (becomes r q 1 ∷ []) ws)
-  take-effect r j i q ws os h g = rw h (offer-effect j (takeEffect r) (openOffer i q ws) os g)
+  take-effect r j i q ws os h g = rw h (offer-effect j (takeOptionEffect r) (openOffer i q ws) os g)
 
   -- an ALT and its option, with an output
   pub takeFrom-effect : (r j o i q e a : ℕ) (z : Message) (os : List Offer) → w r ≡ selects os → offerAt j os ≡ some (inputOffer i q e a) → w o ≡ outputsTo e z
       → effectOf (takeWithOutput r j o) w ≡ some (effect (becomes r q 1 ∷ becomes o o 2 ∷ []) (writeCell a z ∷ []))
-  takeFrom-effect r j o i q e a z os h g f = rw h (offer-effect j (takeFromEffect r o (w o)) (inputOffer i q e a) os g ∙ rw (f, same e))
+  takeFrom-effect r j o i q e a z os h g f = rw h (offer-effect j (takeWithOutputEffect r o (w o)) (inputOffer i q e a) os g ∙ rw (f, same e))
 
   -- a step that can be taken does what is told of it
   pub active-effect : {x : Label} {e : Effect} → Active w x e → effectOf x w ≡ some e

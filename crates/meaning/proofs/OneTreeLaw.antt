@@ -14,7 +14,7 @@ use Rattle.meaning.specs.Rows.{rowCount, kindAt}
 use Rattle.meaning.proofs.Decides.{Decides, holding, failing, decides-or, decides-eq}
 use Rattle.meaning.specs.Kinds.{Shape, shapes, shapeIn, shapeOf}
 use Rattle.meaning.specs.Declarations.{declares, leading, declarations}
-use Rattle.meaning.specs.References.{RefersBy, Place, of-a, of-b, of-c, fieldOf, numberOf, Refers, Beneath, direct, further}
+use Rattle.meaning.specs.References.{RefersBy, Column, of-a, of-b, of-c, fieldOf, numberOf, Refers, Beneath, direct, further}
 use Rattle.meaning.specs.Faults.{Once, Placed, WellPlaced}
 use Rattle.meaning.specs.StageClaims.{OneTree}
 use Rattle.meaning.proofs.ReferenceCounts.{bounds}
@@ -39,14 +39,14 @@ unfolding declarations
 declared rows q h = true-holds (leads-declared rows (rowCount rows) 0 q (omega arith) h) (decides-or (decides-eq (kindAt rows q) 1) (decides-eq (kindAt rows q) 2))
 
 -- a reference by the shape of the row's kind
-pub refers-by : (rows : List ℤ) (q : ℕ) (p : Place) (t k : ℕ) (u : Shape) → kindAt rows q ≡ k → shapeOf k ≡ some u → Refers rows q p t → RefersBy rows q (fieldOf u p) (numberOf rows q p) t
+pub refers-by : (rows : List ℤ) (q : ℕ) (p : Column) (t k : ℕ) (u : Shape) → kindAt rows q ≡ k → shapeOf k ≡ some u → Refers rows q p t → RefersBy rows q (fieldOf u p) (numberOf rows q p) t
 unfolding Refers
 refers-by rows q p t k u e i h =
     subst (λ (s : Shape). RefersBy rows q (fieldOf s p) (numberOf rows q p) t)
     (Option·some-injective (h .0) u (sym (h .1) ∙ subst (λ (m : ℕ). shapeOf m ≡ some u) (sym e) i)) (h .2)
 
 -- a declaration refers to no row
-pub declares-only : (rows : List ℤ) (q : ℕ) (p : Place) (t : ℕ) → (kindAt rows q ≡ 1) ⊎ (kindAt rows q ≡ 2) → Refers rows q p t → ⊥
+pub declares-only : (rows : List ℤ) (q : ℕ) (p : Column) (t : ℕ) → (kindAt rows q ≡ 1) ⊎ (kindAt rows q ≡ 2) → Refers rows q p t → ⊥
 unfolding shapeOf shapeIn shapes RefersBy
 declares-only rows q of-a t (inl e) = refers-by rows q of-a t 1 _ e refl
 declares-only rows q of-b t (inl e) = refers-by rows q of-b t 1 _ e refl

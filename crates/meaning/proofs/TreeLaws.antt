@@ -13,7 +13,7 @@ use Rattle.meaning.specs.Kinds.{Field, unused, literalValue, within, ele
 use Rattle.meaning.specs.Declarations.{declarations}
 use Rattle.meaning.specs.Verdict.{refers, leads, targetsBelow, occurrences, leadsBy, notReferredOnce, rowFaultAt, treeFaultAt, treeFault}
 use Rattle.meaning.proofs.ReferenceCounts.{decides-among, decides-target, Never, count-all, never-zero, once-one}
-use Rattle.meaning.specs.References.{IsOf, IsTarget, Place, of-a, of-b, of-c, fieldOf, numberOf, Refers}
+use Rattle.meaning.specs.References.{IsOf, IsTarget, Column, of-a, of-b, of-c, fieldOf, numberOf, Refers}
 use Rattle.meaning.specs.Faults.{Leads, Once, Placed, WellPlaced}
 use Rattle.meaning.specs.StageClaims.{TreeStage}
 
@@ -37,7 +37,7 @@ decides-leads rows r (reference kinds) z = decides-refers rows r kinds z
 decides-leads rows r (link kinds) z = decides-or (decides-eqZ z (negsuc 0)) (decides-refers rows r kinds z)
 
 decides-leadsBy : (rows : List ℤ) (r : ℕ) (o : Option Shape) → shapeOf (kindAt rows r) ≡ o
-    → Decides ((s : Shape) → IsOf rows r s → (p : Place) → Leads rows r (fieldOf s p) (numberOf rows r p)) (leadsBy rows r o)
+    → Decides ((s : Shape) → IsOf rows r s → (p : Column) → Leads rows r (fieldOf s p) (numberOf rows r p)) (leadsBy rows r o)
 decides-leadsBy rows r none e = holding (λ s h p. absurd (Option·none-ne-some s (sym e ∙ h)))
 decides-leadsBy rows r (some s) e =
     decides-iff
@@ -45,21 +45,21 @@ decides-leadsBy rows r (some s) e =
     (λ h. ((h s e of-a, h s e of-b), h s e of-c))
     (decides-and (decides-and (decides-leads rows r (s .a) (fieldAt rows r 1)) (decides-leads rows r (s .b) (fieldAt rows r 2))) (decides-leads rows r (s .c) (fieldAt rows r 3)))
   where
-    each : ((Leads rows r (s .a) (fieldAt rows r 1) × Leads rows r (s .b) (fieldAt rows r 2)) × Leads rows r (s .c) (fieldAt rows r 3)) → (p : Place) → Leads rows r (fieldOf s p) (numberOf rows r p)
+    each : ((Leads rows r (s .a) (fieldAt rows r 1) × Leads rows r (s .b) (fieldAt rows r 2)) × Leads rows r (s .c) (fieldAt rows r 3)) → (p : Column) → Leads rows r (fieldOf s p) (numberOf rows r p)
     each h of-a = h .0 .0
     each h of-b = h .0 .1
     each h of-c = h .1
 
 -- The stage ---------------------------------------------------------------------------------------------------------------------
 
-counted : (rows : List ℤ) (r : ℕ) → Faults (((r ≡ declarations rows) → (q : ℕ) (o : Place) → ¬ Refers rows q o r) × (¬ (r ≡ declarations rows) → Once rows r)) (notReferredOnce (targetsBelow rows (rowCount rows)) (declarations rows) r)
+counted : (rows : List ℤ) (r : ℕ) → Faults (((r ≡ declarations rows) → (q : ℕ) (o : Column) → ¬ Refers rows q o r) × (¬ (r ≡ declarations rows) → Once rows r)) (notReferredOnce (targetsBelow rows (rowCount rows)) (declarations rows) r)
 unfolding Never
 counted rows r = go (decides-eq r (declarations rows))
   where
     c : ℕ
     c = occurrences r (targetsBelow rows (rowCount rows))
 
-    go : {b : Bool} → Decides (r ≡ declarations rows) b → Faults (((r ≡ declarations rows) → (q : ℕ) (o : Place) → ¬ Refers rows q o r) × (¬ (r ≡ declarations rows) → Once rows r)) (not (eqb c (ifElse b 0 1)))
+    go : {b : Bool} → Decides (r ≡ declarations rows) b → Faults (((r ≡ declarations rows) → (q : ℕ) (o : Column) → ¬ Refers rows q o r) × (¬ (r ≡ declarations rows) → Once rows r)) (not (eqb c (ifElse b 0 1)))
     go (holding e) =
         faults-iff
         (λ z. (λ i. never-zero rows r (count-all rows r) .0 z, λ n. absurd (n e)))

@@ -9,7 +9,7 @@ use Rattle.meaning.specs.Limits.{maxCells, maxElements, maxHostChannels,
 use Rattle.meaning.specs.Rows.{rowCount, fieldAt, naturalAt, kindAt}
 use Rattle.meaning.specs.Declarations.{declarations, sumBelow, cellsAt, elementsAt, hostChannelsAt, capacityAt}
 use Rattle.meaning.specs.Kinds.{Field, unused, literalValue, within, elements, capacity, variable, channel, reference, link, Shape, processes}
-use Rattle.meaning.specs.References.{Place, fieldOf, numberOf, IsOf, IsTarget, Refers}
+use Rattle.meaning.specs.References.{Column, fieldOf, numberOf, IsOf, IsTarget, Refers}
 
 module _ (rows : List ℤ) where
   -- z is the row of a declaration of kind k, r
@@ -48,15 +48,15 @@ module _ (rows : List ℤ) where
 
   -- "Each later row is referred to once": by one row and one of its fields, and by no other
   unfoldable pub Once : ℕ → Type 0
-  Once t = (r : ℕ) × (p : Place) × Refers rows r p t × ((q : ℕ) (o : Place) → Refers rows q o t → (q ≡ r) × (o ≡ p))
+  Once t = (r : ℕ) × (p : Column) × Refers rows r p t × ((q : ℕ) (o : Column) → Refers rows q o t → (q ≡ r) × (o ≡ p))
 
   -- of a row after the declarations: its references lead to where they may; the root is a process and nothing refers to it;
   -- each other row is referred to once
   unfoldable pub Placed : ℕ → Type 0
   Placed r =
-      ((s : Shape) → IsOf rows r s → (p : Place) → Leads r (fieldOf s p) (numberOf rows r p))
+      ((s : Shape) → IsOf rows r s → (p : Column) → Leads r (fieldOf s p) (numberOf rows r p))
       × ((r ≡ declarations rows) → List·Memᴰ (kindAt rows r) processes)
-      × ((r ≡ declarations rows) → (q : ℕ) (o : Place) → ¬ Refers rows q o r)
+      × ((r ≡ declarations rows) → (q : ℕ) (o : Column) → ¬ Refers rows q o r)
       × (¬ (r ≡ declarations rows) → Once r)
 
   -- 5: such a row is placed so; the count of rows is a place at fault if there is no root

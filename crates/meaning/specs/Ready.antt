@@ -60,13 +60,13 @@ passEffect i o (outputsTo e v) u = none
 passEffect i o (selects l) u = none
 
 -- "the option's process starts", by itself or with an output
-abbrev pub takeEffect : ℕ → Offer → Option Effect
-takeEffect r (openOffer j q ws) = some (record { changes = record { by = r; at = q; become = 1 } ∷ []; writes = ws })
-takeEffect r (inputOffer j q e a) = none
+abbrev pub takeOptionEffect : ℕ → Offer → Option Effect
+takeOptionEffect r (openOffer j q ws) = some (record { changes = record { by = r; at = q; become = 1 } ∷ []; writes = ws })
+takeOptionEffect r (inputOffer j q e a) = none
 
-abbrev pub takeFromEffect : ℕ → ℕ → Intent → Offer → Option Effect
-takeFromEffect r o u (openOffer j q ws) = none
-takeFromEffect r o u (inputOffer j q e a) = communicationEffect (record { element = e; cell = a; change = record { by = r; at = q; become = 1 } }) o u
+abbrev pub takeWithOutputEffect : ℕ → ℕ → Intent → Offer → Option Effect
+takeWithOutputEffect r o u (openOffer j q ws) = none
+takeWithOutputEffect r o u (inputOffer j q e a) = communicationEffect (record { element = e; cell = a; change = record { by = r; at = q; become = 1 } }) o u
 
 abbrev pub optionRow : Offer → ℕ
 optionRow (openOffer j q ws) = j
@@ -88,8 +88,8 @@ offerEffect j f (selects l) = offerEffectAt j f l
 abbrev pub effectOf : Label → (ℕ → Intent) → Option Effect
 effectOf (own r) w = ownEffect r (w r)
 effectOf (pass i o) w = passEffect i o (w i) (w o)
-effectOf (takeOption r j) w = offerEffect j (takeEffect r) (w r)
-effectOf (takeWithOutput r j o) w = offerEffect j (takeFromEffect r o (w o)) (w r)
+effectOf (takeOption r j) w = offerEffect j (takeOptionEffect r) (w r)
+effectOf (takeWithOutput r j o) w = offerEffect j (takeWithOutputEffect r o (w o)) (w r)
 
 -- a running row, with what it would do
 pub record RunningRow : Type 0 where

@@ -8,19 +8,19 @@ use Rattle.meaning.specs.Rows.{rowCount, fieldAt, kindAt}
 use Rattle.meaning.specs.Kinds.{Field, unused, literalValue, within, elements, capacity, variable, channel, reference, link, Shape, shapeOf}
 
 -- a field of a row: a, b or c
-pub data Place : Type 0 where
-  of-a : Place
-  of-b : Place
-  of-c : Place
+pub data Column : Type 0 where
+  of-a : Column
+  of-b : Column
+  of-c : Column
 
-abbrev pub fieldOf : Shape → Place → Field
+abbrev pub fieldOf : Shape → Column → Field
 fieldOf s of-a = s .a
 fieldOf s of-b = s .b
 fieldOf s of-c = s .c
 
 module _ (rows : List ℤ) where
   -- what it holds
-  abbrev pub numberOf : ℕ → Place → ℤ
+  abbrev pub numberOf : ℕ → Column → ℤ
   numberOf r of-a = fieldAt rows r 1
   numberOf r of-b = fieldAt rows r 2
   numberOf r of-c = fieldAt rows r 3
@@ -46,10 +46,10 @@ module _ (rows : List ℤ) where
   RefersBy r (link kinds) z t = (z ≡ pos t) × IsTarget r kinds t
 
   -- row r refers to row t, by one of its fields
-  unfoldable pub Refers : ℕ → Place → ℕ → Type 0
+  unfoldable pub Refers : ℕ → Column → ℕ → Type 0
   Refers r p t = (s : Shape) × IsOf r s × RefersBy r (fieldOf s p) (numberOf r p) t
 
 -- rows beneath a row: those that it refers to, and those beneath them
 pub data Beneath (rows : List ℤ) (r : ℕ) : ℕ → Type 0 where
-  direct : {t : ℕ} (p : Place) → Refers rows r p t → Beneath rows r t
-  further : {s t : ℕ} (p : Place) → Beneath rows r s → Refers rows s p t → Beneath rows r t
+  direct : {t : ℕ} (p : Column) → Refers rows r p t → Beneath rows r t
+  further : {s t : ℕ} (p : Column) → Beneath rows r s → Refers rows s p t → Beneath rows r t

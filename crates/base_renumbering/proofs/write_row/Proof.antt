@@ -8,7 +8,7 @@ use lib.ListN.{getD}
 use mir.Syntax.{w32}
 use mir.ValLaws.{toZ-ofZ}
 use Rattle.meaning.specs.Rows.{naturalOf, rowCount}
-use Rattle.meaning.specs.References.{Place, of-a, of-b, of-c, numberOf}
+use Rattle.meaning.specs.References.{Column, of-a, of-b, of-c, numberOf}
 use Rattle.base_kinds.specs.Table.{fieldMeant}
 use Rattle.base_top_down.specs.Forms.{isReference}
 use Rattle.base_top_down.specs.New.{Wrote}
@@ -20,7 +20,7 @@ use Rattle.base_renumbering.proofs.write_row.Statement.{statement}
 use Rattle.base_renumbering.proofs.write_row.Tie as tie
 
 -- the numbers of the row and of those that it refers to fit
-small : (q : tie.After-shape-of) (p : Place) →
+small : (q : tie.After-shape-of) (p : Column) →
     let s = q .before .before .before in
     isReference (fieldMeant (entryOf (q .shape-of .result) p)) ≡ true → getD (s .args .numbers .now) (naturalOf (numberOf (s .args .rows .now) (s .args .r) p)) 0 < 2147483648
 small q p =
