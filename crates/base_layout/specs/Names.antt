@@ -82,7 +82,7 @@ channelIn names sort a =
     let inner : declared.Channel = record { first = first; size = size; host = false; number = 0; capacity = 0 } in
     ifElse (isSort names a sort) host (ifElse (isSort names a 2) inner noChannel)
 
--- a channel with no port where it is not the host's
+-- a channel with no host channel number where it is not the host's
 abbrev pub hostNumber : declared.Channel → declared.Channel
 hostNumber c = record { first = c .first; size = c .size; host = c .host; number = ifElse (c .host) (c .number) 0; capacity = c .capacity }
 

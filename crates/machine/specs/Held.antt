@@ -101,7 +101,7 @@ putChanges (c ∷ cs) b = putChanges cs (putState (c .at) (c .become) b)
 unfoldable pub putEffect : List ℤ → Effect → Buffers → Buffers
 putEffect rows e b = putSettled rows false (putChanges (e .changes) (putWrites rows (e .writes) b))
 
--- a change of data is within what the table declares: a cell, a port, one more message where a channel has room
+-- a change of data is within what the table declares: a cell, a host channel, one more message where a channel has room
 abbrev pub InRange : List ℤ → Store → Write → Type 0
 InRange rows x (writeCell a m) = a < totalCells rows
 InRange rows x (writePlace p k) = p < hostChannels 1 rows
