@@ -12,7 +12,7 @@ pub mod nodes; // nodes.rt: the numbers of a row, and the rows that it refers to
 
 use nodes::natural;
 
-// Five numbers for each of 1,024 rows: its sort, first, size, port and capacity.
+// Five numbers for each of 1,024 rows: its sort, first, size, host channel number and capacity.
 pub struct Layout {
     pub names: [u16; 5120],
 }
