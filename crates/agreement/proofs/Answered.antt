@@ -68,7 +68,7 @@ module _ (rows : List ℤ) (sheet : List ℕ) (accepted : check rows ≡ none) (
     answers call h choices budget b e m =
         let (enough, less) = agreement BothAccepted (λ rows sheet a. (fit rows (a .0), option-rows rows (a .0))) rows (readings rows sheet) (accepted, (sheet, (read, refl))) w l s o r .1 choices budget in (
           λ k. h choices budget b e m ∙ ap (λ (z : R.RunResult). replyOf rows b (ran z)) (enough k),
-          λ k. ap (λ (z : Reply). z .answer) (h choices budget b e m) ∙ (let (p, q) = less k in rw (p, q)),
+          λ k. let (p, q, d) = less k in (ending choices budget .ready, d, ap (λ (z : Reply). z .answer) (h choices budget b e m) ∙ rw (p, q)),
         )
 
 pub demand3 : Demand3

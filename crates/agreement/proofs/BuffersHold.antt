@@ -51,7 +51,7 @@ too-short-exactly b = (to, from)
 
 -- Held -----------------------------------------------------------------------------------------------------------------------------
 
-lent-untouched : {A : Type 0} (n : ℕ) (d : A) (xs old : List A) → n ≤ length old → UntouchedPast n old (lent n d xs old)
+pub lent-untouched : {A : Type 0} (n : ℕ) (d : A) (xs old : List A) → n ≤ length old → UntouchedPast n old (lent n d xs old)
 lent-untouched n d xs old h =
     record {
       past-limit = λ i l. let e : n + (i - n) ≡ i = omega arith in subst (λ (k : ℕ). getElem? (lent n d xs old) k ≡ getElem? old k) e (lent-past d n (i - n) xs old);
@@ -59,10 +59,10 @@ lent-untouched n d xs old h =
     }
 
 -- an entry of a list that fits, and past the list
-lent-entry : {A : Type 0} (n : ℕ) (d : A) (xs old : List A) → length xs ≤ n → (i : ℕ) (v : A) → HoldsAt xs i v → HoldsAt (lent n d xs old) i v
+pub lent-entry : {A : Type 0} (n : ℕ) (d : A) (xs old : List A) → length xs ≤ n → (i : ℕ) (v : A) → HoldsAt xs i v → HoldsAt (lent n d xs old) i v
 lent-entry n d xs old h i v e = let (l, g) = entry-is xs i d v e in lent-holds d n i xs old (omega arith) ∙ ap some g
 
-lent-unused : {A : Type 0} (n : ℕ) (d : A) (xs old : List A) (i : ℕ) → length xs ≤ i → i < n → HoldsAt (lent n d xs old) i d
+pub lent-unused : {A : Type 0} (n : ℕ) (d : A) (xs old : List A) (i : ℕ) → length xs ≤ i → i < n → HoldsAt (lent n d xs old) i d
 lent-unused n d xs old i h l = lent-holds d n i xs old l ∙ ap some (List·getD-eq-default xs d h)
 
 module _ (rows : List ℤ) (s : State) (L : Limited rows) (D : AsDeclared rows s) (room : (r : ℕ) → ToHost rows r → length (listIn rows r s) ≤ capacityAt rows r) (b : Buffers) where

@@ -21,8 +21,8 @@ pub short-refused : ShortRefused
 unfolding bufferFault
 short-refused = (λ t b e. rw (reply-stages t b, e), λ table sheet choices budget b e. rw (reply-to-bytes table sheet choices budget b, e))
 
-no-run : (f : Refusal) (o : Outcome) (n : ℕ) → Refused (f .0) (f .1) ≡ Ran o n → ⊥
-no-run f o n e = let z : _≡_ {A = ℕ} 0 1 = cc in omega arith
+no-run : (f : Refusal) (o : Outcome) (n k : ℕ) → Refused (f .0) (f .1) ≡ Ran o n k → ⊥
+no-run f o n k e = let z : _≡_ {A = ℕ} 0 1 = cc in omega arith
 
 module _ (table sheet choices : List ℕ) (budget : ℕ) (b : Buffers) where
   abbrev answered : Reply
@@ -45,12 +45,12 @@ module _ (table sheet choices : List ℕ) (budget : ℕ) (b : Buffers) where
       go false e (some f) g = turned-back f (bytes-as-rows table sheet choices budget b .1 f e g)
 
   -- one that ran is one on rows
-  ran : (o : Outcome) (n : ℕ) → answered .answer ≡ Ran o n → (bytesFault table ≡ none) × (answered ≡ onRows) × (onRows .answer ≡ Ran o n)
-  ran o n e = go bytes
+  pub ran-on-rows : (o : Outcome) (n k : ℕ) → answered .answer ≡ Ran o n k → (bytesFault table ≡ none) × (answered ≡ onRows) × (onRows .answer ≡ Ran o n k)
+  ran-on-rows o n k e = go bytes
     where
-      go : Bytes → (bytesFault table ≡ none) × (answered ≡ onRows) × (onRows .answer ≡ Ran o n)
+      go : Bytes → (bytesFault table ≡ none) × (answered ≡ onRows) × (onRows .answer ≡ Ran o n k)
       go (read g w) = (g, w, ap (λ (r : Reply). r .answer) (sym w) ∙ e)
-      go (turned-back f w) = absurd (no-run f o n (ap (λ (r : Reply). r .answer) (sym w) ∙ e))
+      go (turned-back f w) = absurd (no-run f o n k (ap (λ (r : Reply). r .answer) (sym w) ∙ e))
 
 pub refused-untouched-bytes : RefusedUntouchedBytes
 refused-untouched-bytes table sheet choices budget b number place e = go (bytes table sheet choices budget b)
@@ -62,21 +62,21 @@ refused-untouched-bytes table sheet choices budget b number place e = go (bytes 
     go (turned-back f w) = ap (λ (r : Reply). r .buffers) w
 
 pub ran-unrefused : RanUnrefused
-ran-unrefused table sheet choices budget b o n e = ran table sheet choices budget b o n e .0
+ran-unrefused table sheet choices budget b o n k e = ran-on-rows table sheet choices budget b o n k e .0
 
 pub run-answered-bytes : RunAnsweredBytes
-run-answered-bytes table sheet choices budget b o n e =
-    let (_, w, k) = ran table sheet choices budget b o n e in
+run-answered-bytes table sheet choices budget b o n k e =
+    let (_, w, h) = ran-on-rows table sheet choices budget b o n k e in
     let t = taskOfBytes table sheet choices budget in
-    subst (λ (r : Reply). RanAs t b r o n) (sym w) (run-answered t b o n k)
+    subst (λ (r : Reply). RanAs t b r o n k) (sym w) (run-answered t b o n k h)
 
 pub order-answered-bytes : OrderAnsweredBytes
 order-answered-bytes table sheet whole accepted right l s o few b long =
-    let (choices, small, (outcome, w)) = order-answered (rowsOf table) sheet accepted right l s o few b long in
-    (choices, small, (outcome, bytes-as-rows table sheet choices _ b .0 whole ∙ w))
+    let (choices, small, (outcome, (total, listed, w))) = order-answered (rowsOf table) sheet accepted right l s o few b long in
+    (choices, small, (outcome, (total, listed, bytes-as-rows table sheet choices _ b .0 whole ∙ w)))
 
 pub missing-answered-bytes : MissingAnsweredBytes
-missing-answered-bytes table sheet choices budget b o n e =
-    let (_, w, k) = ran table sheet choices budget b o n e in
+missing-answered-bytes table sheet choices budget b o n k e =
+    let (_, w, h) = ran-on-rows table sheet choices budget b o n k e in
     let t = taskOfBytes table sheet choices budget in
-    subst (λ (r : Reply). HandedCells t b r o n) (sym w) (missing-answered t b o n k)
+    subst (λ (r : Reply). HandedCells t b r o n k) (sym w) (missing-answered t b o n k h)

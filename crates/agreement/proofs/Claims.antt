@@ -27,18 +27,18 @@ module _ (Accepted : List ℤ → Sheet → Type 0) where
   RowsDiffer = (rows : List ℤ) (sheet : Sheet) (l : List Label) (s : State) → Accepted rows sheet → OrderOf rows sheet l s
       → (x y : Label) → List·Memᴰ x (ready (program rows) sheet s) → List·Memᴰ y (ready (program rows) sheet s) → orderRow x ≡ orderRow y → x ≡ y
 
-  -- how a run ends: at rest, with the outcome of rest; or spent, with the budget used and a step left
+  -- how a run ends: at rest, with the outcome of rest and no step ready; or spent, with the budget used and a step left
   abbrev pub Finish : List ℤ → Sheet → ℕ → RunResult → Type 0
   Finish rows sheet budget r =
-      (RestOf rows sheet (r .state) × (r .outcome ≡ outcomeOf rows (r .state)))
-      ⊎ ((r .steps ≡ budget) × (r .outcome ≡ Spent) × ((x : Label) × ((t : State) × Step (program rows) sheet (r .state) x t)))
+      (RestOf rows sheet (r .state) × (r .outcome ≡ outcomeOf rows (r .state)) × (r .ready ≡ 0))
+      ⊎ ((r .steps ≡ budget) × (r .outcome ≡ Spent) × (0 < r .ready) × ((x : Label) × ((t : State) × Step (program rows) sheet (r .state) x t)))
 
   -- "A run takes the order that its choices pick, up to rest or its budget, and the steps it reports are the length of that order"
   abbrev pub Runs : Type 0
   Runs = (rows : List ℤ) (sheet : Sheet) (choices : List ℕ) (budget : ℕ) → Accepted rows sheet
       → let r = run rows sheet choices budget in
       (l : List Label) × OrderOf rows sheet l (r .state) × ChosenOf rows sheet choices l (r .state)
-      × (length l ≡ r .steps) × (r .steps ≤ budget) × Finish rows sheet budget r
+      × (length l ≡ r .steps) × (r .steps ≤ budget) × Finish rows sheet budget r × (r .ready ≡ length (ready (program rows) sheet (r .state)))
 
   -- "Every step so allowed can be chosen": every order is some run's
   abbrev pub Choosable : Type 0
@@ -56,5 +56,5 @@ module _ (Accepted : List ℤ → Sheet → Type 0) where
       → (l : List Label) (s : State) → OrderOf rows sheet l s → RestOf rows sheet s
       → ((k : List Label) (t : State) → OrderOf rows sheet k t → (length k ≤ length l) × (RestOf rows sheet t → (length k ≡ length l) × (t ≡ s)))
       × ((choices : List ℕ) (budget : ℕ)
-      → (length l ≤ budget → run rows sheet choices budget ≡ record { outcome = outcomeOf rows s; steps = length l; state = s })
-      × (budget < length l → (run rows sheet choices budget .outcome ≡ Spent) × (run rows sheet choices budget .steps ≡ budget)))
+      → (length l ≤ budget → run rows sheet choices budget ≡ record { outcome = outcomeOf rows s; steps = length l; ready = 0; state = s })
+      × (budget < length l → (run rows sheet choices budget .outcome ≡ Spent) × (run rows sheet choices budget .steps ≡ budget) × (0 < run rows sheet choices budget .ready)))

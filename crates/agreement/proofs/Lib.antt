@@ -51,6 +51,7 @@ pub mod OneRest
 pub mod OutputsGrow
 pub mod FewReady
 pub mod Choosable
+pub mod ReadyTotals
 pub mod Demands
 pub mod UsageRows
 pub mod UsageLists
@@ -99,3 +100,5 @@ pub mod BuffersExact
 pub mod DecodedStates
 pub mod CallsOnBytes
 pub mod ResultsRead
+pub mod Traces
+pub mod TracedCalls

@@ -11,7 +11,6 @@ use lib.IntN.{ℤ, pos, negsuc}
 use lib.ListN.{length, getD, drop, length-take, length-drop}
 use lib.Seq.{getD-take, getD-drop}
 use lib.Dec.{leb}
-use Rattle.meaning.specs.declared.Answer.the-variants.{Ran}
 use Rattle.meaning.specs.Basics.{ifElse}
 use Rattle.meaning.specs.Limits.{maxCells}
 use Rattle.meaning.specs.Numerals.{natural, decimal, printed}
@@ -20,7 +19,7 @@ use Rattle.meaning.specs.Values.{Message}
 use Rattle.meaning.specs.State.{State}
 use Rattle.meaning.specs.Run.{RunResult}
 use Rattle.meaning.specs.Buffers.{Buffers, mark, encode}
-use Rattle.meaning.specs.Printing.{Word, outcomeWord, varWord, outWord, stopWord, refusedWord, Line, line, numbered, cellsOf, cellLines, outLines, stopLines, answerLine, runLines, valueBytes}
+use Rattle.meaning.specs.Printing.{Word, outcomeWord, varWord, outWord, stopWord, refusedWord, Line, line, numbered, cellsOf, cellLines, outLines, stopLines, outcomeLine, endLines, runLines, valueBytes}
 use Rattle.meaning.proofs.NumeralLaws.{natural-decimal}
 use Rattle.agreement.specs.MissingClaims.{cellAt, cellNumber, PrintedEmpty, VariableLines, CellsPrinted}
 use Rattle.agreement.proofs.MissingMarks.{encoded-cells}
@@ -141,21 +140,21 @@ stop-word r (q ∷ qs) l m = go (leb 10 q) m (λ k. stop-word (suc r) qs l k)
 module _ (rows : List ℤ) (r : RunResult) where
   -- a variable's line is a line of the cells
   among-cells : (l : Line) → List·Memᴰ l (runLines rows r) → wordNumber (l .what) ≡ 1 → List·Memᴰ l (cellLines rows (r .state .store .cells))
-  unfolding runLines answerLine wordNumber
-  among-cells l m h = go (List·Memᴰ·append-cases (answerLine (Ran (r .outcome) (r .steps)) ∷ cellLines rows (r .state .store .cells) ++ outLines (channels rows 2) (r .state .store .outputs)) m)
+  unfolding endLines outcomeLine wordNumber
+  among-cells l m h = go (List·Memᴰ·append-cases (outcomeLine (r .outcome) (r .steps) ∷ cellLines rows (r .state .store .cells) ++ outLines (channels rows 2) (r .state .store .outputs)) m)
     where
-      in-cells : List·Memᴰ l (answerLine (Ran (r .outcome) (r .steps)) ∷ cellLines rows (r .state .store .cells)) → List·Memᴰ l (cellLines rows (r .state .store .cells))
+      in-cells : List·Memᴰ l (outcomeLine (r .outcome) (r .steps) ∷ cellLines rows (r .state .store .cells)) → List·Memᴰ l (cellLines rows (r .state .store .cells))
       in-cells (List·Memᴰ·head e) = let z : _≡_ {A = ℕ} 0 1 = sym (ap (λ (k : Line). wordNumber (k .what)) e) ∙ h in absurd (omega arith)
       in-cells (List·Memᴰ·tail k) = k
 
-      front : List·Memᴰ l (answerLine (Ran (r .outcome) (r .steps)) ∷ cellLines rows (r .state .store .cells)) ⊎ List·Memᴰ l (outLines (channels rows 2) (r .state .store .outputs))
+      front : List·Memᴰ l (outcomeLine (r .outcome) (r .steps) ∷ cellLines rows (r .state .store .cells)) ⊎ List·Memᴰ l (outLines (channels rows 2) (r .state .store .outputs))
           → List·Memᴰ l (cellLines rows (r .state .store .cells))
       front (inl k) = in-cells k
       front (inr k) = absurd (omega (arith, out-word (channels rows 2) (r .state .store .outputs) l k))
 
-      go : List·Memᴰ l (answerLine (Ran (r .outcome) (r .steps)) ∷ cellLines rows (r .state .store .cells) ++ outLines (channels rows 2) (r .state .store .outputs)) ⊎ List·Memᴰ l (stopLines 0 (r .state .states))
+      go : List·Memᴰ l (outcomeLine (r .outcome) (r .steps) ∷ cellLines rows (r .state .store .cells) ++ outLines (channels rows 2) (r .state .store .outputs)) ⊎ List·Memᴰ l (stopLines 0 (r .state .states))
           → List·Memᴰ l (cellLines rows (r .state .store .cells))
-      go (inl k) = front (List·Memᴰ·append-cases (answerLine (Ran (r .outcome) (r .steps)) ∷ cellLines rows (r .state .store .cells)) k)
+      go (inl k) = front (List·Memᴰ·append-cases (outcomeLine (r .outcome) (r .steps) ∷ cellLines rows (r .state .store .cells)) k)
       go (inr k) = absurd (omega (arith, stop-word 0 (r .state .states) l k))
 
 -- the mark of a cell in the lent buffers, and its printed field
@@ -173,7 +172,7 @@ variable-lines rows r l m w =
 
 -- each cell of a variable has its line
 pub cells-printed : CellsPrinted
-unfolding runLines
+unfolding endLines
 cells-printed rows r v i m h g =
     Memᴰ·append-left (stopLines 0 (r .state .states))
     (Memᴰ·append-left (outLines (channels rows 2) (r .state .store .outputs)) (List·Memᴰ·tail (cell-printed rows (r .state .store .cells) v i m h g)))

@@ -1,6 +1,5 @@
 -- A running row that lacks a value has one step, the stop, and lacks it for one reason. It holds of every table.
-use mathlib.Core.Path.{_≡_, sym, ap, subst, _∙_}
-use mathlib.Core.Logic.{inl, inr}
+use mathlib.Core.Path.{_≡_, refl, sym, ap, subst, _∙_}
 use mathlib.Core.Bool.{Bool, true, false}
 use mathlib.Core.Option.{some, Option·none-ne-some}
 use mathlib.Core.List.{List, [], _∷_}
@@ -17,7 +16,8 @@ use Rattle.meaning.specs.Settle.{settled}
 use Rattle.meaning.specs.Intent.{Offer, openOffer, inputOffer, Intent, waits, moves, inputsFrom, outputsTo, selects}
 use Rattle.meaning.specs.Ready.{intentAt, takeWithOutputEffect, optionRow, offerEffectAt, offerEffect, passEffect, effectOf}
 use Rattle.meaning.specs.Step.{Lacks, Live, Allows, Leaves, Step, stopping}
-use Rattle.agreement.specs.MissingClaims.{OfRow, OneReason, stopEffect, LackingOnlyStops}
+use Rattle.agreement.specs.RowsOfSteps.{RowOf, of-own, of-input, of-output, of-alt, of-alt-input, of-alt-output}
+use Rattle.agreement.specs.MissingClaims.{OneReason, stopEffect, LackingOnlyStops}
 use Rattle.agreement.proofs.Takeable.{takeable, live-want, lacks-want}
 use Rattle.agreement.proofs.Steps.{distinct-options, allowed-step}
 use Rattle.agreement.proofs.MissingSteps.{one-effect}
@@ -76,16 +76,16 @@ module _ (rows : List ℤ) (sheet : Sheet) (s : State) (r reason : ℕ) (a : Act
   nothing-taken-from q j (outputsTo d v) u e z p = Option·none-ne-some e p
   nothing-taken-from q j (selects l) u e z p = nothing-taken q j l e (rw z at p)
 
-  -- so a step that names the row is its own
-  own-step : intentAt P sheet s r ≡ moves r (10 + reason) [] → (x : Label) (e : Effect) → effectOf x (intentAt P sheet s) ≡ some e → OfRow r x → x ≡ own r
-  own-step z (own q) e p h = ap own h
-  own-step z (pass i o) e p (inl h) = absurd (Option·none-ne-some e (rw (h, z) at p))
-  own-step z (pass i o) e p (inr h) = absurd (nothing-sent i (intentAt P sheet s i) (intentAt P sheet s r) e z (rw h at p))
-  own-step z (takeOption q j) e p h = absurd (Option·none-ne-some e (rw (h, z) at p))
-  own-step z (takeWithOutput q j o) e p (inl h) = absurd (Option·none-ne-some e (rw (h, z) at p))
-  own-step z (takeWithOutput q j o) e p (inr h) = absurd (nothing-taken-from q j (intentAt P sheet s q) (intentAt P sheet s r) e z (rw h at p))
+  -- so a step of the row is its own
+  own-step : intentAt P sheet s r ≡ moves r (10 + reason) [] → (x : Label) (e : Effect) → effectOf x (intentAt P sheet s) ≡ some e → RowOf x r → x ≡ own r
+  own-step z (own q) e p of-own = refl
+  own-step z (pass i o) e p of-input = absurd (Option·none-ne-some e (rw z at p))
+  own-step z (pass i o) e p of-output = absurd (nothing-sent i (intentAt P sheet s i) (intentAt P sheet s r) e z p)
+  own-step z (takeOption q j) e p of-alt = absurd (Option·none-ne-some e (rw z at p))
+  own-step z (takeWithOutput q j o) e p of-alt-input = absurd (Option·none-ne-some e (rw z at p))
+  own-step z (takeWithOutput q j o) e p of-alt-output = absurd (nothing-taken-from q j (intentAt P sheet s q) (intentAt P sheet s r) e z p)
 
-  only-stops : Live P s r a → Lacks (s .store .cells) a reason → (x : Label) (t : State) → Step P sheet s x t → OfRow r x → (x ≡ own r) × Leaves P s (stopEffect r reason) t
+  only-stops : Live P s r a → Lacks (s .store .cells) a reason → (x : Label) (t : State) → Step P sheet s x t → RowOf x r → (x ≡ own r) × Leaves P s (stopEffect r reason) t
   only-stops g h x t k o =
       let z = own-step (would-stop g h) x (k .does) (takeable P sheet s (distinct-options rows sheet s) x (k .does) (k .allowed)) o in
       let e = one-effect rows sheet s (own r) (k .does) (stopEffect r reason) (subst (λ (y : Label). Allows P sheet s y (k .does)) z (k .allowed)) (stopping g h) in

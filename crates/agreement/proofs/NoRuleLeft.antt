@@ -41,7 +41,7 @@ module _ (s t : List ℕ) where
       still-agree (mode k) ms (λ y q. g y (sub-rows (List·Memᴰ·tail q) p u)) (h k r ms u (sym (g r (sub-in p u)) ∙ e))
 
 -- a process that may be started is not idle once it has settled
-ran : (p : Process) (n : ℕ) → Sound p n → (s : List ℕ) → length s ≡ n → stateOf s p ≡ 1 → stateOf (settleRunning p s) p ≢ 0
+pub ran : (p : Process) (n : ℕ) → Sound p n → (s : List ℕ) → length s ≡ n → stateOf s p ≡ 1 → stateOf (settleRunning p s) p ≢ 0
 ran (node k r ms) n d s l e = go (complete (mode k) (statesOf ms w)) (endsWhenClosed k) refl refl
   where
     w : List ℕ

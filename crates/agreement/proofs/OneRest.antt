@@ -30,8 +30,8 @@ use Rattle.agreement.proofs.Invariant.{step-inv, start-inv}
 use Rattle.agreement.proofs.Beginning.{begins-start}
 use Rattle.agreement.proofs.WithoutAlt.{no-options, two-steps}
 
-result-is : (r : RunResult) (o : Outcome) (n : ℕ) (s : State) → r .outcome ≡ o → r .steps ≡ n → r .state ≡ s → r ≡ record { outcome = o; steps = n; state = s }
-result-is r o n s a b c = rw (← a, ← b, ← c)
+result-is : (r : RunResult) (o : Outcome) (n k : ℕ) (s : State) → r .outcome ≡ o → r .steps ≡ n → r .ready ≡ k → r .state ≡ s → r ≡ record { outcome = o; steps = n; ready = k; state = s }
+result-is r o n k s a b c d = rw (← a, ← b, ← c, ← d)
 
 module _ (rows : List ℤ) (sheet : Sheet) (F : Fit (program rows) (rowCount rows)) (w : (r : ℕ) → r < rowCount rows → kindAt rows r ≢ 34) where
   abbrev I : State → Type 0
@@ -105,22 +105,22 @@ module _ (rows : List ℤ) (sheet : Sheet) (F : Fit (program rows) (rowCount row
       R = run rows sheet choices budget
 
       abbrev Wanted : Type 0
-      Wanted = (length l ≤ budget → R ≡ record { outcome = outcomeOf rows s; steps = length l; state = s }) × (budget < length l → (R .outcome ≡ Spent) × (R .steps ≡ budget))
+      Wanted = (length l ≤ budget → R ≡ record { outcome = outcomeOf rows s; steps = length l; ready = 0; state = s }) × (budget < length l → (R .outcome ≡ Spent) × (R .steps ≡ budget) × (0 < R .ready))
 
       answers : (k : List Label) → OrderOf rows sheet k (R .state) → length k ≡ R .steps → R .steps ≤ budget → Finish Accepted rows sheet budget R → Wanted
-      answers k q e le (inl (z, c)) =
+      answers k q e le (inl (z, c, d)) =
           let n : length k ≤ budget = omega arith in
           let (u, v) = runs CanStep takeStep (label-discrete ℕ-discrete) I diamond budget begin (from-start l s o) (at-rest s r) (from-start k (R .state) q) n (inl (at-rest (R .state) z)) in (
-            λ h. let (g, m, y) = u h in result-is R (outcomeOf rows s) (length l) s (c ∙ ap (outcomeOf rows) y) (sym e ∙ m) y,
+            λ h. let (g, m, y) = u h in result-is R (outcomeOf rows s) (length l) 0 s (c ∙ ap (outcomeOf rows) y) (sym e ∙ m) d y,
             λ h. absurd (v h .1 (at-rest (R .state) z)),
           )
-      answers k q e le (inr (z, c, (x, (t, h)))) =
+      answers k q e le (inr (z, c, d, (x, (t, h)))) =
           let n : length k ≤ budget = omega arith in
           let (u, v) = runs CanStep takeStep (label-discrete ℕ-discrete) I diamond budget begin (from-start l s o) (at-rest s r) (from-start k (R .state) q) n (inr (e ∙ z, (x, (t, h)))) in
-          (λ g. absurd (u g .0 x (t, h)), λ g. (c, z))
+          (λ g. absurd (u g .0 x (t, h)), λ g. (c, z, d))
 
       pub run-answers : Wanted
-      run-answers = let (k, q, c, e, le, f) = Running.runs Accepted fit rows sheet choices budget a in answers k q e le f
+      run-answers = let (k, q, c, e, le, f, _) = Running.runs Accepted fit rows sheet choices budget a in answers k q e le f
 
 -- the claim of `Order`, of every meaning of accepted that gives what the proofs use of a table
 pub agreement : (Accepted : List ℤ → Sheet → Type 0) → Fits Accepted → Agreement Accepted

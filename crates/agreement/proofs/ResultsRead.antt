@@ -16,9 +16,9 @@ use Rattle.agreement.proofs.BuffersExact.{buffers-exact}
 use Rattle.agreement.proofs.DecodedStates.{decoded-state}
 
 -- a run of an accepted table
-of-run : (t : Task) (b : Buffers) (r : Reply) (o : Outcome) (n : ℕ) (run : RanAs t b r o n)
+of-run : (t : Task) (b : Buffers) (r : Reply) (o : Outcome) (n k : ℕ) (run : RanAs t b r o n k)
     → BuffersHold (t .rows) (run .end) b (r .buffers) × (decode (t .rows) (r .buffers) ≡ run .end)
-of-run t b r o n run =
+of-run t b r o n k run =
     let sheet = readings (t .rows) (t .sheet) in
     let ok = run .table-accepted in
     let reached : Reached (t .rows) sheet (run .end) = (run .labels, run .order) in (
@@ -28,6 +28,6 @@ of-run t b r o n run =
 
 pub results-read-back : ResultsReadBack
 results-read-back = (
-  λ t b o n e. let run = run-answered t b o n e in let (held, back) = of-run t b _ o n run in (run, held, back),
-  λ table sheet choices budget b o n e. let run = run-answered-bytes table sheet choices budget b o n e in let (held, back) = of-run (taskOfBytes table sheet choices budget) b _ o n run in (run, held, back),
+  λ t b o n k e. let run = run-answered t b o n k e in let (held, back) = of-run t b _ o n k run in (run, held, back),
+  λ table sheet choices budget b o n k e. let run = run-answered-bytes table sheet choices budget b o n k e in let (held, back) = of-run (taskOfBytes table sheet choices budget) b _ o n k run in (run, held, back),
 )

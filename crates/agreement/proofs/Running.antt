@@ -2,7 +2,7 @@
 use mathlib.Core.Path.{_≡_, refl, sym, ap, subst, _∙_}
 use mathlib.Core.Logic.{_⊎_, inl, inr}
 use mathlib.Core.List.{List, [], _∷_, List·Memᴰ, List·Memᴰ·head, List·Memᴰ·tail, List·Memᴰ·not-nil}
-use Prim.Native.Nat.{ℕ, zero, suc, _+_, _≤_, _%_}
+use Prim.Native.Nat.{ℕ, zero, suc, _+_, _<_, _≤_, _%_}
 use native.Mathlib.Omega.{arith}
 use lib.IntN.{ℤ}
 use lib.ListN.{length, getD, drop}
@@ -49,32 +49,33 @@ module _ (rows : List ℤ) (sheet : Sheet) (F : Fit (program rows) (rowCount row
   abbrev Goes : ℕ → ℕ → List ℕ → State → RunResult → Type 0
   Goes b n choices s r =
       (l : List Label) × (Order P sheet s l (r .state) × Chosen P sheet s choices l (r .state) × (n + length l ≡ r .steps) × (length l ≤ b)
-      × ((RestOf rows sheet (r .state) × (r .outcome ≡ outcomeOf rows (r .state)))
-      ⊎ ((length l ≡ b) × (r .outcome ≡ Spent) × ((x : Label) × ((t : State) × Step P sheet (r .state) x t)))))
+      × ((RestOf rows sheet (r .state) × (r .outcome ≡ outcomeOf rows (r .state)) × (r .ready ≡ 0))
+      ⊎ ((length l ≡ b) × (r .outcome ≡ Spent) × (0 < r .ready) × ((x : Label) × ((t : State) × Step P sheet (r .state) x t))))
+      × (r .ready ≡ length (ready P sheet (r .state))))
 
   at-rest : (s : State) → I s → ready P sheet s ≡ [] → RestOf rows sheet s
   at-rest s i e x t h = List·Memᴰ·not-nil (subst (λ (l : List Label). List·Memᴰ x l) e (allowed-ready rows sheet F s i x t h .0))
 
-  stays : (b n : ℕ) (choices : List ℕ) (s : State) → I s → ready P sheet s ≡ [] → Goes b n choices s (record { outcome = outcomeAtRest P s; steps = n; state = s })
-  stays b n choices s k e = ([], (halt, none-left, omega arith, omega arith, inl (at-rest s k e, refl)))
+  stays : (b n : ℕ) (choices : List ℕ) (s : State) → I s → ready P sheet s ≡ [] → Goes b n choices s (record { outcome = outcomeAtRest P s; steps = n; ready = 0; state = s })
+  stays b n choices s k e = ([], (halt, none-left, omega arith, omega arith, inl (at-rest s k e, refl, refl), rw e))
 
   -- one more step in front
   longer : (b n : ℕ) (choices : List ℕ) (s : State) (x : Label) (m : List Label) (r : RunResult) → I s → ready P sheet s ≡ x ∷ m → Step P sheet s (chosenStep choices x m) (after P sheet (chosenStep choices x m) s)
       → Goes b (suc n) (drop 1 choices) (after P sheet (chosenStep choices x m) s) r → Goes (suc b) n choices s r
-  longer b n choices s x m r i e h (l, (o, c, q, k, f)) =
-      (chosenStep choices x m ∷ l, (next-step h o, chosen (subst (λ (j : List Label). ReadyList P sheet s j) e (ready-list rows sheet F O s i)) h c, omega arith, omega arith, ends f))
+  longer b n choices s x m r i e h (l, (o, c, q, k, f, g)) =
+      (chosenStep choices x m ∷ l, (next-step h o, chosen (subst (λ (j : List Label). ReadyList P sheet s j) e (ready-list rows sheet F O s i)) h c, omega arith, omega arith, ends f, g))
     where
-      ends : (RestOf rows sheet (r .state) × (r .outcome ≡ outcomeOf rows (r .state))) ⊎ ((length l ≡ b) × (r .outcome ≡ Spent) × ((x : Label) × ((t : State) × Step P sheet (r .state) x t)))
-          → (RestOf rows sheet (r .state) × (r .outcome ≡ outcomeOf rows (r .state))) ⊎ ((suc (length l) ≡ suc b) × (r .outcome ≡ Spent) × ((x : Label) × ((t : State) × Step P sheet (r .state) x t)))
+      ends : (RestOf rows sheet (r .state) × (r .outcome ≡ outcomeOf rows (r .state)) × (r .ready ≡ 0)) ⊎ ((length l ≡ b) × (r .outcome ≡ Spent) × (0 < r .ready) × ((x : Label) × ((t : State) × Step P sheet (r .state) x t)))
+          → (RestOf rows sheet (r .state) × (r .outcome ≡ outcomeOf rows (r .state)) × (r .ready ≡ 0)) ⊎ ((suc (length l) ≡ suc b) × (r .outcome ≡ Spent) × (0 < r .ready) × ((x : Label) × ((t : State) × Step P sheet (r .state) x t)))
       ends (inl z) = inl z
-      ends (inr z) = inr (ap suc (z .0), z .1, z .2)
+      ends (inr z) = inr (ap suc (z .0), z .1, z .2, z .3)
 
   goes : (b n : ℕ) (choices : List ℕ) (s : State) → I s → (l : List Label) → ready P sheet s ≡ l → Goes b n choices s (goFrom P sheet b n choices s l)
   unfolding goFrom
   goes zero n choices s k [] e = stays zero n choices s k e
   goes (suc b) n choices s k [] e = stays (suc b) n choices s k e
   goes zero n choices s k (x ∷ l) e =
-      ([], (halt, none-left, omega arith, omega arith, inr (refl, refl, (x, (after P sheet x s, ready-allowed rows sheet F s k x (rw e (List·Memᴰ·head refl)))))))
+      ([], (halt, none-left, omega arith, omega arith, inr (refl, refl, omega arith, (x, (after P sheet x s, ready-allowed rows sheet F s k x (rw e (List·Memᴰ·head refl))))), rw e))
   goes (suc b) n choices s k (x ∷ m) e =
       let y = chosenStep choices x m in
       let t = after P sheet y s in
@@ -88,10 +89,10 @@ module _ (rows : List ℤ) (sheet : Sheet) (F : Fit (program rows) (rowCount row
 
 -- the end of a run, as `Order` words it
 ending : (Accepted : List ℤ → Sheet → Type 0) (rows : List ℤ) (sheet : Sheet) (b n : ℕ) (r : RunResult) → n ≡ r .steps
-    → (RestOf rows sheet (r .state) × (r .outcome ≡ outcomeOf rows (r .state))) ⊎ ((n ≡ b) × (r .outcome ≡ Spent) × ((x : Label) × ((t : State) × Step (program rows) sheet (r .state) x t)))
+    → (RestOf rows sheet (r .state) × (r .outcome ≡ outcomeOf rows (r .state)) × (r .ready ≡ 0)) ⊎ ((n ≡ b) × (r .outcome ≡ Spent) × (0 < r .ready) × ((x : Label) × ((t : State) × Step (program rows) sheet (r .state) x t)))
     → Finish Accepted rows sheet b r
 ending Accepted rows sheet b n r e (inl z) = inl z
-ending Accepted rows sheet b n r e (inr z) = inr (sym e ∙ z .0, z .1, z .2)
+ending Accepted rows sheet b n r e (inr z) = inr (sym e ∙ z .0, z .1, z .2, z .3)
 
 -- the claim of `Order`, for any meaning of accepted that gives what the proofs use of a table
 abbrev pub Fits : (List ℤ → Sheet → Type 0) → Type 0
@@ -104,4 +105,4 @@ runs Accepted fit rows sheet choices budget a =
     let (l, g) = run-goes rows sheet F O choices budget in
     let e : length l ≡ r .steps = omega (arith, g .2) in
     let b = begins-at-start (program rows) (rowCount rows) F in
-    (l, record { beginning = start (program rows); begins = b; order = g .0 }, record { beginning = start (program rows); begins = b; picked = g .1 }, e, omega (arith, g .3), ending Accepted rows sheet budget (length l) r e (g .4))
+    (l, record { beginning = start (program rows); begins = b; order = g .0 }, record { beginning = start (program rows); begins = b; picked = g .1 }, e, omega (arith, g .3), ending Accepted rows sheet budget (length l) r e (g .4), g .5)

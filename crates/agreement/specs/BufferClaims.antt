@@ -121,8 +121,8 @@ EqualBuffers = (rows : List ℤ) (sheet other : Sheet) (s t : State) → check r
 
 -- a call that ran has left the state that its order comes to, and that state comes back
 abbrev pub LeavesState : (Buffers → Reply) → Task → Type 0
-LeavesState call t = (b : Buffers) (outcome : Outcome) (steps : ℕ) → call b .answer ≡ Ran outcome steps
-    → (run : RanAs t b (call b) outcome steps) × BuffersHold (t .rows) (run .end) b (call b .buffers) × (decode (t .rows) (call b .buffers) ≡ run .end)
+LeavesState call t = (b : Buffers) (outcome : Outcome) (steps total : ℕ) → call b .answer ≡ Ran outcome steps total
+    → (run : RanAs t b (call b) outcome steps total) × BuffersHold (t .rows) (run .end) b (call b .buffers) × (decode (t .rows) (call b .buffers) ≡ run .end)
 
 -- on rows, and on a table's bytes
 abbrev pub ResultsReadBack : Type 0

@@ -12,6 +12,7 @@ use Rattle.meaning.specs.declared.Outcome.the-variants.{Spent}
 use Rattle.meaning.specs.declared.Answer.the-variants.{Refused, Ran}
 use Rattle.meaning.specs.Limits.{maxBudget, maxCells}
 use Rattle.meaning.specs.Refusals.{Refusal}
+use Rattle.meaning.specs.Rows.{rowCount}
 use Rattle.meaning.specs.TableBytes.{bytesFault, rowsOf}
 use Rattle.meaning.specs.State.{State, program}
 use Rattle.meaning.specs.Labels.{Label}
@@ -19,7 +20,7 @@ use Rattle.meaning.specs.Sheet.{sheetFault, readings}
 use Rattle.meaning.specs.Buffers.{Buffers, tooShort, encode}
 use Rattle.meaning.specs.Answers.{Task, check, reply, replyToBytes, Reply}
 use Rattle.meaning.specs.Order.{OrderOf, RestOf, outcomeOf, ChosenOf}
-use Rattle.agreement.specs.Statements.{StepOf}
+use Rattle.agreement.specs.Statements.{StepOf, ReadyTotal}
 use Rattle.agreement.specs.MissingClaims.{Delivers}
 
 -- Each statement is made once of a call, as what it answers and leaves by the buffers lent to it, and then for the two entries: for a task
@@ -52,9 +53,9 @@ BytesAsRows = (table sheet choices : List ℕ) (budget : ℕ) (b : Buffers)
     → (bytesFault table ≡ none → replyToBytes table sheet choices budget b ≡ reply (record { rows = rowsOf table; sheet = sheet; choices = choices; budget = budget }) b)
     × ((f : Refusal) → tooShort b ≡ false → bytesFault table ≡ some f → replyToBytes table sheet choices budget b ≡ record { answer = Refused (f .0) (f .1); buffers = b })
 
--- a call on this task ran, with this reply, outcome and steps: nothing refuses it, and what it answers and leaves is that of one order of
+-- a call on this task ran, with this reply, outcome, steps and total of ready steps: nothing refuses it, and what it answers and leaves is that of one order of
 -- steps, the one that its choices pick, up to rest or its budget
-pub record RanAs (t : Task) (b : Buffers) (r : Reply) (outcome : Outcome) (steps : ℕ) : Type 0 where
+pub record RanAs (t : Task) (b : Buffers) (r : Reply) (outcome : Outcome) (steps total : ℕ) : Type 0 where
   pub buffers-long : tooShort b ≡ false
   pub table-accepted : check (t .rows) ≡ none
   pub sheet-accepted : sheetFault (t .rows) (t .sheet) ≡ none
@@ -70,10 +71,14 @@ pub record RanAs (t : Task) (b : Buffers) (r : Reply) (outcome : Outcome) (steps
   pub rest-exactly : (outcome ≢ Spent) ↔ RestOf (t .rows) (readings (t .rows) (t .sheet)) end
   pub rest-outcome : RestOf (t .rows) (readings (t .rows) (t .sheet)) end → outcome ≡ outcomeOf (t .rows) end
   pub spent-exactly : (outcome ≡ Spent) ↔ ((steps ≡ t .budget) × ((x : Label) × ((s : State) × StepOf (t .rows) (readings (t .rows) (t .sheet)) end x s)))
+  -- the total: how many steps are ready at its end, 0 exactly at rest, and no more than rows
+  pub ready-total : ReadyTotal (t .rows) (readings (t .rows) (t .sheet)) end total
+  pub rest-total : (total ≡ 0) ↔ RestOf (t .rows) (readings (t .rows) (t .sheet)) end
+  pub total-within : total ≤ rowCount (t .rows)
 
 -- demand 2 about calls: every answered run is that of an order of allowed steps
 abbrev pub RunsOrder : (Buffers → Reply) → Task → Type 0
-RunsOrder call t = (b : Buffers) (outcome : Outcome) (steps : ℕ) → call b .answer ≡ Ran outcome steps → RanAs t b (call b) outcome steps
+RunsOrder call t = (b : Buffers) (outcome : Outcome) (steps total : ℕ) → call b .answer ≡ Ran outcome steps total → RanAs t b (call b) outcome steps total
 
 abbrev pub RunAnswered : Type 0
 RunAnswered = (t : Task) → RunsOrder (reply t) t
@@ -83,14 +88,15 @@ RunAnsweredBytes = (table sheet choices : List ℕ) (budget : ℕ) → RunsOrder
 
 -- and the bytes of a table that ran are not refused
 abbrev pub RanUnrefused : Type 0
-RanUnrefused = (table sheet choices : List ℕ) (budget : ℕ) (b : Buffers) (outcome : Outcome) (steps : ℕ)
-    → replyToBytes table sheet choices budget b .answer ≡ Ran outcome steps → bytesFault table ≡ none
+RanUnrefused = (table sheet choices : List ℕ) (budget : ℕ) (b : Buffers) (outcome : Outcome) (steps total : ℕ)
+    → replyToBytes table sheet choices budget b .answer ≡ Ran outcome steps total → bytesFault table ≡ none
 
 -- demand 2 about calls: "Every step so allowed can be chosen": every order of at most 65,536 steps is that of a call with some 16-bit choices
 abbrev pub TakesOrder : (List ℕ → ℕ → Buffers → Reply) → List ℤ → List ℕ → Type 0
 TakesOrder call rows sheet = (l : List Label) (s : State) → OrderOf rows (readings rows sheet) l s → length l ≤ maxBudget → (b : Buffers) → tooShort b ≡ false
     → (choices : List ℕ) × ((c : ℕ) → List·Memᴰ c choices → c < 65536)
-    × ((outcome : Outcome) × (call choices (length l) b ≡ record { answer = Ran outcome (length l); buffers = encode rows s b }))
+    × ((outcome : Outcome) × ((total : ℕ) × ReadyTotal rows (readings rows sheet) s total
+    × (call choices (length l) b ≡ record { answer = Ran outcome (length l) total; buffers = encode rows s b })))
 
 abbrev pub OrderAnswered : Type 0
 OrderAnswered = (rows : List ℤ) (sheet : List ℕ) → check rows ≡ none → sheetFault rows sheet ≡ none
@@ -112,14 +118,14 @@ pub record HandedTo (rows : List ℤ) (sheet : List ℕ) (l : List Label) (i : �
 
 -- missing stays missing, about calls: after a run a cell's mark is 0 and its number 0, or its mark is 1 and its number was assigned or
 -- input by a step of the order that the run took
-abbrev pub HandedCells : Task → Buffers → Reply → Outcome → ℕ → Type 0
-HandedCells t b r outcome steps = (run : RanAs t b r outcome steps) × ((i : ℕ) → i < maxCells
+abbrev pub HandedCells : Task → Buffers → Reply → Outcome → ℕ → ℕ → Type 0
+HandedCells t b r outcome steps total = (run : RanAs t b r outcome steps total) × ((i : ℕ) → i < maxCells
     → let m = getD (r .buffers .marks) i 0 in
     let z = getD (r .buffers .cells) i (pos 0) in
     (m ≢ 0 → (m ≡ 1) × HandedTo (t .rows) (t .sheet) (run .labels) i z) × (m ≡ 0 → z ≡ pos 0))
 
 abbrev pub KeepsMissing : (Buffers → Reply) → Task → Type 0
-KeepsMissing call t = (b : Buffers) (outcome : Outcome) (steps : ℕ) → call b .answer ≡ Ran outcome steps → HandedCells t b (call b) outcome steps
+KeepsMissing call t = (b : Buffers) (outcome : Outcome) (steps total : ℕ) → call b .answer ≡ Ran outcome steps total → HandedCells t b (call b) outcome steps total
 
 abbrev pub MissingAnswered : Type 0
 MissingAnswered = (t : Task) → KeepsMissing (reply t) t

@@ -10,4 +10,5 @@ pub mod ValueClaims
 pub mod ChoiceClaims
 pub mod RefusalClaims
 pub mod BufferClaims
+pub mod TraceClaims
 pub mod RowsOfSteps

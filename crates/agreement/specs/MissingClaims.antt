@@ -26,6 +26,7 @@ use Rattle.meaning.specs.Answers.{check}
 use Rattle.meaning.specs.Printing.{Line, line, varWord, runLines, valueBytes}
 use Rattle.meaning.specs.Step.{channelElement, Holds, Refuted, Complete, AllComplete, Lacks, InnerInput, HostInput, InnerOutput, Live, becomes, effect, Allows, Leaves, Step}
 use Rattle.agreement.specs.Statements.{Reached}
+use Rattle.agreement.specs.RowsOfSteps.{RowOf}
 
 -- a cell of a state: none where it is unset
 abbrev pub cellAt : State → ℕ → Message
@@ -102,13 +103,6 @@ UnsetRead = (cells : List Message) (e : Expr) → (value cells e ≡ Missing 1) 
 abbrev pub UnsetSubscript : Type 0
 UnsetSubscript = (cells : List Message) (first n : ℕ) (e : Expr) → (index cells first n e ≡ Fails 1) ↔ NeedsUnset cells e
 
--- a step's label names row r: its own row, an input's or an output's, an ALT's
-abbrev pub OfRow : ℕ → Label → Type 0
-OfRow r (own q) = q ≡ r
-OfRow r (pass i o) = (i ≡ r) ⊎ (o ≡ r)
-OfRow r (takeOption q j) = q ≡ r
-OfRow r (takeWithOutput q j o) = (q ≡ r) ⊎ (o ≡ r)
-
 -- an action lacks a value for one reason
 abbrev pub OneReason : Type 0
 OneReason = (cells : List Message) (a : Action) (k l : ℕ) → Lacks cells a k → Lacks cells a l → k ≡ l
@@ -117,12 +111,12 @@ OneReason = (cells : List Message) (a : Action) (k l : ℕ) → Lacks cells a k 
 abbrev pub stopEffect : ℕ → ℕ → Effect
 stopEffect r reason = effect (becomes r r (10 + reason) ∷ []) []
 
--- a row has one step, the stop for a reason: a rule allows it, it leads to a state where orders of an accepted table come, and no other step names the row
+-- a row has one step, the stop for a reason: a rule allows it, it leads to a state where orders of an accepted table come, and no other step is of the row
 abbrev pub OnlyStops : List ℤ → Sheet → State → ℕ → ℕ → Type 0
 OnlyStops rows sheet s r reason =
     Allows (program rows) sheet s (own r) (stopEffect r reason)
     × (check rows ≡ none → Reached rows sheet s → (t : State) × Step (program rows) sheet s (own r) t)
-    × ((x : Label) (t : State) → Step (program rows) sheet s x t → OfRow r x → (x ≡ own r) × Leaves (program rows) s (stopEffect r reason) t)
+    × ((x : Label) (t : State) → Step (program rows) sheet s x t → RowOf x r → (x ≡ own r) × Leaves (program rows) s (stopEffect r reason) t)
 
 -- "An ALT, input or output that would stop offers nothing else": a running row that lacks a value has one step, the stop
 abbrev pub LackingOnlyStops : Type 0

@@ -10,7 +10,7 @@ use Rattle.meaning.specs.Labels.{Label, own, pass, takeOption, takeWithOutput}
 use Rattle.meaning.specs.Intent.{Offer}
 use Rattle.meaning.specs.Ready.{optionRow}
 
--- the rows of a step
+-- the rows of a step: of a row by itself, that row; of a communication, the input and the output; of an option taken, the ALT, and the output if it inputs from one
 pub data RowOf : Label → ℕ → Type 0 where
   of-own : {r : ℕ} → RowOf (own r) r
   of-input : {i o : ℕ} → RowOf (pass i o) i

@@ -66,6 +66,10 @@ abbrev pub ReadyListed : Type 0
 ReadyListed = (rows : List ℤ) → check rows ≡ none → (sheet : Sheet) (s : State) → Reached rows sheet s
     → (l : List Label) → ReadyList (program rows) sheet s l ↔ (l ≡ ready (program rows) sheet s)
 
+-- how many steps are ready in a state: the length of the list of all that are
+abbrev pub ReadyTotal : List ℤ → Sheet → State → ℕ → Type 0
+ReadyTotal rows sheet s total = (l : List Label) × ReadyList (program rows) sheet s l × (length l ≡ total)
+
 -- row r could input from element e: an input, or an ALT with such a guard
 pub data InputsAt (P : Program) (s : State) (e : ℕ) : ℕ → Type 0 where
   by-input : {r : ℕ} {i : ChannelInput} → Live P s r (input i) → channelElement (s .store .cells) i ≡ At e → InputsAt P s e r
@@ -86,7 +90,7 @@ OnePerElement = (rows : List ℤ) (sheet : Sheet) → BothAccepted rows sheet �
 
 -- "A run takes the order that its choices pick, up to rest or its budget, and the steps it reports are the length of that order":
 -- step i is number (choice i mod count i) of the ready steps (`ChosenOf`); rest is reported exactly if no step is allowed, and spent
--- exactly if the steps equal the budget and one is
+-- exactly if the steps equal the budget and one is; the total is how many steps are ready at the end, 0 exactly at rest
 abbrev pub RunTakesOrder : Type 0
 RunTakesOrder = (rows : List ℤ) → check rows ≡ none → (sheet : Sheet) (choices : List ℕ) (budget : ℕ)
     → let r = run rows sheet choices budget in
@@ -95,6 +99,8 @@ RunTakesOrder = (rows : List ℤ) → check rows ≡ none → (sheet : Sheet) (c
     × ((r .outcome ≢ Spent) ↔ RestOf rows sheet (r .state))
     × (RestOf rows sheet (r .state) → r .outcome ≡ outcomeOf rows (r .state))
     × ((r .outcome ≡ Spent) ↔ ((r .steps ≡ budget) × ((x : Label) × ((t : State) × StepOf rows sheet (r .state) x t))))
+    × ReadyTotal rows sheet (r .state) (r .ready)
+    × ((r .ready ≡ 0) ↔ RestOf rows sheet (r .state))
 
 -- "Every step so allowed can be chosen": every order is the order of the run with some 16-bit choices and its length as budget
 abbrev pub EveryOrderChosen : Type 0
@@ -126,12 +132,12 @@ abbrev pub OneRest : List ℤ → Sheet → List Label → State → Type 0
 OneRest rows sheet l s = (k : List Label) (t : State) → OrderOf rows sheet k t
     → (length k ≤ length l) × (RestOf rows sheet t → (length k ≡ length l) × (t ≡ s) × (outcomeOf rows t ≡ outcomeOf rows s))
 
--- the answers to calls, whatever the choices: with a budget of n or more that outcome after n steps, the six buffers holding s; with
--- less, spent after as many steps as the budget
+-- the answers to calls, whatever the choices: with a budget of n or more that outcome after n steps with none ready, the six buffers
+-- holding s; with less, spent after as many steps as the budget with some ready
 abbrev pub CallsAnswer : (List ℕ → ℕ → Buffers → Reply) → List ℤ → List Label → State → Type 0
 CallsAnswer call rows l s = (choices : List ℕ) (budget : ℕ) (b : Buffers) → tooShort b ≡ false → budget ≤ maxBudget
-    → (length l ≤ budget → call choices budget b ≡ record { answer = Ran (outcomeOf rows s) (length l); buffers = encode rows s b })
-    × (budget < length l → call choices budget b .answer ≡ Ran Spent budget)
+    → (length l ≤ budget → call choices budget b ≡ record { answer = Ran (outcomeOf rows s) (length l) 0; buffers = encode rows s b })
+    × (budget < length l → (total : ℕ) × (0 < total) × (call choices budget b .answer ≡ Ran Spent budget total))
 
 -- demand 3, for rows lent as numbers: one claim about whole orders, of any length
 abbrev pub Demand3 : Type 0

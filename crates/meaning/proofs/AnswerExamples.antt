@@ -29,9 +29,9 @@ answers :
     -- 10 before 11
     × (call "20,0,0,0\n" "" 65537 256 .answer ≡ Refused 10 1)
     × (call "20,0,0,0\n" "\n" 65537 256 .answer ≡ Refused 11 0)
-    × (call "20,0,0,0\n" "\n" 65536 256 .answer ≡ Ran Stuck 0)
+    × (call "20,0,0,0\n" "\n" 65536 256 .answer ≡ Ran Stuck 0 0)
     -- WHILE 1 SKIP is spent
-    × (call "33,1,2,0\n10,1,0,0\n21,0,0,0\n" "\n" 3 256 .answer ≡ Ran Spent 3)
+    × (call "33,1,2,0\n10,1,0,0\n21,0,0,0\n" "\n" 3 256 .answer ≡ Ran Spent 3 1)
 unfolding computesAnswers
 answers = (refl, refl, refl, refl, refl, refl)
 

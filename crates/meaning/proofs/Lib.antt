@@ -1,4 +1,5 @@
 pub mod AnswerExamples
+pub mod TraceExamples
 pub mod AnswerLaws
 pub mod Computes
 pub mod ComputesAnswers

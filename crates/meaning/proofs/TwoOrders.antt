@@ -42,6 +42,7 @@ end =
     record {
       outcome = Ended;
       steps = 2;
+      ready = 0;
       state = record {
         states = 0 ∷ 0 ∷ 2 ∷ 0 ∷ 2 ∷ 0 ∷ 0 ∷ 0 ∷ 2 ∷ 0 ∷ 0 ∷ [];
         store = record { cells = some (pos 1) ∷ some (pos 2) ∷ []; places = []; outputs = [] };

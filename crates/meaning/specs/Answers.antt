@@ -81,7 +81,7 @@ pub record Reply : Type 0 where
 -- "Refused calls write to no lent buffer"
 abbrev pub replyOf : List ℤ → Buffers → Result → Reply
 replyOf rows b (refused f) = record { answer = Refused (f .0) (f .1); buffers = b }
-replyOf rows b (ran r) = record { answer = Ran (r .outcome) (r .steps); buffers = encode rows (r .state) b }
+replyOf rows b (ran r) = record { answer = Ran (r .outcome) (r .steps) (r .ready); buffers = encode rows (r .state) b }
 
 -- the entry for rows lent as numbers
 unfoldable pub reply : Task → Buffers → Reply

@@ -35,13 +35,14 @@ pub mod Settle
 pub mod Intent
 pub mod Ready
 pub mod Run
--- Readings and results: refusal 10, the lent buffers and how they are read back, the stages of a call, the whole answer
+-- Readings and results: refusal 10, the lent buffers and how they are read back, the stages of a call, the whole answer, a traced run
 pub mod Sheet
 pub mod Buffers
 pub mod Stages
 pub mod Decode
 pub mod Answers
 pub mod Accepted
+pub mod Trace
 -- A run on paper
 pub mod Printing
 pub mod Runner

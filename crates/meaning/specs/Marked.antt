@@ -30,9 +30,9 @@ markedCase rows readings budget expected prints = record { rows = rows; readings
 abbrev pub left : List ℕ → List Message → List ℕ → List (List Message) → State
 left states cells places outputs = record { states = states; store = record { cells = cells; places = places; outputs = outputs } }
 
--- a run that ends so, after so many steps, in this state
+-- a run that ends at rest so, after so many steps, in this state: no step is ready
 abbrev pub atEnd : Outcome → ℕ → State → Result
-atEnd outcome steps state = ran (record { outcome = outcome; steps = steps; state = state })
+atEnd outcome steps state = ran (record { outcome = outcome; steps = steps; ready = 0; state = state })
 
 -- the answer to a case, with no choices
 unfoldable pub answered : MarkedCase → Result

@@ -7,8 +7,6 @@ use lib.ListN.{take, drop}
 use lib.Dec.{leb}
 use Rattle.meaning.specs.Texts.{bytes, lineFeed, comma}
 use Rattle.meaning.specs.Numerals.{decimal, printed}
-use Rattle.meaning.specs.declared.Answer.{Answer}
-use Rattle.meaning.specs.declared.Answer.the-variants.{Refused, Ran}
 use Rattle.meaning.specs.declared.Outcome.{Outcome}
 use Rattle.meaning.specs.declared.Outcome.the-variants.{Ended, Stuck, Broken, Spent}
 use Rattle.meaning.specs.Basics.{ifElse}
@@ -16,6 +14,7 @@ use Rattle.meaning.specs.Refusals.{Refusal}
 use Rattle.meaning.specs.Declarations.{sumBelow, cellsAt}
 use Rattle.meaning.specs.Declarations.{variables, channels}
 use Rattle.meaning.specs.Values.{Message}
+use Rattle.meaning.specs.State.{State}
 use Rattle.meaning.specs.Run.{RunResult}
 
 -- the first field of a line
@@ -60,22 +59,25 @@ unfoldable pub stopLines : ℕ → List ℕ → List Line
 stopLines r [] = []
 stopLines r (q ∷ qs) = ifElse (leb 10 q) (line stopWord r 0 (some (pos (q - 10))) ∷ []) [] ++ stopLines (suc r) qs
 
--- the paper's number and values for each case of an answer: `refused`, number, place, 0; or the outcome, 0, 0, steps
-unfoldable pub answerLine : Answer → Line
-answerLine (Refused number place) = line refusedWord number place (some (pos 0))
-answerLine (Ran o steps) = line (outcomeWord o) 0 0 (some (pos steps))
+-- the line of a run: the outcome, 0, 0, steps
+unfoldable pub outcomeLine : Outcome → ℕ → Line
+outcomeLine o steps = line (outcomeWord o) 0 0 (some (pos steps))
 
--- the lines of a run: outcome and steps, cells, host outputs, stopped rows
-unfoldable pub runLines : List ℤ → RunResult → List Line
-runLines rows r =
-    answerLine (Ran (r .outcome) (r .steps))
-    ∷ cellLines rows (r .state .store .cells)
-    ++ outLines (channels rows 2) (r .state .store .outputs)
-    ++ stopLines 0 (r .state .states)
+-- the lines of a run by its outcome, its steps and the state that it leaves: outcome and steps, cells, host outputs, stopped rows
+unfoldable pub endLines : List ℤ → Outcome → ℕ → State → List Line
+endLines rows o steps s =
+    outcomeLine o steps
+    ∷ cellLines rows (s .store .cells)
+    ++ outLines (channels rows 2) (s .store .outputs)
+    ++ stopLines 0 (s .states)
+
+-- the lines of a run; how many steps are ready after it is not printed
+abbrev pub runLines : List ℤ → RunResult → List Line
+runLines rows r = endLines rows (r .outcome) (r .steps) (r .state)
 
 -- the line of a refusal: `refused`, number, place, 0
 abbrev pub refusedLine : Refusal → Line
-refusedLine f = answerLine (Refused (f .0) (f .1))
+refusedLine f = line refusedWord (f .0) (f .1) (some (pos 0))
 
 -- words in bytes
 unfoldable pub wordBytes : Word → List ℕ

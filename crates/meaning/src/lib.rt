@@ -43,10 +43,10 @@ pub enum Outcome {
     Spent,
 }
 
-// The answer to a call: a refusal by the paper's number with its place, or a run's outcome with its steps.
+// The answer to a call: a refusal by the paper's number with its place, or a run's outcome with its steps and how many are ready after it.
 pub enum Answer {
     Refused(u8, u32),
-    Ran(Outcome, u32),
+    Ran(Outcome, u32, u32),
 }
 
 // The verdict on a table alone: accepted, or refused by the paper's number with its place.
