@@ -17,7 +17,7 @@ use Rattle.meaning.specs.Declarations.{declarations, sumBelow, hasRole, cellsAt
 use Rattle.meaning.specs.Values.{Message}
 use Rattle.meaning.specs.Run.{RunResult}
 use Rattle.meaning.specs.PrintedForms.{Each, each-none, each-more, IsReading}
-use Rattle.meaning.specs.Printing.{Word, outcomeWord, varWord, outWord, stopWord, refusedWord, Line, line, numbered, cellsOf, cellLines, outLines, stopLines, answerLine, runLines, refusedLine, wordBytes, valueBytes, lineBytes, namesLine, printedLines}
+use Rattle.meaning.specs.Printing.{Word, outcomeWord, varWord, outWord, stopWord, refusedWord, Line, line, numbered, cellsOf, cellLines, outLines, stopLines, outcomeLine, endLines, runLines, refusedLine, wordBytes, valueBytes, lineBytes, namesLine, printedLines}
 use Rattle.base_numbers.proofs.Decimals.{ten-digits}
 use Rattle.base_numbers.proofs.Texts.{printed-short}
 use Rattle.base_rows.proofs.Leading.{declarations-at-most}
@@ -179,7 +179,7 @@ module _ (rows : List ℤ) (q : RunResult) (h : Held rows (q .state)) where
   -- a run's printed text
   pub printed-text-short : q .steps ≤ 65536 → ((i : ℕ) → IsReading (getD (q .state .store .cells) i none)) → ((p : ℕ) → Each IsReading (getD (q .state .store .outputs) p [])) → Each (λ n. n < 256) (q .state .states)
       → length (printedLines (runLines rows q)) ≤ maxPrintedText
-  unfolding runLines answerLine
+  unfolding endLines outcomeLine
   printed-text-short few cells outputs states =
       let (a, c) = cells-fine cells in
       let (b, o) = outputs-fine outputs in
@@ -192,5 +192,4 @@ module _ (rows : List ℤ) (q : RunResult) (h : Held rows (q .state)) where
 
 -- the line of a refusal
 pub refusal-short : (n p : ℕ) → n < 256 → p < 4294967296 → length (lineBytes (refusedLine (n, p))) ≤ maxPrintedText
-unfolding answerLine
 refusal-short n p h k = omega (arith, line-short (refusedLine (n, p)) (record { name = omega arith; at = k; value = omega arith }))

@@ -18,7 +18,7 @@ use Rattle.meaning.specs.Stages.{budgetFault}
 use Rattle.meaning.specs.Answers.{Result, refused, ran, Reply, replyOf, unless, check, result, resultOfBytes}
 use Rattle.meaning.specs.Run as meaning
 use Rattle.meaning.specs.Run.{run}
-use Rattle.meaning.specs.Printing.{printedLines, runLines, lineBytes, refusedLine}
+use Rattle.meaning.specs.Printing.{printedLines, endLines, lineBytes, refusedLine}
 use Rattle.meaning.specs.Runner.{printedResult, runner}
 use Rattle.meaning.specs.Buffers.{Buffers}
 use Rattle.meaning.specs.PrintedForms.{Each, In32}
@@ -31,7 +31,7 @@ use Rattle.write_buffers.specs.declared.Done.{Done}
 use Rattle.write_buffers.specs.Replies.{replyIn}
 use Rattle.call_table.proofs.Stages.{task-run}
 use Rattle.write_lines.specs.declared.Parts.{Parts}
-use Rattle.write_lines.specs.Decoding.{tableRows, resultIn}
+use Rattle.write_lines.specs.Decoding.{tableRows, stateIn}
 use Rattle.write_lines.specs.Splitting.{Splits}
 use Rattle.write_lines.proofs.Encoded.{Held, printed-text-said}
 use Rattle.write_bytes.specs.Writing.{printedIn}
@@ -45,10 +45,10 @@ rows-short : (rows : List ℤ) → check rows ≡ none → length rows ≤ 4 * m
 rows-short rows ok = let w = whole-passes rows .0 (accepted rows .0 ok .0) in let d = w .0 in let k = w .1 in omega arith
 
 -- an answer of a run comes from no refusal
-ran-unrefused : (rows : List ℤ) (f g : Option Refusal) (q : meaning.RunResult) (o : Outcome) (k : ℕ) → Ran o k ≡ replyOf rows blank (unless f (unless g (ran q))) .answer → (f ≡ none) × (g ≡ none)
-ran-unrefused rows none none q o k e = (refl, refl)
-ran-unrefused rows none (some g) q o k e = let z : _≡_ {A = ℕ} 0 1 = cc in absurd (omega arith)
-ran-unrefused rows (some f) g q o k e = let z : _≡_ {A = ℕ} 0 1 = cc in absurd (omega arith)
+ran-unrefused : (rows : List ℤ) (f g : Option Refusal) (q : meaning.RunResult) (o : Outcome) (k total : ℕ) → Ran o k total ≡ replyOf rows blank (unless f (unless g (ran q))) .answer → (f ≡ none) × (g ≡ none)
+ran-unrefused rows none none q o k total e = (refl, refl)
+ran-unrefused rows none (some g) q o k total e = let z : _≡_ {A = ℕ} 0 1 = cc in absurd (omega arith)
+ran-unrefused rows (some f) g q o k total e = let z : _≡_ {A = ℕ} 0 1 = cc in absurd (omega arith)
 
 -- an answer of a refusal is that of a result that is refused
 refused-answer : (rows : List ℤ) (r : Result) (n p : ℕ) → Refused n p ≡ replyOf rows blank r .answer → r ≡ refused (n, p)
@@ -60,7 +60,7 @@ module _ (rows : List ℤ) (sheet : List ℕ) (d : Done) (e : replyIn d ≡ repl
   abbrev printed : List ℕ
   printed = printedResult rows (result (taskOf rows sheet))
 
-  module _ (o : Outcome) (k : ℕ) (a : d .answer ≡ Ran o k) where
+  module _ (o : Outcome) (k total : ℕ) (a : d .answer ≡ Ran o k total) where
     -- the run of the task
     abbrev ending : meaning.RunResult
     ending = run rows (readings rows sheet) [] maxBudget
@@ -68,7 +68,7 @@ module _ (rows : List ℤ) (sheet : List ℕ) (d : Done) (e : replyIn d ≡ repl
     -- nothing is refused
     unrefused : (check rows ≡ none) × (sheetFault rows sheet ≡ none)
     unfolding budgetFault
-    unrefused = ran-unrefused rows (check rows) (sheetFault rows sheet) ending o k (sym a ∙ ap (λ (r : Reply). r .answer) (e ∙ ap (replyOf rows blank) (result-stages (taskOf rows sheet))))
+    unrefused = ran-unrefused rows (check rows) (sheetFault rows sheet) ending o k total (sym a ∙ ap (λ (r : Reply). r .answer) (e ∙ ap (replyOf rows blank) (result-stages (taskOf rows sheet))))
 
     -- so the task comes to that run
     runs : result (taskOf rows sheet) ≡ ran ending
@@ -81,14 +81,14 @@ module _ (rows : List ℤ) (sheet : List ℕ) (d : Done) (e : replyIn d ≡ repl
     -- the printed text of an answer and its arrays
     abbrev shown : Answer → Buffers → List ℕ
     shown (Refused n p) b = []
-    shown (Ran o n) b = printedLines (runLines (tableRows rows) (resultIn (tableRows rows) o n (b .cells) (b .marks) (b .states) (b .numbers) (b .counts)))
+    shown (Ran o n m) b = printedLines (endLines (tableRows rows) o n (stateIn (tableRows rows) (b .cells) (b .marks) (b .states) (b .numbers) (b .counts)))
 
     -- the printed text of what a run leaves
-    run-printed : shown (Ran o k) (replyIn d .buffers) ≡ printed
+    run-printed : shown (Ran o k total) (replyIn d .buffers) ≡ printed
     run-printed =
         ap (λ (x : Answer). shown x (replyIn d .buffers)) (sym a)
         ∙ ap (λ (r : Reply). shown (r .answer) (r .buffers)) (e ∙ ap (replyOf rows blank) runs)
-        ∙ printed-text-said rows (ending .state) blank held (rows-short rows (unrefused .0)) (ending .outcome) (ending .steps)
+        ∙ printed-text-said rows (ending .state) blank held (rows-short rows (unrefused .0)) (ending .outcome) (ending .steps) (ending .ready)
         ∙ ap (printedResult rows) (sym runs)
 
     -- its row states are bytes
@@ -109,13 +109,13 @@ module _ (rows : List ℤ) (sheet : List ℕ) (d : Done) (e : replyIn d ≡ repl
     refusal-done n p a w h short = rw (refused-answer rows (result (taskOf rows sheet)) n p (sym a ∙ ap (λ (r : Reply). r .answer) e)) (h, λ i. short)
 
     -- the printed text of a run, in a lent buffer
-    pub run-done : (o : Outcome) (k : ℕ) → d .answer ≡ Ran o k → (states : List ℕ) → states ≡ d .states → ((i : ℕ) → getD (d .states) i 0 < 256) → (w : ℕ × List ℕ)
-        → w ≡ printedIn (printedLines (runLines (tableRows rows) (resultIn (tableRows rows) o k (d .cells) (d .marks) states (d .numbers) (d .counts)))) old → (w ≡ printedIn printed old) × (Each In32 rows → length printed ≤ maxPrintedText)
-    run-done o k a states is bytes w h = (
+    pub run-done : (o : Outcome) (k total : ℕ) → d .answer ≡ Ran o k total → (states : List ℕ) → states ≡ d .states → ((i : ℕ) → getD (d .states) i 0 < 256) → (w : ℕ × List ℕ)
+        → w ≡ printedIn (printedLines (endLines (tableRows rows) o k (stateIn (tableRows rows) (d .cells) (d .marks) states (d .numbers) (d .counts)))) old → (w ≡ printedIn printed old) × (Each In32 rows → length printed ≤ maxPrintedText)
+    run-done o k total a states is bytes w h = (
       h
-          ∙ ap (λ (l : List ℕ). printedIn (printedLines (runLines (tableRows rows) (resultIn (tableRows rows) o k (d .cells) (d .marks) l (d .numbers) (d .counts)))) old) is
-          ∙ ap (λ (l : List ℕ). printedIn l old) (run-printed o k a),
-      λ i. run-fits o k a i bytes,
+          ∙ ap (λ (l : List ℕ). printedIn (printedLines (endLines (tableRows rows) o k (stateIn (tableRows rows) (d .cells) (d .marks) l (d .numbers) (d .counts)))) old) is
+          ∙ ap (λ (l : List ℕ). printedIn l old) (run-printed o k total a),
+      λ i. run-fits o k total a i bytes,
     )
 
 -- what is printed for the two parts of standard input

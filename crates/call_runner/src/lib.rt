@@ -5,7 +5,9 @@ ghost use Prim.Native.Nat.{ℕ, _<_, _≤_};
 ghost use lib.ListN.{length, getD};
 ghost use Rattle.meaning.specs.Limits.{maxBudget};
 ghost use Rattle.meaning.specs.TableBytes.{rowsOf};
-ghost use Rattle.meaning.specs.Answers.{result, resultOfBytes};
+ghost use Rattle.meaning.specs.Answers.{replyOf, result, resultOfBytes};
+ghost use Rattle.machine.specs.Held.{blank};
+ghost use Rattle.write_buffers.specs.Replies.{replyIn};
 ghost use Rattle.meaning.specs.Printing.{lineBytes, refusedLine};
 ghost use Rattle.meaning.specs.Runner.{printedResult, runner};
 ghost use Rattle.meaning.specs.PrintedForms.{Each, In32};
@@ -13,6 +15,7 @@ ghost use Rattle.write_bytes.specs.Writing.{printedIn};
 ghost use Rattle.call_runner.specs.PrintedTexts.{taskOf, maxPrintedText, printedBytes};
 use meaning::Answer;
 use meaning::Verdict;
+use write_buffers::Done;
 
 // What is printed: its bytes at the start of a buffer that holds every printed text, zeros after them, and how many they are.
 pub struct PrintedText {
@@ -36,17 +39,26 @@ fn row_states(states: &[u8]) -> &[u8]
     write_bytes::slices::of_bytes(states, 0, states.len())
 }
 
-// The printed text of rows and a sheet: the task is done with no choices and budget 65,536.
+// What the task of rows and a sheet comes to: no choices, budget 65,536, and no trace is kept.
+fn task_done(rows: &[i32], sheet: &[u8]) -> Done
+    ensures { λ d. ⌜ replyIn d ≡ replyOf (now (rows .entry)) blank (result (taskOf (now (rows .entry)) (now (sheet .entry)))) ⌝ }
+{
+    let choices = [0u16; 0];
+    let mut readied = [0u16; 1];
+    let mut taken = [0u16; 1];
+    call_table::tasks::do_rows(rows, sheet, &choices, 65536, &mut readied, &mut taken)
+}
+
+// The printed text of rows and a sheet.
 fn rows_printed_text(rows: &[i32], sheet: &[u8], out: &mut [u8]) -> usize
     ensures { λ n. ⌜ (n, now (out .exit)) ≡ printedIn (printedResult (now (rows .entry)) (result (taskOf (now (rows .entry)) (now (sheet .entry))))) (now (out .entry)) ⌝ }
     ensures { λ n. ⌜ (Each In32 (now (rows .entry)) → length (printedResult (now (rows .entry)) (result (taskOf (now (rows .entry)) (now (sheet .entry))))) ≤ maxPrintedText) ⌝ }
 {
-    let choices = [0u16; 0];
-    let done = call_table::tasks::do_rows(rows, sheet, &choices, 65536);
+    let done = task_done(rows, sheet);
     let answer = done.answer;
     match answer {
         Answer::Refused(number, place) => refusal_printed_text(number, place, out),
-        Answer::Ran(outcome, steps) => {
+        Answer::Ran(outcome, steps, _) => {
             let cells = done.cells;
             let marks = done.marks;
             let states = done.states;

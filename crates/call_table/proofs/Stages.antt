@@ -10,12 +10,16 @@ use Rattle.meaning.specs.Sheet.{sheetFault, readings}
 use Rattle.meaning.specs.Run as meaning
 use Rattle.meaning.specs.Run.{run}
 use Rattle.meaning.specs.Stages.{budgetFault}
+use Rattle.meaning.specs.Trace.{trace, TraceLists, TracedReply}
 use Rattle.meaning.specs.Answers.{Task, Reply, refused, ran, replyOf, check, result, resultOfBytes}
-use Rattle.meaning.specs.declared.Answer.the-variants.{Ran}
+use Rattle.meaning.specs.declared.Answer.the-variants.{Refused, Ran}
 use Rattle.meaning.proofs.AnswerLaws.{result-stages, result-of-bytes}
 use Rattle.machine.specs.Held.{blank}
-use Rattle.running.specs.declared.result.Run.{Run}
-use Rattle.running.specs.Ran.{arraysIn, RunHeld}
+use Rattle.run_steps.specs.declared.result.Run.{Run}
+use Rattle.run_steps.specs.Ran.{arraysIn, RunHeld}
+use Rattle.run_steps.specs.Showing.{listsLent, shownFromPlace}
+use Rattle.run_trace.specs.Cleared.{cleared}
+use Rattle.call_table.specs.Tasks.{taskDone, tableDone}
 
 module _ (rows : List ℤ) (sheet : List ℕ) (choices : List ℕ) (budget : ℕ) where
   -- what is to be run
@@ -46,5 +50,22 @@ module _ (table sheet choices : List ℕ) (budget : ℕ) where
   rows-done e = rw (result-of-bytes table sheet choices budget, e)
 
 -- what a run holds is the reply that it comes to
-pub held-reply : (rows : List ℤ) (q : meaning.RunResult) (r : Run) → RunHeld rows q r → _≡_ {A = Reply} (record { answer = Ran (r .outcome) (r .steps); buffers = arraysIn r }) (replyOf rows blank (ran q))
-held-reply rows q r h = λ i. record { answer = Ran (h .outcome i) (h .steps i); buffers = h .arrays i }
+pub held-reply : (rows : List ℤ) (q : meaning.RunResult) (r : Run) → RunHeld rows q r → _≡_ {A = Reply} (record { answer = Ran (r .outcome) (r .steps) (r .ready); buffers = arraysIn r }) (replyOf rows blank (ran q))
+held-reply rows q r h = λ i. record { answer = Ran (h .outcome i) (h .steps i) (h .ready i); buffers = h .arrays i }
+
+-- a refusal leaves the lists; a run stores what it shows
+module _ (t : Task) (l : TraceLists) (r : Reply) where
+  pub task-refused : (n p : ℕ) → result t ≡ refused (n, p) → r ≡ record { answer = Refused n p; buffers = blank } → _≡_ {A = TracedReply} (record { reply = r; lists = l }) (taskDone t l)
+  task-refused n p e h = rw (e, h)
+
+  pub task-ran : (q : meaning.RunResult) (m : TraceLists) → result t ≡ ran q → r ≡ replyOf (t .rows) blank (ran q)
+      → m ≡ shownFromPlace 0 (trace (t .rows) (readings (t .rows) (t .sheet)) (t .choices) (t .budget)) (listsLent (cleared (l .readyCounts)) (cleared (l .takenRows)))
+      → _≡_ {A = TracedReply} (record { reply = r; lists = m }) (taskDone t l)
+  task-ran q m e h k = rw (e, h, k)
+
+module _ (table sheet choices : List ℕ) (budget : ℕ) (l : TraceLists) where
+  pub table-done-refused : (n p : ℕ) (r : Reply) → bytesFault table ≡ some (n, p) → r ≡ record { answer = Refused n p; buffers = blank } → _≡_ {A = TracedReply} (record { reply = r; lists = l }) (tableDone table sheet choices budget l)
+  table-done-refused n p r e h = rw (bytes-refused table sheet choices budget n p e, h)
+
+  pub table-done-rows : bytesFault table ≡ none → taskDone (task (rowsOf table) sheet choices budget) l ≡ tableDone table sheet choices budget l
+  table-done-rows e = rw (rows-done table sheet choices budget e)

@@ -1,6 +1,7 @@
-// The run's entries: a table's rows or bytes, a sheet, choices and a budget, and the six lent buffers.
+// The run's entries: a table's rows or bytes, a sheet, choices and a budget, and the six lent buffers; a traced run is lent two lists besides.
 ghost use mathlib.Core.Path.{_≡_};
 ghost use Rattle.meaning.specs.Answers.{reply, replyToBytes};
+ghost use Rattle.meaning.specs.Trace.{replyTraced, replyToBytesTraced};
 
 pub mod tasks; // tasks.rt: the stages of a call in their order, then the run
 
@@ -31,7 +32,9 @@ pub fn run_rows(
     ) {
         return Answer::Refused(1, 0);
     }
-    let done = tasks::do_rows(rows, sheet, choices, budget);
+    let mut readied = [0u16; 1];
+    let mut taken = [0u16; 1];
+    let done = tasks::do_rows(rows, sheet, choices, budget, &mut readied, &mut taken);
     write_buffers::put_done(done, cells, marks, states, places, numbers, counts)
 }
 
@@ -60,6 +63,76 @@ pub fn run_table(
     ) {
         return Answer::Refused(1, 0);
     }
-    let done = tasks::do_table(table, sheet, choices, budget);
+    let mut readied = [0u16; 1];
+    let mut taken = [0u16; 1];
+    let done = tasks::do_table(table, sheet, choices, budget, &mut readied, &mut taken);
+    write_buffers::put_done(done, cells, marks, states, places, numbers, counts)
+}
+
+// A traced run of rows lent as numbers: for each step the two lists get how many steps were ready, and the row that orders the one taken.
+pub fn run_rows_traced(
+    rows: &[i32],
+    sheet: &[u8],
+    choices: &[u16],
+    budget: u32,
+    cells: &mut [i32],
+    marks: &mut [u8],
+    states: &mut [u8],
+    places: &mut [u32],
+    numbers: &mut [i32],
+    counts: &mut [u32],
+    readied: &mut [u16],
+    taken: &mut [u16],
+) -> Answer
+    ensures { λ a. ⌜ record { reply = record { answer = a; buffers = record { cells = now (cells .exit); marks = now (marks .exit); states = now (states .exit); places = now (places .exit); numbers = now (numbers .exit); counts = now (counts .exit) } }; lists = record { readyCounts = now (readied .exit); takenRows = now (taken .exit) } } ≡ replyTraced (record { rows = now (rows .entry); sheet = now (sheet .entry); choices = now (choices .entry); budget = budget }) (record { cells = now (cells .entry); marks = now (marks .entry); states = now (states .entry); places = now (places .entry); numbers = now (numbers .entry); counts = now (counts .entry) }) (record { readyCounts = now (readied .entry); takenRows = now (taken .entry) }) ⌝ }
+{
+    if run_trace::lists_short(readied.len(), taken.len()) {
+        return Answer::Refused(1, 0);
+    }
+    if write_buffers::too_short(
+        cells.len(),
+        marks.len(),
+        states.len(),
+        places.len(),
+        numbers.len(),
+        counts.len(),
+    ) {
+        return Answer::Refused(1, 0);
+    }
+    let done = tasks::do_rows(rows, sheet, choices, budget, readied, taken);
+    write_buffers::put_done(done, cells, marks, states, places, numbers, counts)
+}
+
+// A traced run of a table's bytes.
+pub fn run_table_traced(
+    table: &[u8],
+    sheet: &[u8],
+    choices: &[u16],
+    budget: u32,
+    cells: &mut [i32],
+    marks: &mut [u8],
+    states: &mut [u8],
+    places: &mut [u32],
+    numbers: &mut [i32],
+    counts: &mut [u32],
+    readied: &mut [u16],
+    taken: &mut [u16],
+) -> Answer
+    ensures { λ a. ⌜ record { reply = record { answer = a; buffers = record { cells = now (cells .exit); marks = now (marks .exit); states = now (states .exit); places = now (places .exit); numbers = now (numbers .exit); counts = now (counts .exit) } }; lists = record { readyCounts = now (readied .exit); takenRows = now (taken .exit) } } ≡ replyToBytesTraced (now (table .entry)) (now (sheet .entry)) (now (choices .entry)) budget (record { cells = now (cells .entry); marks = now (marks .entry); states = now (states .entry); places = now (places .entry); numbers = now (numbers .entry); counts = now (counts .entry) }) (record { readyCounts = now (readied .entry); takenRows = now (taken .entry) }) ⌝ }
+{
+    if run_trace::lists_short(readied.len(), taken.len()) {
+        return Answer::Refused(1, 0);
+    }
+    if write_buffers::too_short(
+        cells.len(),
+        marks.len(),
+        states.len(),
+        places.len(),
+        numbers.len(),
+        counts.len(),
+    ) {
+        return Answer::Refused(1, 0);
+    }
+    let done = tasks::do_table(table, sheet, choices, budget, readied, taken);
     write_buffers::put_done(done, cells, marks, states, places, numbers, counts)
 }

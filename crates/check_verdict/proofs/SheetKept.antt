@@ -15,7 +15,7 @@ use Rattle.meaning.specs.Buffers.{mark, numberIn}
 use Rattle.meaning.specs.Sheet.{sheetFault, readings}
 use Rattle.meaning.specs.Answers.{check}
 use Rattle.machine.proofs.Declared.{channels-length, room}
-use Rattle.offers.specs.Held.{KeptReadings}
+use Rattle.run_intents.specs.Held.{KeptReadings}
 use Rattle.read_sheet.specs.Fields.{valueOf, readingMark}
 use Rattle.read_sheet.specs.SheetRead.{sheetRead}
 use Rattle.read_sheet.proofs.KeptReadings.{column-length, lines-few, value-at, mark-at}

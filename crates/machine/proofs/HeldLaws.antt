@@ -53,10 +53,6 @@ module _ (rows : List ℤ) (s : State) (b : Buffers) (h : HoldsState rows s b) w
   unfolding encode blank
   numbers-are = ap (λ (c : Buffers). c .numbers) h
 
-  -- each array is as long as its limit
-  pub cells-long : length (b .cells) ≡ maxCells
-  cells-long = rw cells-are (lent-length maxCells (pos 0) (map numberIn (s .store .cells)))
-
   pub marks-long : length (b .marks) ≡ maxCells
   marks-long = rw marks-are (lent-length maxCells 0 (map mark (s .store .cells)))
 

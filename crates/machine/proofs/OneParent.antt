@@ -8,7 +8,7 @@ use Prim.Native.Nat.{ℕ, _<_}
 use native.Mathlib.Omega.{arith}
 use native.Mathlib.Decide.{decLt}
 use lib.IntN.{ℤ}
-use lib.ListN.{length, getD}
+use lib.ListN.{length}
 use lib.Dec.{T}
 use Rattle.meaning.specs.declared.Node.{Node}
 use Rattle.meaning.specs.declared.Node.the-variants.{Literal, Element, Monadic, Dyadic, Stop, Skip, Assignment, Input, Output, Seq, Par, If, While, Alt, Member, Choice, OptionRow, Guard, Other}
@@ -19,8 +19,7 @@ use Rattle.meaning.specs.Declarations.{declarations, root}
 use Rattle.meaning.specs.Nodes.{nodeAt}
 use Rattle.meaning.specs.References.{of-a, of-b, fieldOf, Refers}
 use Rattle.meaning.specs.Faults.{Placed}
-use Rattle.meaning.specs.Tree.{Process, Processes, empty, also, Content, noContent, andProcess, contentOf, contentAt, orStop, rowOf, processesIn}
-use Rattle.meaning.specs.Settle.{statesOf}
+use Rattle.meaning.specs.Tree.{Process, Processes, empty, Content, noContent, andProcess, contentOf, contentAt, orStop, rowOf, processesIn}
 use Rattle.meaning.specs.State.{Program, program, processAt}
 use Rattle.meaning.specs.Answers.{check}
 use Rattle.meaning.proofs.AnswerLaws.{RightRows, accepted}
@@ -30,10 +29,8 @@ use Rattle.agreement.proofs.Separate.{processes-length}
 use Rattle.meaning.specs.ContentClaims.{higherContent}
 use Rattle.agreement.proofs.TableTree.{part-past, process-is, Known, every-row}
 use Rattle.agreement.proofs.TableReferences.{members-shape, while-shape, member-shape, choice-shape, option-shape, Leading, Shaped, Holding, Fields, fields-are, refers-to, refers-up, placed-at, once}
-use Rattle.machine.specs.RowSteps.{liveByProcesses}
 use Rattle.machine.specs.Upward.{processRows, parentOf}
 use Rattle.machine.proofs.Parents.{among-is, is-among, own-row, parent-has}
-use Rattle.machine.proofs.Unmoved.{told-same}
 
 module _ (rows : List ℤ) (A : RightRows rows) where
   -- row c that holds a member, and the rows after it that hold the next ones
@@ -210,11 +207,3 @@ module _ (rows : List ℤ) (ok : check rows ≡ none) where
       go : (o : Option ℕ) → parentOf P (declarations rows) ≡ o → o ≡ none
       go none e = refl
       go (some q) e = absurd (no-root rows A q (declarations rows) (held-by rows A q (declarations rows) (parent-has P (declarations rows) q e .1)) refl)
-
-  states-told : (ms : Processes) (a b : List ℕ) → ((r : ℕ) → List·Memᴰ r (processRows ms) → getD b r 0 ≡ getD a r 0) → statesOf ms b ≡ statesOf ms a
-  states-told empty a b f = refl
-  states-told (also p ms) a b f = rw (f (rowOf p) (List·Memᴰ·head refl), states-told ms a b (λ r m. f r (List·Memᴰ·tail m)))
-
-  -- where a row and those of which it is the parent keep their states, they tell the same of it
-  pub told-apart : (q : ℕ) (a b : List ℕ) → getD b q 0 ≡ getD a q 0 → ((r : ℕ) → parentOf P r ≡ some q → getD b r 0 ≡ getD a r 0) → liveByProcesses P q b ≡ liveByProcesses P q a
-  told-apart q a b e f = told-same P q a b e (states-told (processesIn (processAt P q)) a b (λ r m. f r (parent-of-member q r m)))

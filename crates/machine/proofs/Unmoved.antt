@@ -1,8 +1,8 @@
--- A step of an accepted table leaves as it was what every other row would do, unless that row was not live and its direct members now tell that it is.
-use mathlib.Core.Path.{_≡_, refl, sym, ap, _∙_}
+-- A step of an accepted table leaves as it was what every other live row would do.
+use mathlib.Core.Path.{_≡_, refl, ap, _∙_}
 use mathlib.Core.Logic.{_⊎_, inl, inr}
-use mathlib.Core.Bool.{Bool, true, false}
-use mathlib.Core.Option.{none, some}
+use mathlib.Core.Bool.{true}
+use mathlib.Core.Option.{none}
 use mathlib.Core.List.{List, [], _∷_, _++_, List·Memᴰ, Memᴰ·append-left}
 use Prim.Native.Nat.{ℕ}
 use native.Mathlib.Omega.{arith}
@@ -12,18 +12,15 @@ use lib.Dec.{eqb}
 use borrow.Author.Tests.{eqb-true}
 use Rattle.meaning.specs.Rows.{rowCount}
 use Rattle.meaning.specs.Tree.{stop, skip, sequence, parallel, assign, input, output, conditional, loop, alternation, Process, node, empty, also, rowOf, actionOf, processesIn, rowsIn, rowsBeneath}
-use Rattle.meaning.specs.Values.{Message}
-use Rattle.meaning.specs.Settle.{statesOf, byStep, mode, settled}
+use Rattle.meaning.specs.Settle.{byStep, mode, settled}
 use Rattle.meaning.specs.SettlingRules.{Among, All, Next, Inside, Settles, Final}
 use Rattle.meaning.specs.State.{State, Program, program, processAt, whole, Effect}
 use Rattle.meaning.specs.Labels.{Label}
 use Rattle.meaning.specs.Readings.{Sheet}
-use Rattle.meaning.specs.Intent.{outputsTo}
 use Rattle.meaning.specs.Ready.{allIdle, isLive, intentAt, after}
 use Rattle.meaning.specs.Step.{Live}
 use Rattle.meaning.specs.Order.{OrderOf}
 use Rattle.meaning.specs.Answers.{check}
-use Rattle.meaning.proofs.AnswerLaws.{accepted}
 use Rattle.agreement.proofs.Again.{Out, Idle}
 use Rattle.agreement.proofs.Frame.{row-in}
 use Rattle.agreement.proofs.Reached.{order-more}
@@ -34,12 +31,9 @@ use Rattle.agreement.proofs.Invariant.{effect-step}
 use Rattle.agreement.proofs.Separate.{table-inv}
 use Rattle.agreement.proofs.TableFit.{fit}
 use Rattle.agreement.proofs.Freedom.{NoneOf, works-same}
-use Rattle.agreement.proofs.TableOptions.{option-rows, one-alt-row}
 use Rattle.agreement.proofs.OrdersSettle.{orders-settled}
-use Rattle.machine.specs.RowSteps.{waitingAt, liveByProcesses}
 use Rattle.machine.proofs.StepEffects.{active-effect, after-effect}
-use Rattle.machine.proofs.RowReady.{waiting-found}
-use Rattle.machine.proofs.LiveRows.{both, intent-is, running-inside, live-by-members}
+use Rattle.machine.proofs.LiveRows.{both, running-inside}
 
 -- ---- live rows, by the rules
 
@@ -48,7 +42,7 @@ node-is (node a r ms) = refl
 
 module _ (P : Program) (sheet : Sheet) (s : State) (r : ℕ) where
   -- a live row is running, and all beneath it is idle
-  live-tells : isLive P sheet r s ≡ true → (getD (s .states) r 0 ≡ 1) × Idle (rowsBeneath (processesIn (processAt P r))) (s .states)
+  pub live-tells : isLive P sheet r s ≡ true → (getD (s .states) r 0 ≡ 1) × Idle (rowsBeneath (processesIn (processAt P r))) (s .states)
   unfolding isLive
   live-tells h =
       let rs = rowsBeneath (processesIn (processAt P r)) in
@@ -74,18 +68,7 @@ final-by-step top (node (conditional ts) r ms) s f i u h = refl
 final-by-step top (node (loop a b) r ms) s f i u h = refl
 final-by-step top (node (alternation bs) r ms) s f i u h = refl
 
--- a row's own state and those of its direct members tell whether it is live
-pub told-same : (P : Program) (r : ℕ) (a b : List ℕ) → getD b r 0 ≡ getD a r 0 → statesOf (processesIn (processAt P r)) b ≡ statesOf (processesIn (processAt P r)) a → liveByProcesses P r b ≡ liveByProcesses P r a
-unfolding liveByProcesses
-told-same P r a b h g = rw (h, g)
-
 -- ---- accepted tables
-
--- a row that would output to an element waits there
-pub output-waits : (rows : List ℤ) → check rows ≡ none → (sheet : Sheet) (l : List Label) (s : State) → OrderOf rows sheet l s → (e r : ℕ) (z : Message)
-    → intentAt (program rows) sheet s r ≡ outputsTo e z → waitingAt (program rows) sheet s e ≡ some r
-output-waits rows ok sheet l s o =
-    waiting-found (program rows) (rowCount rows) (fit rows ok) sheet s (table-inv rows sheet (fit rows ok) l s o) (option-rows rows ok) (one-alt-row rows (accepted rows .0 ok))
 
 module _ (rows : List ℤ) (ok : check rows ≡ none) (sheet : Sheet) (l : List Label) (s : State) (o : OrderOf rows sheet l s) where
   abbrev P : Program
@@ -129,13 +112,3 @@ module _ (rows : List ℤ) (ok : check rows ≡ none) (sheet : Sheet) (l : List 
       -- a live row that is none of the step's rows would do the same after it
       pub live-same : isLive P sheet r s ≡ true → intentAt P sheet t r ≡ intentAt P sheet s r
       live-same h = rw left (works-same P (rowCount rows) F sheet s inv A r d (live-row-works r h))
-
-      -- a row that is none of the step's rows would do the same, where its own state and those of its direct members tell the same of it
-      pub unmoved : liveByProcesses P r (t .states) ≡ liveByProcesses P r (s .states) → intentAt P sheet t r ≡ intentAt P sheet s r
-      unmoved q = go (isLive P sheet r s) refl
-        where
-          go : (b : Bool) → isLive P sheet r s ≡ b → intentAt P sheet t r ≡ intentAt P sheet s r
-          go true h = live-same h
-          go false h =
-              intent-is rows sheet t r false (live-by-members rows ok sheet (l ++ (x ∷ [])) t order-after r ∙ q ∙ sym (live-by-members rows ok sheet l s o r) ∙ h)
-              ∙ sym (intent-is rows sheet s r false h)

@@ -1,4 +1,4 @@
--- Settling upward from a changed row is settling from the root: of one change, and of the changes of a step, on row states that may be followed by zeros.
+-- Settling upward from a changed row is settling from the root: of one change, and of two by two rows, on row states that may be followed by zeros.
 use mathlib.Core.Path.{_≡_, refl, sym, ap, subst, _∙_}
 use mathlib.Core.Logic.{_≢_}
 use mathlib.Core.Bool.{Bool, false}
@@ -10,36 +10,24 @@ use native.Mathlib.Decide.{ℕ-discrete}
 use lib.IntN.{ℤ}
 use lib.ListN.{length, getD, set, length-set}
 use lib.Seq.{getD-set-other, getD-set-same, ext-getD}
-use Rattle.meaning.specs.Limits.{maxRows}
 use Rattle.meaning.specs.Rows.{rowCount}
 use Rattle.meaning.specs.Tree.{Process, node, Processes, empty, also}
 use Rattle.meaning.specs.Settle.{settle}
-use Rattle.meaning.specs.State.{State, Program, program, whole, changeStates, Effect}
+use Rattle.meaning.specs.State.{State, Program, program, whole}
 use Rattle.meaning.specs.Labels.{Label}
 use Rattle.meaning.specs.Readings.{Sheet}
-use Rattle.meaning.specs.Ready.{intentAt}
 use Rattle.meaning.specs.Order.{OrderOf}
-use Rattle.meaning.specs.Buffers.{Buffers}
 use Rattle.meaning.specs.Answers.{check}
 use Rattle.agreement.proofs.Frame.{see-local, length-local}
 use Rattle.agreement.proofs.Again.{Sound, SoundM, sound-row, see-run, sameB, see-again, again}
-use Rattle.agreement.proofs.Commute.{At, at-run, agree, persist, absorb, other}
+use Rattle.agreement.proofs.Commute.{At, at-run, persist, absorb, other}
 use Rattle.agreement.proofs.Reach.{Good, good-agree, good-set, good-see, good-body}
-use Rattle.agreement.proofs.Active.{Active, acts-alone, passes-on, takes-open, takes-input}
-use Rattle.agreement.proofs.Parts.{Each, Pairwise}
-use Rattle.agreement.proofs.Invariant.{partsOf, step-parts}
 use Rattle.agreement.proofs.Separate.{table-inv}
 use Rattle.agreement.proofs.TableFit.{fit}
 use Rattle.agreement.proofs.OrdersSettle.{settled-again}
-use Rattle.machine.specs.Held.{HoldsState}
-use Rattle.machine.specs.Upward.{changeUp, changesUp}
-use Rattle.machine.proofs.LentLists.{lent-at, lent-length}
-use Rattle.machine.proofs.Declared.{room}
-use Rattle.machine.proofs.HeldLaws.{states-are}
+use Rattle.machine.specs.Upward.{changeUp}
 use Rattle.machine.proofs.HeldSteps.{row-below}
-pub use Rattle.machine.proofs.Parents.{members-higher, parent-has, parent-below, upward-enough}
-pub use Rattle.machine.proofs.OneParent.{one-parent, parent-of-member, root-alone, told-apart}
-pub use Rattle.machine.proofs.Climbs.{up-rests, up-top, up-goes, change-upward}
+use Rattle.machine.proofs.Climbs.{change-upward}
 
 -- ---- more row states than the table has rows
 
@@ -52,10 +40,10 @@ mutual
   soundM-more (also p ms) n m h d = (sound-more p n m h (d .0), soundM-more ms n m h (d .1), d .2)
 
 -- two lists of row states show the same, and both have the rows below n
-abbrev Same : ℕ → List ℕ → List ℕ → Type 0
+abbrev pub Same : ℕ → List ℕ → List ℕ → Type 0
 Same n s t = ((y : ℕ) → getD t y 0 ≡ getD s y 0) × (n ≤ length s) × (n ≤ length t)
 
-same-set : (n x v : ℕ) (s t : List ℕ) → x < n → Same n s t → Same n (set s x v) (set t x v)
+pub same-set : (n x v : ℕ) (s t : List ℕ) → x < n → Same n s t → Same n (set s x v) (set t x v)
 same-set n x v s t h e = (λ y. go y (ℕ-discrete y x), rw (length-set s x v) (e .1), rw (length-set t x v) (e .2))
   where
     go : (y : ℕ) → Dec (y ≡ x) → getD (set t x v) y 0 ≡ getD (set s x v) y 0
@@ -63,7 +51,7 @@ same-set n x v s t h e = (λ y. go y (ℕ-discrete y x), rw (length-set s x v) (
     go y (no q) = getD-set-other t x y v 0 q ∙ e .0 y ∙ sym (getD-set-other s x y v 0 q)
 
 -- settling shows the same of both
-settle-same : (p : Process) (n : ℕ) → Sound p n → (b : Bool) (s t : List ℕ) → Same n s t → Same n (settle p b s) (settle p b t)
+pub settle-same : (p : Process) (n : ℕ) → Sound p n → (b : Bool) (s t : List ℕ) → Same n s t → Same n (settle p b s) (settle p b t)
 settle-same p n d b s t h =
     see-local p b .keeps (Same n) (record { look = λ y m e. sym (e .0 y); put = λ {s = u} {t = w} y v m e. same-set n y v u w (row-below p n y d m) e }) s t h
 
@@ -136,30 +124,3 @@ module _ (rows : List ℤ) (ok : check rows ≡ none) where
             good = good-agree (I .good) (λ y m. same y);
             settled = settled-more (whole P) (rowCount rows) (F .sound) (s .states) t (omega (arith, I .size)) long same (settled-again rows ok sheet l s o);
           }
-
-      here-too : {b x v : ℕ} → At b x v (s .states) (whole P) → At b x v t (whole P)
-      here-too h = agree h (λ y m. same y)
-
-      -- the changes of a step, each at a frontier row, and by different rows
-      parts : {x : Label} {e : Effect} → Active (intentAt P sheet s) x e → Each (whole P) (partsOf (e .changes)) (s .states) × Pairwise (partsOf (e .changes))
-      parts A = step-parts P (rowCount rows) (fit rows ok) sheet s (table-inv rows sheet (fit rows ok) l s o) A
-
-      -- a step's changes settle upward, one after the other
-      pub settled-upward : {x : Label} {e : Effect} → Active (intentAt P sheet s) x e → settle (whole P) false (changeStates (e .changes) t) ≡ changesUp P (e .changes) t
-      settled-upward (acts-alone {r} {x} {v} h) = let (a, d) = parts (acts-alone h) in one-change (length t) t steady r x v (here-too (a .0))
-      settled-upward (passes-on {i} {o = j} h g) =
-          let (a, d) = parts (passes-on h g) in
-          two-changes (length t) t steady i i 2 (here-too (a .0)) j j 2 (d .0 .0) (here-too (a .1 .0))
-      settled-upward (takes-open {r} {q} h g) = let (a, d) = parts (takes-open h g) in one-change (length t) t steady r q 1 (here-too (a .0))
-      settled-upward (takes-input {r} {o = j} {q} h g f) =
-          let (a, d) = parts (takes-input h g f) in
-          two-changes (length t) t steady r q 1 (here-too (a .0)) j j 2 (d .0 .0) (here-too (a .1 .0))
-
-    -- the same of the row states that the machine's arrays hold
-    pub held-upward : (b : Buffers) → HoldsState rows s b → {x : Label} {e : Effect} → Active (intentAt P sheet s) x e
-        → settle (whole P) false (changeStates (e .changes) (b .states)) ≡ changesUp P (e .changes) (b .states)
-    held-upward b h A =
-        let z = states-are rows s b h in
-        let size = table-inv rows sheet (fit rows ok) l s o .size in
-        let few = room rows ok .states in
-        settled-upward (b .states) (rw (z, lent-length maxRows 0 (s .states)) few) (λ r. ap (λ (u : List ℕ). getD u r 0) z ∙ lent-at maxRows r 0 (s .states) (omega arith)) A

@@ -1,16 +1,15 @@
 -- Ready steps row by row: the step that a row orders, if there is one, told by what the rows would do. One pass over the rows finds them in order.
-use mathlib.Core.Bool.{Bool, true, false, _&&_}
+use mathlib.Core.Bool.{Bool, true, false}
 use mathlib.Core.Option.{Option, none, some, Option·map}
 use mathlib.Core.List.{List, [], _∷_, map, flatten}
 use Prim.Native.Nat.{ℕ}
-use lib.ListN.{length, getD}
+use lib.ListN.{length}
 use lib.Dec.{eqb}
 use Rattle.meaning.specs.declared.Node.{Node}
 use Rattle.meaning.specs.declared.Node.the-variants.{Literal, Element, Monadic, Dyadic, Stop, Skip, Assignment, Input, Output, Seq, Par, If, While, Alt, Member, Choice, OptionRow, Guard, Other}
 use Rattle.meaning.specs.Basics.{isSome, among, lowest, allBelow}
-use Rattle.meaning.specs.Tree.{actionOf, processesIn}
+use Rattle.meaning.specs.Tree.{actionOf}
 use Rattle.meaning.specs.Usage.{numbersFrom}
-use Rattle.meaning.specs.Settle.{statesOf, allOf}
 use Rattle.meaning.specs.State.{State, Program, processAt}
 use Rattle.meaning.specs.Labels.{Label, own, pass, takeOption, takeWithOutput}
 use Rattle.meaning.specs.Readings.{Sheet}
@@ -111,7 +110,3 @@ module _ (P : Program) (sheet : Sheet) (s : State) where
   -- the rows below n that order a step, in order
   unfoldable pub stepRows : ℕ → List ℕ
   stepRows n = allBelow (λ j. isSome (stepAt j)) n
-
--- whether row r is running, and each of its direct members is idle
-unfoldable pub liveByProcesses : Program → ℕ → List ℕ → Bool
-liveByProcesses P r states = eqb (getD states r 0) 1 && allOf (λ n. eqb n 0) (statesOf (processesIn (processAt P r)) states)

@@ -8,13 +8,17 @@ use lib.ListN.{length}
 use borrow.Author.Tests.{lt-ltb, le-ltb}
 use Rattle.meaning.specs.TableBytes.{bytesFault, rowsOf}
 use Rattle.meaning.specs.Answers.{Reply}
+use Rattle.meaning.specs.Trace.{TracedReply}
 use Rattle.occam_table.specs.Packing.{answerNumber}
-use Rattle.occam_table.specs.Exports.{Packed, packed}
+use Rattle.occam_table.specs.Exports.{Packed, packed, PackedTraced, packedTraced}
 use Rattle.write_buffers.specs.Replies.{past}
 use Rattle.occam_table.specs.RowsLent.{rowsLent}
 
 pub packed-reply : (n : ℕ) (r q : Reply) → n ≡ answerNumber (r .answer) → r ≡ q → _≡_ {A = Packed} (record { number = n; buffers = r .buffers }) (packed q)
 packed-reply n r q e h = λ i. record { number = (e ∙ ap (λ (x : Reply). answerNumber (x .answer)) h) i; buffers = h i .buffers }
+
+pub packed-traced : (n : ℕ) (r q : TracedReply) → n ≡ answerNumber (r .reply .answer) → r ≡ q → _≡_ {A = PackedTraced} (record { reply = record { number = n; buffers = r .reply .buffers }; lists = r .lists }) (packedTraced q)
+packed-traced n r q e h = λ i. record { reply = packed-reply n (r .reply) (q .reply) e (ap (λ (x : TracedReply). x .reply) h) i; lists = h i .lists }
 
 module _ (table : List ℕ) (out : List ℤ) where
   pub rows-without-room : length out < 4096 → _≡_ {A = ℕ × List ℤ} (0, out) (rowsLent table out)

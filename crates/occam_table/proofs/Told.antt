@@ -1,5 +1,6 @@
 -- A number means one answer: those that can be given differ in their numbers.
-use mathlib.Core.Path.{_≡_, refl, ap₂}
+use mathlib.Core.Path.{_≡_, refl, sym, ap, ap₂, subst}
+use mathlib.Core.Bool.{Bool, true, false}
 use mathlib.Core.List.{List}
 use mathlib.Core.Option.{Option, none, some}
 use Prim.Native.Nat.{ℕ, _+_, _*_, _≤_, _<_}
@@ -7,17 +8,24 @@ use native.Mathlib.Decide.{decLt}
 use native.Mathlib.Omega.{arith}
 use lib.IntN.{ℤ}
 use Rattle.meaning.specs.Refusals.{Refusal}
-use Rattle.meaning.specs.Answers.{check, checkBytes, verdictOf, reply, replyToBytes}
+use Rattle.meaning.specs.Buffers.{Buffers}
+use Rattle.meaning.specs.Answers.{Task, check, checkBytes, verdictOf, Reply, reply, replyToBytes}
+use Rattle.meaning.specs.Trace.{TraceLists, TracedReply, listsTooShort, replyTraced, replyToBytesTraced}
 use Rattle.meaning.specs.TableBytes.{rowsOf}
 use Rattle.meaning.specs.declared.Outcome.{Outcome}
 use Rattle.meaning.specs.declared.Outcome.the-variants.{Ended, Stuck, Broken, Spent}
 use Rattle.meaning.specs.declared.Answer.{Answer}
 use Rattle.meaning.specs.declared.Answer.the-variants.{Refused, Ran}
 use Rattle.meaning.specs.declared.Verdict.the-variants.{Accepted, Rejected}
+use Rattle.agreement.specs.CallClaims.{taskOfBytes, RanAs}
 use Rattle.agreement.specs.RefusalClaims.{TableRefusal, OneOfEleven}
+use Rattle.agreement.proofs.TableFit.{rows-limit}
+use Rattle.agreement.proofs.Calls.{run-answered}
+use Rattle.agreement.proofs.CallsOnBytes.{run-answered-bytes}
+use Rattle.agreement.proofs.TracedCalls.{traced-as-untraced}
 use Rattle.agreement.proofs.RefusalPlaces.{rows-refused, bytes-refused, rows-call-refused, bytes-call-refused, table-known, numbers-known}
 use Rattle.occam_table.specs.Packing.{outcomeNumber}
-use Rattle.occam_table.specs.PackingClaims.{PossibleAnswer, PossibleVerdict, AnswersTold, VerdictsTold, CallsPossible, ChecksPossible}
+use Rattle.occam_table.specs.PackingClaims.{PossibleAnswer, PossibleVerdict, AnswersTold, VerdictsTold, CallsPossible, TracedPossible, ChecksPossible}
 use Rattle.occam_table.proofs.Outcomes.{outcome-some, outcome-small}
 
 -- outcomes by their numbers
@@ -39,6 +47,15 @@ outcomes-told Spent Stuck e = absurd (omega arith)
 outcomes-told Spent Broken e = absurd (omega arith)
 outcomes-told Spent Spent e = refl
 
+-- the ready steps
+totals-told : (x y m n : ℕ) → x < 1099511627776 → y < 1099511627776 → x + 1099511627776 * m ≡ y + 1099511627776 * n → (x ≡ y) × (m ≡ n)
+totals-told x y m n small little e = go (decLt m n) (decLt n m)
+  where
+    go : Dec (m < n) → Dec (n < m) → (x ≡ y) × (m ≡ n)
+    go (yes h) d = absurd (omega arith)
+    go (no h) (yes g) = absurd (omega arith)
+    go (no h) (no g) = let same : m ≡ n = omega arith in (omega arith, same)
+
 -- the steps, and so the outcome's number
 parts-told : (a b k l : ℕ) → a ≤ 4 → b ≤ 4 → 256 * a + 65536 * k ≡ 256 * b + 65536 * l → (a ≡ b) × (k ≡ l)
 parts-told a b k l small little e = go (decLt k l) (decLt l k)
@@ -52,15 +69,16 @@ pub answers-told : AnswersTold
 answers-told (Refused n p) (Refused m q) h k e =
     let (_, small) = h in let (_, little) = k in
     ap₂ Refused (omega arith) (omega arith)
-answers-told (Refused n p) (Ran o k) h u e =
+answers-told (Refused n p) (Ran o k m) h u e =
     let (low, small) = h in let a = outcome-some o in let b = outcome-small o in
     absurd (omega arith)
-answers-told (Ran o k) (Refused n p) u h e =
+answers-told (Ran o k m) (Refused n p) u h e =
     let (low, small) = h in let a = outcome-some o in let b = outcome-small o in
     absurd (omega arith)
-answers-told (Ran o k) (Ran p l) u v e =
-    let (outcome, steps) = parts-told (outcomeNumber o) (outcomeNumber p) k l (outcome-small o) (outcome-small p) e in
-    ap₂ Ran (outcomes-told o p outcome) steps
+answers-told (Ran o k m) (Ran p l n) (few, _) (less, _) e =
+    let (rest, total) = totals-told (256 * outcomeNumber o + 65536 * k) (256 * outcomeNumber p + 65536 * l) m n (omega (arith, outcome-small o)) (omega (arith, outcome-small p)) e in
+    let (outcome, steps) = parts-told (outcomeNumber o) (outcomeNumber p) k l (outcome-small o) (outcome-small p) rest in
+    λ i. Ran (outcomes-told o p outcome i) (steps i) (total i)
 
 pub verdicts-told : VerdictsTold
 verdicts-told Accepted Accepted h k e = refl
@@ -70,15 +88,39 @@ verdicts-told (Rejected n p) (Rejected m q) h k e =
     let (_, small) = h in let (_, little) = k in
     ap₂ Rejected (omega arith) (omega arith)
 
--- an answer that is a refusal only if that is one of the eleven
-possible-answer : (rows : List ℤ) (a : Answer) → ((number place : ℕ) → a ≡ Refused number place → OneOfEleven rows number place) → PossibleAnswer a
-possible-answer rows (Refused n p) h = let (low, high, _) = numbers-known rows n p (h n p refl) in (low, high)
-possible-answer rows (Ran o k) h = tt
+-- a run takes no more steps than its budget, and no more are ready than there are rows
+possible-run : (t : Task) (b : Buffers) (r : Reply) (o : Outcome) (k n : ℕ) → RanAs t b r o k n → (k ≤ 65536) × (n ≤ 1024)
+possible-run t b r o k n a = (omega (arith, a .steps-within, a .budget-allowed), omega (arith, a .total-within, rows-limit (t .rows) (a .table-accepted)))
+
+-- an answer that is a refusal only if that is one of the eleven, and a run only if that is possible
+possible-answer : (rows : List ℤ) (a : Answer) → ((number place : ℕ) → a ≡ Refused number place → OneOfEleven rows number place)
+    → ((o : Outcome) (k n : ℕ) → a ≡ Ran o k n → (k ≤ 65536) × (n ≤ 1024)) → PossibleAnswer a
+possible-answer rows (Refused n p) h g = let (low, high, _) = numbers-known rows n p (h n p refl) in (low, high)
+possible-answer rows (Ran o k n) h g = g o k n refl
 
 pub calls-possible : CallsPossible
 calls-possible = (
-  λ t b. possible-answer (t .rows) (reply t b .answer) (λ number place e. rows-call-refused t b number place e .0),
-  λ table sheet choices budget b. possible-answer (rowsOf table) (replyToBytes table sheet choices budget b .answer) (bytes-call-refused table sheet choices budget b),
+  λ t b. possible-answer (t .rows) (reply t b .answer) (λ number place e. rows-call-refused t b number place e .0) (λ o k n e. possible-run t b (reply t b) o k n (run-answered t b o k n e)),
+  λ table sheet choices budget b. possible-answer (rowsOf table) (replyToBytes table sheet choices budget b .answer) (bytes-call-refused table sheet choices budget b) (λ o k n e. possible-run (taskOfBytes table sheet choices budget) b (replyToBytes table sheet choices budget b) o k n (run-answered-bytes table sheet choices budget b o k n e)),
+)
+
+-- a traced call answers as the untraced one does, or refuses by 1
+possible-traced : (l : TraceLists) (a q : Answer) → (listsTooShort l ≡ false → a ≡ q) → (listsTooShort l ≡ true → a ≡ Refused 1 0) → PossibleAnswer q → PossibleAnswer a
+possible-traced l a q long short h = go (listsTooShort l) refl
+  where
+    go : (t : Bool) → listsTooShort l ≡ t → PossibleAnswer a
+    go true e = subst PossibleAnswer (sym (short e)) (omega arith, omega arith)
+    go false e = subst PossibleAnswer (sym (long e)) h
+
+pub traced-possible : TracedPossible
+traced-possible = (
+  λ t b l.
+      possible-traced l (replyTraced t b l .reply .answer) (reply t b .answer) (λ e. ap (λ (r : Reply). r .answer) (traced-as-untraced .0 t b l .0 e))
+      (λ e. ap (λ (r : TracedReply). r .reply .answer) (traced-as-untraced .0 t b l .1 e)) (calls-possible .0 t b),
+  λ table sheet choices budget b l.
+      possible-traced l (replyToBytesTraced table sheet choices budget b l .reply .answer) (replyToBytes table sheet choices budget b .answer)
+      (λ e. ap (λ (r : Reply). r .answer) (traced-as-untraced .1 table sheet choices budget b l .0 e))
+      (λ e. ap (λ (r : TracedReply). r .reply .answer) (traced-as-untraced .1 table sheet choices budget b l .1 e)) (calls-possible .1 table sheet choices budget b),
 )
 
 possible-verdict : (rows : List ℤ) (o : Option Refusal) → ((number place : ℕ) → o ≡ some (number, place) → TableRefusal rows number place) → PossibleVerdict (verdictOf o)

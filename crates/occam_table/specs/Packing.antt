@@ -1,4 +1,5 @@
--- Answers as one number: the low 8 bits are the refusal's number, 0 for none; the next 8 the outcome's, 0 for none; the rest the place of a refusal or the steps of a run.
+-- Answers as one number: the low 8 bits are the refusal's number, 0 for none; the next 8 the outcome's, 0 for none; the rest the place of a refusal, or
+-- for a run its steps and, from bit 40 on, how many steps are ready after it.
 use Prim.Native.Nat.{ℕ, _+_, _*_}
 use Rattle.meaning.specs.declared.Outcome.{Outcome}
 use Rattle.meaning.specs.declared.Outcome.the-variants.{Ended, Stuck, Broken, Spent}
@@ -19,7 +20,7 @@ abbrev pub verdictNumber : Verdict → ℕ
 verdictNumber Accepted = 0
 verdictNumber (Rejected n p) = n + 65536 * p
 
--- an answer: a refusal's number with its place, or an outcome with its steps
+-- an answer: a refusal's number with its place, or an outcome with its steps and, by 2 to the 40, the ready steps
 abbrev pub answerNumber : Answer → ℕ
 answerNumber (Refused n p) = n + 65536 * p
-answerNumber (Ran o k) = 256 * outcomeNumber o + 65536 * k
+answerNumber (Ran o k n) = 256 * outcomeNumber o + 65536 * k + 1099511627776 * n

@@ -5,16 +5,17 @@ use Prim.Native.Nat.{ℕ, _≤_}
 use lib.IntN.{ℤ}
 use Rattle.meaning.specs.Buffers.{Buffers}
 use Rattle.meaning.specs.Answers.{Task, check, checkBytes, verdictOf, reply, replyToBytes}
+use Rattle.meaning.specs.Trace.{TraceLists, replyTraced, replyToBytesTraced}
 use Rattle.meaning.specs.declared.Answer.{Answer}
 use Rattle.meaning.specs.declared.Answer.the-variants.{Refused, Ran}
 use Rattle.meaning.specs.declared.Verdict.{Verdict}
 use Rattle.meaning.specs.declared.Verdict.the-variants.{Accepted, Rejected}
 use Rattle.occam_table.specs.Packing.{verdictNumber, answerNumber}
 
--- the answers that can be given: a run, or "one of eleven numbered refusals"
+-- the answers that can be given: a run of 65,536 steps at most with 1,024 ready at most, or "one of eleven numbered refusals"
 abbrev pub PossibleAnswer : Answer → Type 0
 PossibleAnswer (Refused number place) = (1 ≤ number) × (number ≤ 11)
-PossibleAnswer (Ran outcome steps) = Unit {0}
+PossibleAnswer (Ran outcome steps total) = (steps ≤ 65536) × (total ≤ 1024)
 
 -- the verdicts that can be given: accepted, or one of the refusals 2 to 9
 abbrev pub PossibleVerdict : Verdict → Type 0
@@ -28,10 +29,14 @@ AnswersTold = (a b : Answer) → PossibleAnswer a → PossibleAnswer b → answe
 abbrev pub VerdictsTold : Type 0
 VerdictsTold = (v w : Verdict) → PossibleVerdict v → PossibleVerdict w → verdictNumber v ≡ verdictNumber w → v ≡ w
 
--- every call and every check gives such a one
+-- every call, traced or not, and every check gives such a one
 abbrev pub CallsPossible : Type 0
 CallsPossible = ((t : Task) (b : Buffers) → PossibleAnswer (reply t b .answer))
     × ((table sheet choices : List ℕ) (budget : ℕ) (b : Buffers) → PossibleAnswer (replyToBytes table sheet choices budget b .answer))
+
+abbrev pub TracedPossible : Type 0
+TracedPossible = ((t : Task) (b : Buffers) (l : TraceLists) → PossibleAnswer (replyTraced t b l .reply .answer))
+    × ((table sheet choices : List ℕ) (budget : ℕ) (b : Buffers) (l : TraceLists) → PossibleAnswer (replyToBytesTraced table sheet choices budget b l .reply .answer))
 
 abbrev pub ChecksPossible : Type 0
 ChecksPossible = ((rows : List ℤ) → PossibleVerdict (verdictOf (check rows))) × ((table : List ℕ) → PossibleVerdict (verdictOf (checkBytes table)))

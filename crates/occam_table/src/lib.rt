@@ -2,17 +2,20 @@
 // an output channel. A slice is a pointer and a length.
 ghost use mathlib.Core.Path.{_≡_};
 ghost use Rattle.meaning.specs.Answers.{check, checkBytes, verdictOf, reply, replyToBytes};
+ghost use Rattle.meaning.specs.Trace.{replyTraced, replyToBytesTraced};
 ghost use Rattle.occam_table.specs.Packing.{verdictNumber};
-ghost use Rattle.occam_table.specs.Exports.{packed, stripNumber};
+ghost use Rattle.occam_table.specs.Exports.{packed, packedTraced, stripNumber};
 ghost use Rattle.occam_table.specs.RowsLent.{rowsLent};
 
 mod packing; // packing.rt: answers as one number
 
 use meaning::Verdict;
 
-// The public entries of Rattle callers: the verdict, the run, the strip of a host channel.
+// The public entries of Rattle callers: the verdict, the run, untraced and traced, the strip of a host channel.
 pub use call_table::run_rows;
+pub use call_table::run_rows_traced;
 pub use call_table::run_table;
+pub use call_table::run_table_traced;
 pub use check_verdict::check_rows;
 pub use check_verdict::check_table;
 pub use write_strips::strip;
@@ -90,6 +93,75 @@ pub extern "C" fn occam_run_table(
         places,
         numbers,
         counts,
+    ))
+}
+
+// A traced run of rows lent as numbers: for each step how many steps were ready, and the row that orders the one taken, in two lent lists of
+// 65,536 numbers.
+#[no_mangle]
+pub extern "C" fn occam_run_rows_traced(
+    rows: &[i32],
+    sheet: &[u8],
+    choices: &[u16],
+    budget: u32,
+    cells: &mut [i32],
+    marks: &mut [u8],
+    states: &mut [u8],
+    places: &mut [u32],
+    numbers: &mut [i32],
+    counts: &mut [u32],
+    readied: &mut [u16],
+    taken: &mut [u16],
+) -> u64
+    ensures { λ n. ⌜ record { reply = record { number = n; buffers = record { cells = now (cells .exit); marks = now (marks .exit); states = now (states .exit); places = now (places .exit); numbers = now (numbers .exit); counts = now (counts .exit) } }; lists = record { readyCounts = now (readied .exit); takenRows = now (taken .exit) } } ≡ packedTraced (replyTraced (record { rows = now (rows .entry); sheet = now (sheet .entry); choices = now (choices .entry); budget = budget }) (record { cells = now (cells .entry); marks = now (marks .entry); states = now (states .entry); places = now (places .entry); numbers = now (numbers .entry); counts = now (counts .entry) }) (record { readyCounts = now (readied .entry); takenRows = now (taken .entry) })) ⌝ }
+{
+    packing::answer_number(call_table::run_rows_traced(
+        rows,
+        sheet,
+        choices,
+        budget,
+        cells,
+        marks,
+        states,
+        places,
+        numbers,
+        counts,
+        readied,
+        taken,
+    ))
+}
+
+// A traced run of a table's bytes.
+#[no_mangle]
+pub extern "C" fn occam_run_table_traced(
+    table: &[u8],
+    sheet: &[u8],
+    choices: &[u16],
+    budget: u32,
+    cells: &mut [i32],
+    marks: &mut [u8],
+    states: &mut [u8],
+    places: &mut [u32],
+    numbers: &mut [i32],
+    counts: &mut [u32],
+    readied: &mut [u16],
+    taken: &mut [u16],
+) -> u64
+    ensures { λ n. ⌜ record { reply = record { number = n; buffers = record { cells = now (cells .exit); marks = now (marks .exit); states = now (states .exit); places = now (places .exit); numbers = now (numbers .exit); counts = now (counts .exit) } }; lists = record { readyCounts = now (readied .exit); takenRows = now (taken .exit) } } ≡ packedTraced (replyToBytesTraced (now (table .entry)) (now (sheet .entry)) (now (choices .entry)) budget (record { cells = now (cells .entry); marks = now (marks .entry); states = now (states .entry); places = now (places .entry); numbers = now (numbers .entry); counts = now (counts .entry) }) (record { readyCounts = now (readied .entry); takenRows = now (taken .entry) })) ⌝ }
+{
+    packing::answer_number(call_table::run_table_traced(
+        table,
+        sheet,
+        choices,
+        budget,
+        cells,
+        marks,
+        states,
+        places,
+        numbers,
+        counts,
+        readied,
+        taken,
     ))
 }
 

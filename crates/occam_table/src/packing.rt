@@ -1,6 +1,7 @@
 // Answers as one number.
 ghost use mathlib.Core.Path.{_≡_};
 ghost use Rattle.occam_table.specs.Packing.{outcomeNumber, verdictNumber, answerNumber};
+ghost use Rattle.occam_table.specs.PackingClaims.{PossibleAnswer};
 use meaning::Answer;
 use meaning::Outcome;
 use meaning::Verdict;
@@ -27,12 +28,15 @@ fn outcome_number(o: Outcome) -> u64
     }
 }
 
-// An answer's number: the refusal's with its place, or the outcome's with the steps.
+// An answer's number: the refusal's with its place, or the outcome's with the steps and how many are ready.
 pub fn answer_number(a: Answer) -> u64
+    requires { ⌜ PossibleAnswer a ⌝ }
     ensures { λ n. ⌜ n ≡ answerNumber a ⌝ }
 {
     match a {
         Answer::Refused(number, place) => number as u64 + 65536 * (place as u64),
-        Answer::Ran(outcome, steps) => 256 * outcome_number(outcome) + 65536 * (steps as u64),
+        Answer::Ran(outcome, steps, ready) => {
+            256 * outcome_number(outcome) + 65536 * (steps as u64) + 1099511627776 * (ready as u64)
+        }
     }
 }

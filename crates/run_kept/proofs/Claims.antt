@@ -1,29 +1,35 @@
 -- The statements, proved.
-use mathlib.Core.Path.{_≡_, refl, sym, subst, _∙_}
+use mathlib.Core.Path.{_≡_, refl, sym, subst}
+use mathlib.Core.Logic.{_↔_}
 use mathlib.Core.Option.{none}
-use mathlib.Core.List.{List, [], _∷_, List·Memᴰ, List·Memᴰ·head, List·Memᴰ·not-nil}
-use native.Mathlib.Omega.{arith}
+use mathlib.Core.List.{List, [], _∷_, _++_, List·Memᴰ}
+use Prim.Native.Nat.{ℕ}
 use lib.IntN.{ℤ}
-use lib.ListN.{length}
 use Rattle.meaning.specs.Rows.{rowCount}
 use Rattle.meaning.specs.State.{State, program, Effect}
 use Rattle.meaning.specs.Labels.{Label}
 use Rattle.meaning.specs.Readings.{Sheet}
 use Rattle.meaning.specs.Ready.{intentAt, ready, after}
-use Rattle.meaning.specs.Order.{OrderOf, RestOf}
+use Rattle.meaning.specs.Order.{OrderOf}
 use Rattle.meaning.specs.Answers.{check}
-use Rattle.agreement.specs.Statements.{StepOf}
+use Rattle.agreement.specs.Statements.{Reached, StepOf, ReadyTotal}
 use Rattle.agreement.proofs.Active.{Active}
-use Rattle.agreement.proofs.Steps.{distinct-options, ready-allowed, allowed-ready}
+use Rattle.agreement.proofs.Steps.{distinct-options, allowed-ready}
 use Rattle.agreement.proofs.Invariant.{step-active}
 use Rattle.agreement.proofs.Separate.{table-inv}
 use Rattle.agreement.proofs.TableFit.{fit}
+use Rattle.agreement.proofs.RowsAscend.{ready-listed}
+use Rattle.agreement.proofs.ReadyTotals.{rest-total}
+use Rattle.agreement.proofs.Demands.{ready-exactly}
+use Rattle.machine.proofs.Unmoved.{order-after}
 use Rattle.run_kept.specs.Kept.{total}
-use Rattle.run_kept.specs.Statements.{RowReady, TotalIs, NotesKept, WaitsKept, NoPartnerLost, BitsKept, TotalMended, OwnStepsLocal}
+use Rattle.run_kept.specs.Statements.{RowReady, NotesKept, WaitsKept, NoPartnerLost, BitsKept, TotalMended}
+use Rattle.run_kept.specs.ReadyClaims.{TotalKept, owner, IsReady, Untouched, OwnStepsLocal}
 use Rattle.run_kept.proofs.ReadyRows.{row-ready, total-is}
 use Rattle.run_kept.proofs.Locality.{note-kept, option-kept, same-or-moved, sender-same, receiver-same}
 use Rattle.run_kept.proofs.Partners.{partner-steps}
 use Rattle.run_kept.proofs.Mending.{bit-kept, total-mended}
+use Rattle.run_kept.proofs.Owners.{ownSteps, owned-is}
 use Rattle.run_kept.proofs.OwnSteps.{own-steps-local}
 
 -- a step that a rule allows is one that can be taken, and leads to the state after it
@@ -37,24 +43,11 @@ module _ (rows : List ℤ) (ok : check rows ≡ none) (sheet : Sheet) (l : List 
 pub row-bit : RowReady
 row-bit rows sheet a s (l, o) j = row-ready rows (a .0) sheet l s o j
 
-length-none : (l : List Label) → length l ≡ 0 → l ≡ []
-length-none [] e = refl
-length-none (x ∷ l) e = absurd (omega arith)
-
-none-length : (l : List Label) → ((x : Label) → List·Memᴰ x l → ⊥) → length l ≡ 0
-none-length [] h = refl
-none-length (x ∷ l) h = absurd (h x (List·Memᴰ·head refl))
-
-pub total-exact : TotalIs
-total-exact rows sheet a s (l, o) = (total-is rows (a .0) sheet l s o, (λ h. to h, λ h. from h))
-  where
-    to : total (program rows) sheet s ≡ 0 → RestOf rows sheet s
-    to h x t g =
-        List·Memᴰ·not-nil (subst (λ (m : List Label). List·Memᴰ x m) (length-none (ready (program rows) sheet s) (sym (total-is rows (a .0) sheet l s o) ∙ h))
-        (allowed-ready rows sheet (fit rows (a .0)) s (table-inv rows sheet (fit rows (a .0)) l s o) x t g .0))
-
-    from : RestOf rows sheet s → total (program rows) sheet s ≡ 0
-    from h = total-is rows (a .0) sheet l s o ∙ none-length (ready (program rows) sheet s) (λ x m. h x (after (program rows) sheet x s) (ready-allowed rows sheet (fit rows (a .0)) s (table-inv rows sheet (fit rows (a .0)) l s o) x m))
+pub total-kept : TotalKept
+total-kept rows sheet a s (l, o) =
+    let k = ready (program rows) sheet s in
+    let here : ReadyTotal rows sheet s (total (program rows) sheet s) = (k, ready-listed rows (a .0) sheet s (l, o) k .1 refl, sym (total-is rows (a .0) sheet l s o)) in
+    (here, rest-total rows sheet s (total (program rows) sheet s) here)
 
 pub notes-kept : NotesKept
 notes-kept rows sheet a s (l, o) x t h r =
@@ -76,5 +69,21 @@ bits-kept rows sheet a s (l, o) x t h j = rw (leads rows (a .0) sheet l s o x t 
 pub total-is-mended : TotalMended
 total-is-mended rows sheet a s (l, o) x t h = rw (leads rows (a .0) sheet l s o x t h) (total-mended rows (a .0) sheet l s o (taken rows (a .0) sheet l s o x t h .1))
 
+-- the ready steps of an owner are those of its list
+own-step-is : (rows : List ℤ) → check rows ≡ none → (sheet : Sheet) (s : State) → Reached rows sheet s → (r : ℕ) (y : Label) → owner y ≡ r → IsReady rows sheet s y ↔ List·Memᴰ y (ownSteps (program rows) sheet s r)
+unfolding ownSteps
+own-step-is rows ok sheet s o r y e =
+    let (is, one) = ready-exactly rows ok sheet s o y in
+    let (to, from) = owned-is r y (ready (program rows) sheet s) in
+    (λ h. from (e, is .1 h), λ m. is .0 (to m .1))
+
 pub own-steps-are-local : OwnStepsLocal
-own-steps-are-local rows sheet a s (l, o) x t h r = rw (leads rows (a .0) sheet l s o x t h) (λ N. own-steps-local rows (a .0) sheet l s o (taken rows (a .0) sheet l s o x t h .1) r N)
+own-steps-are-local rows sheet a s (l, o) x t h r N y w =
+    let A = taken rows (a .0) sheet l s o x t h .1 in
+    let e = leads rows (a .0) sheet l s o x t h in
+    let same = own-steps-local rows (a .0) sheet l s o A r (subst (λ (u : State). Untouched rows s u r) e N) in
+    let later : Reached rows sheet t = (l ++ (x ∷ []), subst (OrderOf rows sheet (l ++ (x ∷ []))) (sym e) (order-after rows (a .0) sheet l s o A)) in
+    let kept : ownSteps (program rows) sheet t r ≡ ownSteps (program rows) sheet s r = rw e same in
+    let (to, from) = own-step-is rows (a .0) sheet s (l, o) r y w in
+    let (up, down) = own-step-is rows (a .0) sheet t later r y w in
+    (λ u. down (subst (List·Memᴰ y) (sym kept) (to u)), λ u. from (subst (List·Memᴰ y) kept (up u)))

@@ -37,21 +37,21 @@ unfolding lowestFrom
 from-same p q h zero at = refl
 from-same p q h (suc k) at = ap₂ (λ (t : Bool) (o : Option ℕ). ifElse t (some at) o) (h at) (from-same p q h k (suc at))
 
-lowest-same : (p q : ℕ → Bool) (n : ℕ) → ((j : ℕ) → p j ≡ q j) → lowest p n ≡ lowest q n
+pub lowest-same : (p q : ℕ → Bool) (n : ℕ) → ((j : ℕ) → p j ≡ q j) → lowest p n ≡ lowest q n
 unfolding lowest
 lowest-same p q n h = from-same p q h n 0
 
 -- ---- one row is noted
 
 -- the note of each row
-noted-itself : (r : ℕ) (i : Intent) (w : ℕ → Intent) → noted r i w r ≡ i
+pub noted-itself : (r : ℕ) (i : Intent) (w : ℕ → Intent) → noted r i w r ≡ i
 noted-itself r i w = go (eqb r r) (decides-eq r r)
   where
     go : (t : Bool) → Decides (r ≡ r) t → ifElse t i (w r) ≡ i
     go true d = refl
     go false (failing h) = absurd (h refl)
 
-noted-other : (r : ℕ) (i : Intent) (w : ℕ → Intent) (q : ℕ) → r ≢ q → noted r i w q ≡ w q
+pub noted-other : (r : ℕ) (i : Intent) (w : ℕ → Intent) (q : ℕ) → r ≢ q → noted r i w q ≡ w q
 noted-other r i w q h = go (eqb r q) (decides-eq r q)
   where
     go : (t : Bool) → Decides (r ≡ q) t → ifElse t i (w q) ≡ w q

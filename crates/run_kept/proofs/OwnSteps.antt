@@ -1,4 +1,4 @@
--- An owner's ready steps change only if the step changed the state of that row, of a row beneath it, or of an output to an element that it may input from.
+-- An owner's ready steps change only if the step changed the state of that row, of a row beneath it, or of an output on a channel that it may input from.
 use mathlib.Core.Path.{_≡_, refl, sym, ap, ap₂, subst, _∙_}
 use mathlib.Core.Logic.{_⊎_, inl, inr}
 use mathlib.Core.Bool.{Bool, true, _&&_, false≢true}
@@ -19,6 +19,7 @@ use Rattle.meaning.specs.Intent.{waits, moves, intent}
 use Rattle.meaning.specs.Ready.{allIdle, isLive, intentAt, after}
 use Rattle.meaning.specs.Order.{OrderOf}
 use Rattle.meaning.specs.Answers.{check}
+use Rattle.meaning.proofs.AnswerLaws.{RightRows, accepted}
 use Rattle.agreement.proofs.Commute.{Child, child-in}
 use Rattle.agreement.proofs.Settled.{PlainA}
 use Rattle.agreement.proofs.NoRuleLeft.{plain-at}
@@ -31,10 +32,12 @@ use Rattle.agreement.proofs.TableFit.{fit}
 use Rattle.machine.specs.RowSteps.{isOutputTo, altOf, ownStep, optionStep}
 use Rattle.machine.proofs.LiveRows.{intent-is}
 use Rattle.machine.proofs.Unmoved.{order-after}
-use Rattle.run_kept.specs.Kept.{isInputFrom, ownSteps, Moved, Untouched}
+use Rattle.run_kept.specs.Kept.{isInputFrom, Moved}
+use Rattle.run_kept.specs.ReadyClaims.{Untouched}
+use Rattle.run_kept.proofs.ChannelNames.{common-channel, tree-beneath}
 use Rattle.run_kept.proofs.Waiting.{one-receiver, one-sender, passing-acts, inputs-counted, outputs-counted, waiter-waits, waits-live, sender-is, receiver-is}
 use Rattle.run_kept.proofs.Locality.{one-or-none}
-use Rattle.run_kept.proofs.Owners.{NoneWakes, owner-kept, own-steps-kept}
+use Rattle.run_kept.proofs.Owners.{ownSteps, NoneWakes, owner-kept, own-steps-kept}
 use Rattle.run_kept.proofs.StepRows.{Left, is-over, by-test, by-option, step-leaves}
 
 -- ---- rows with the same states are at work together
@@ -78,12 +81,15 @@ module _ (P : Program) (sheet : Sheet) (s t : State) (r : ℕ) where
   option-same e y v h j z = rw (z, e, h)
 
 module _ (rows : List ℤ) (ok : check rows ≡ none) (sheet : Sheet) (l : List Label) (s : State) (o : OrderOf rows sheet l s)
-    {x : Label} {e : Effect} (A : Active (intentAt (program rows) sheet s) x e) (r : ℕ) (N : Untouched (program rows) s (after (program rows) sheet x s) r) where
+    {x : Label} {e : Effect} (A : Active (intentAt (program rows) sheet s) x e) (r : ℕ) (N : Untouched rows s (after (program rows) sheet x s) r) where
   abbrev P : Program
   P = program rows
 
   abbrev t : State
   t = after (program rows) sheet x s
+
+  abbrev right : RightRows rows
+  right = accepted rows .0 ok
 
   abbrev F : Fit (program rows) (rowCount rows)
   F = fit rows ok
@@ -98,7 +104,7 @@ module _ (rows : List ℤ) (ok : check rows ≡ none) (sheet : Sheet) (l : List 
   behind = table-inv rows sheet (fit rows ok) (l ++ (x ∷ [])) t later
 
   live-kept : isLive (program rows) sheet r (after (program rows) sheet x s) ≡ isLive (program rows) sheet r s
-  live-kept = live-states P sheet s t r (N .itself) (N .beneath)
+  live-kept = live-states P sheet s t r (N .itself) (λ b m. N .beneath b (tree-beneath rows right r b m))
 
   -- ---- a row that comes where r waits
 
@@ -138,9 +144,10 @@ module _ (rows : List ℤ) (ok : check rows ≡ none) (sheet : Sheet) (l : List 
       let B = works P (rowCount rows) F sheet t p behind (passing-acts (isOutputTo d) (λ z. z) (intentAt P sheet t p) gp) in
       let a = inputs-counted (F .source) (F .sink) (C .action) (C .listed) r d (intentAt P sheet s r) (works-proper P (rowCount rows) F sheet s r C refl) hr in
       let b = outputs-counted (F .source) (F .sink) (B .action) (B .listed) p d (intentAt P sheet t p) (works-proper P (rowCount rows) F sheet t p B refl) gp in
-      unmoved-output p d B b
-      (N .partners p d (subst (λ (q : Process). List·Memᴰ d (inputElements (actionOf q))) (sym (F .placed (C .action) r (C .listed) (C .sub))) a)
-      (subst (λ (q : Process). List·Memᴰ d (outputElements (actionOf q))) (sym (F .placed (B .action) p (B .listed) (B .sub))) b))
+      let (c, u, v) =
+      common-channel rows right d r p (subst (λ (q : Process). List·Memᴰ d (inputElements (actionOf q))) (sym (F .placed (C .action) r (C .listed) (C .sub))) a)
+      (subst (λ (q : Process). List·Memᴰ d (outputElements (actionOf q))) (sym (F .placed (B .action) p (B .listed) (B .sub))) b) in
+      unmoved-output p d B b (N .on-channels p c u v)
       (waits-live rows ok sheet (l ++ (x ∷ [])) t later (isOutputTo d) (one-sender rows ok sheet (l ++ (x ∷ [])) t later d) p gp)
 
   -- ---- the row itself
@@ -152,7 +159,8 @@ module _ (rows : List ℤ) (ok : check rows ≡ none) (sheet : Sheet) (l : List 
   by-step (is-over B h) = absurd (h (still B))
   by-step (by-option C q j c m (inl h)) = absurd (h (still C))
   by-step (by-option C q j c m (inr h)) =
-      absurd (h (N .beneath q (subst (λ (p : Process). List·Memᴰ q (rowsBeneath (processesIn p))) (sym (F .placed (C .action) r (C .listed) (C .sub))) (child-in c)) ∙ C .idle q (child-in c)))
+      let m = subst (λ (p : Process). List·Memᴰ q (rowsBeneath (processesIn p))) (sym (F .placed (C .action) r (C .listed) (C .sub))) (child-in c) in
+      absurd (h (N .beneath q (tree-beneath rows right r q m) ∙ C .idle q (child-in c)))
   by-step (by-test C q c h g) = owner-kept rows ok sheet l s o A r (own-same P sheet s t r same q 1 h) (option-same P sheet s t r same q 1 h)
     where
       same : intentAt P sheet t r ≡ intentAt P sheet s r

@@ -1,22 +1,22 @@
 -- The steps that an owner has are the same after a step, unless the owner is noted anew or a sender comes where it waits.
 use mathlib.Core.Path.{_≡_, refl, sym, ap, ap₂, subst, _∙_}
-use mathlib.Core.Logic.{_≢_, _⊎_, inl, inr}
+use mathlib.Core.Logic.{_≢_, _⊎_, inl, inr, ⊎-elim, _↔_}
 use mathlib.Core.Bool.{Bool, true, false}
 use mathlib.Core.Option.{Option, none, some, Option·map, Option·none-ne-some, Option·some-injective}
-use mathlib.Core.List.{List, [], _∷_, _++_, map, flatten}
+use mathlib.Core.List.{List, [], _∷_, _++_, map, flatten, List·Memᴰ, List·Memᴰ·head, List·Memᴰ·tail, List·Memᴰ·not-nil, List·Memᴰ·cases-cons}
 use Prim.Native.Nat.{ℕ}
 use native.Mathlib.Decide.{ℕ-discrete}
 use lib.IntN.{ℤ}
 use lib.Dec.{eqb}
 use Rattle.meaning.specs.Basics.{ifElse}
-use borrow.Author.Tests.{eqb-true}
+use borrow.Author.Tests.{eqb-true, eqb-false}
 use Rattle.meaning.specs.Rows.{rowCount}
 use Rattle.meaning.specs.Usage.{numbersFrom}
 use Rattle.meaning.specs.State.{State, Program, program, Effect}
 use Rattle.meaning.specs.Labels.{Label, own, pass, takeOption, takeWithOutput}
 use Rattle.meaning.specs.Readings.{Sheet}
 use Rattle.meaning.specs.Intent.{Offer, openOffer, inputOffer, Intent, waits, moves, inputsFrom, outputsTo, selects}
-use Rattle.meaning.specs.Ready.{isLive, intentAt, after}
+use Rattle.meaning.specs.Ready.{isLive, intentAt, ready, after}
 use Rattle.meaning.specs.Order.{OrderOf}
 use Rattle.meaning.specs.Answers.{check}
 use Rattle.agreement.proofs.Active.{RowOf, offerAt, Active}
@@ -25,11 +25,36 @@ use Rattle.machine.specs.RowSteps.{altOf, ownStepBy, offerStep, optionStepBy, f
 use Rattle.machine.proofs.RowTables.{ready-is}
 use Rattle.machine.proofs.LiveRows.{intent-is}
 use Rattle.machine.proofs.Unmoved.{order-after}
-use Rattle.run_kept.specs.Kept.{offerOf, noteIf, optionNote, waitingInput, owner, ownedBy, ownSteps, Moved}
+use Rattle.run_kept.specs.Kept.{offerOf, noteIf, optionNote, waitingInput, Moved}
+use Rattle.run_kept.specs.ReadyClaims.{owner}
 use Rattle.run_kept.proofs.Partners.{wants-waits, option-wants-waits, partner-steps, option-idle}
 use Rattle.run_kept.proofs.Locality.{one-or-none, PartnerKept, own-step-kept, option-step-kept}
 
 -- ---- the steps of an owner, in lists
+
+-- the steps of owner r
+abbrev pub ownedBy : ℕ → List Label → List Label
+ownedBy r [] = []
+ownedBy r (x ∷ l) = let m = ownedBy r l in ifElse (eqb (owner x) r) (x ∷ m) m
+
+unfoldable pub ownSteps : Program → Sheet → State → ℕ → List Label
+ownSteps P sheet s r = ownedBy r (ready P sheet s)
+
+-- what is in it
+pub owned-is : (r : ℕ) (y : Label) (l : List Label) → List·Memᴰ y (ownedBy r l) ↔ ((owner y ≡ r) × List·Memᴰ y l)
+owned-is r y [] = (λ m. absurd (List·Memᴰ·not-nil m), λ h. absurd (List·Memᴰ·not-nil (h .1)))
+owned-is r y (x ∷ l) = go (eqb (owner x) r) refl (owned-is r y l)
+  where
+    go : (t : Bool) → eqb (owner x) r ≡ t → List·Memᴰ y (ownedBy r l) ↔ ((owner y ≡ r) × List·Memᴰ y l)
+        → List·Memᴰ y (ifElse t (x ∷ ownedBy r l) (ownedBy r l)) ↔ ((owner y ≡ r) × List·Memᴰ y (x ∷ l))
+    go true e (to, from) = (
+      λ m. ⊎-elim (λ z. (ap owner z ∙ eqb-true (owner x) r e, List·Memᴰ·head z)) (λ i. let (o, n) = to i in (o, List·Memᴰ·tail n)) (List·Memᴰ·cases-cons m),
+      λ (o, m). ⊎-elim (λ z. List·Memᴰ·head z) (λ i. List·Memᴰ·tail (from (o, i))) (List·Memᴰ·cases-cons m),
+    )
+    go false e (to, from) = (
+      λ m. let (o, n) = to m in (o, List·Memᴰ·tail n),
+      λ (o, m). ⊎-elim (λ z. absurd (eqb-false (owner x) r e (ap owner (sym z) ∙ o))) (λ i. from (o, i)) (List·Memᴰ·cases-cons m),
+    )
 
 owned-append : (r : ℕ) (a b : List Label) → ownedBy r (a ++ b) ≡ ownedBy r a ++ ownedBy r b
 owned-append r [] b = refl

@@ -29,7 +29,7 @@ use Rattle.run_kept.proofs.Waiting.{Single, waiter, one-receiver, one-s
 use Rattle.run_kept.proofs.Partners.{wants-waits, option-wants-waits, partner-steps, option-idle, outside-idle}
 use Rattle.run_kept.proofs.Mending.{decides-row, decides-steps, not-waits-live, alt-out}
 
-found-nothing : (p : ℕ → Bool) (n : ℕ) → ((j : ℕ) → j < n → T (p j) → ⊥) → lowest p n ≡ none
+pub found-nothing : (p : ℕ → Bool) (n : ℕ) → ((j : ℕ) → j < n → T (p j) → ⊥) → lowest p n ≡ none
 found-nothing p n h = go (lowest p n) (lowest-is p n)
   where
     go : (o : Option ℕ) → Lowest (λ j. T (p j)) n o → o ≡ none
@@ -46,14 +46,14 @@ row-acts (takes-input h g f) p of-alt-input z = let y : _≡_ {A = ℕ} 0 1 = cc
 row-acts (takes-input h g f) p of-alt-output z = let y : _≡_ {A = ℕ} 0 1 = cc in omega arith
 
 -- a bit by the senders where one is wanted
-own-told : (f g : ℕ → Option ℕ) (w : Intent) → ((e : ℕ) → wantedElement w ≡ some e → f e ≡ g e) → ownReady f w ≡ ownReady g w
+pub own-told : (f g : ℕ → Option ℕ) (w : Intent) → ((e : ℕ) → wantedElement w ≡ some e → f e ≡ g e) → ownReady f w ≡ ownReady g w
 own-told f g waits h = refl
 own-told f g (moves x v ws) h = refl
 own-told f g (inputsFrom e a) h = ap (λ (o : Option ℕ). isSome o) (h e refl)
 own-told f g (outputsTo e v) h = refl
 own-told f g (selects os) h = refl
 
-offer-told : (f g : ℕ → Option ℕ) (o : Option Offer) → ((e : ℕ) → offerWants o ≡ some e → f e ≡ g e) → offerReady f o ≡ offerReady g o
+pub offer-told : (f g : ℕ → Option ℕ) (o : Option Offer) → ((e : ℕ) → offerWants o ≡ some e → f e ≡ g e) → offerReady f o ≡ offerReady g o
 offer-told f g none h = refl
 offer-told f g (some (openOffer j q ws)) h = refl
 offer-told f g (some (inputOffer j q e a)) h = ap (λ (o : Option ℕ). isSome o) (h e refl)

@@ -3,18 +3,15 @@ use mathlib.Core.Path.{_≡_}
 use mathlib.Core.Logic.{_⊎_}
 use mathlib.Core.Bool.{Bool, true, false, _||_}
 use mathlib.Core.Option.{Option, none, some}
-use mathlib.Core.List.{List, [], _∷_, List·Memᴰ}
 use Prim.Native.Nat.{ℕ, zero, suc, _+_}
-use lib.ListN.{length, getD}
+use lib.ListN.{length}
 use lib.Dec.{eqb}
 use Rattle.meaning.specs.Basics.{ifElse, isSome, anyPasses, lowest}
-use Rattle.meaning.specs.Tree.{actionOf, processesIn, rowsBeneath}
-use Rattle.meaning.specs.Usage.{inputElements, outputElements}
-use Rattle.meaning.specs.State.{State, Program, processAt}
-use Rattle.meaning.specs.Labels.{Label, own, pass, takeOption, takeWithOutput}
+use Rattle.meaning.specs.State.{State, Program}
+use Rattle.meaning.specs.Labels.{Label}
 use Rattle.meaning.specs.Readings.{Sheet}
 use Rattle.meaning.specs.Intent.{Offer, openOffer, inputOffer, Intent, waits, moves, inputsFrom, outputsTo, selects}
-use Rattle.meaning.specs.Ready.{isLive, intentAt, ready}
+use Rattle.meaning.specs.Ready.{isLive, intentAt}
 use Rattle.agreement.specs.RowsOfSteps.{RowOf, offerAt}
 use Rattle.machine.specs.RowSteps.{altOf, waitingAt}
 
@@ -103,21 +100,6 @@ module _ (P : Program) (sheet : Sheet) (s : State) where
   abbrev pub Wants : ℕ → ℕ → Type 0
   Wants j e = (wantedElement (intentAt P sheet s j) ≡ some e) ⊎ (offerWants (optionNote j) ≡ some e)
 
--- the row whose step it is: the running row itself; the input of a communication; the ALT
-abbrev pub owner : Label → ℕ
-owner (own r) = r
-owner (pass i o) = i
-owner (takeOption r j) = r
-owner (takeWithOutput r j o) = r
-
--- the steps of owner r
-abbrev pub ownedBy : ℕ → List Label → List Label
-ownedBy r [] = []
-ownedBy r (x ∷ l) = let m = ownedBy r l in ifElse (eqb (owner x) r) (x ∷ m) m
-
-unfoldable pub ownSteps : Program → Sheet → State → ℕ → List Label
-ownSteps P sheet s r = ownedBy r (ready P sheet s)
-
 -- a row that was not at work before a step, and is after it
 abbrev pub Comes : Program → Sheet → State → State → ℕ → Type 0
 Comes P sheet s t r = (isLive P sheet r s ≡ false) × (isLive P sheet r t ≡ true)
@@ -125,9 +107,3 @@ Comes P sheet s t r = (isLive P sheet r s ≡ false) × (isLive P sheet r t ≡ 
 -- a row of the step itself, or one that comes to work by it: the rows that are noted anew
 abbrev pub Moved : Program → Sheet → State → Label → State → ℕ → Type 0
 Moved P sheet s x t r = RowOf x r ⊎ Comes P sheet s t r
-
--- a step that leaves t of s changes no state of row r, nor of a row beneath it, nor of an output to an element that r may input from
-pub record Untouched (P : Program) (s t : State) (r : ℕ) : Type 0 where
-  pub itself : getD (t .states) r 0 ≡ getD (s .states) r 0
-  pub beneath : (b : ℕ) → List·Memᴰ b (rowsBeneath (processesIn (processAt P r))) → getD (t .states) b 0 ≡ getD (s .states) b 0
-  pub partners : (p d : ℕ) → List·Memᴰ d (inputElements (actionOf (processAt P r))) → List·Memᴰ d (outputElements (actionOf (processAt P p))) → getD (t .states) p 0 ≡ getD (s .states) p 0

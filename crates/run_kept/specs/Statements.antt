@@ -1,4 +1,4 @@
--- What is proved of what the machine may keep between steps, of accepted tables and states that an order reaches. Each statement is a type that a proof fills.
+-- What is proved of what the machine may keep between steps, of accepted tables and states that an order reaches, beside what request 10 asks (`ReadyClaims`). Each statement is a type that a proof fills.
 use mathlib.Core.Path.{_≡_}
 use mathlib.Core.Logic.{_⊎_, _↔_}
 use mathlib.Core.Bool.{true}
@@ -6,29 +6,22 @@ use mathlib.Core.Option.{none, some}
 use mathlib.Core.List.{List, List·Memᴰ}
 use Prim.Native.Nat.{ℕ, _+_}
 use lib.IntN.{ℤ}
-use lib.ListN.{length}
 use Rattle.meaning.specs.Rows.{rowCount}
 use Rattle.meaning.specs.State.{State, program}
 use Rattle.meaning.specs.Labels.{Label, orderRow}
 use Rattle.meaning.specs.Readings.{Sheet}
 use Rattle.meaning.specs.Ready.{isLive, ready}
-use Rattle.meaning.specs.Order.{RestOf}
 use Rattle.meaning.specs.Accepted.{BothAccepted}
 use Rattle.agreement.specs.Statements.{Reached, StepOf}
 use Rattle.agreement.specs.RowsOfSteps.{RowOf, NoneOf}
 use Rattle.machine.specs.RowSteps.{altOf}
-use Rattle.run_kept.specs.Kept.{countBelow, intentNoted, optionNote, waitingOutput, waitingInput, readyRow, total, Wants, Moved, ownSteps, Untouched}
+use Rattle.run_kept.specs.Kept.{countBelow, intentNoted, optionNote, waitingOutput, waitingInput, readyRow, total, Wants, Moved}
 use Rattle.run_kept.specs.Mending.{takenOff, raisedBits, woken}
 
 -- a row's bit is set exactly if a ready step is ordered by that row
 abbrev pub RowReady : Type 0
 RowReady = (rows : List ℤ) (sheet : Sheet) → BothAccepted rows sheet → (s : State) → Reached rows sheet s → (j : ℕ)
     → (readyRow (program rows) sheet s j ≡ true) ↔ ((x : Label) × List·Memᴰ x (ready (program rows) sheet s) × (orderRow x ≡ j))
-
--- the total is the number of ready steps, and 0 exactly at rest
-abbrev pub TotalIs : Type 0
-TotalIs = (rows : List ℤ) (sheet : Sheet) → BothAccepted rows sheet → (s : State) → Reached rows sheet s
-    → (total (program rows) sheet s ≡ length (ready (program rows) sheet s)) × ((total (program rows) sheet s ≡ 0) ↔ RestOf rows sheet s)
 
 -- what a row at work would do, and each option of an ALT at work, stays right until that row steps; every other row is noted anew when it comes to work
 abbrev pub NotesKept : Type 0
@@ -64,8 +57,3 @@ abbrev pub TotalMended : Type 0
 TotalMended = (rows : List ℤ) (sheet : Sheet) → BothAccepted rows sheet → (s : State) → Reached rows sheet s → (x : Label) (t : State) → StepOf rows sheet s x t
     → total (program rows) sheet t + countBelow (takenOff (program rows) sheet s x t) (rowCount rows)
     ≡ total (program rows) sheet s + countBelow (raisedBits (program rows) sheet s x t) (rowCount rows) + countBelow (woken (program rows) sheet s x t) (rowCount rows)
-
--- "A row's own ready steps change only if the step changed the state of that row, of a row beneath it, or of an input, output or ALT on one of its channels"
-abbrev pub OwnStepsLocal : Type 0
-OwnStepsLocal = (rows : List ℤ) (sheet : Sheet) → BothAccepted rows sheet → (s : State) → Reached rows sheet s → (x : Label) (t : State) → StepOf rows sheet s x t → (r : ℕ)
-    → Untouched (program rows) s t r → ownSteps (program rows) sheet t r ≡ ownSteps (program rows) sheet s r

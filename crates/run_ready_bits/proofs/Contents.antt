@@ -11,8 +11,8 @@ use lib.Seq.{ext-getD}
 use lib.Dec.{eqb}
 use borrow.Author.Tests.{eq-eqb, ne-eqb}
 use Rattle.meaning.specs.Basics.{ifElse, allBelow}
-use Rattle.rowlist.specs.InOrder.{SameBut}
-use Rattle.rowlist.proofs.Agreeing.{below-same}
+use Rattle.run_ready_bits.proofs.Splits.{SameBut}
+use Rattle.run_ready_bits.proofs.Agreeing.{below-same}
 use Rattle.run_ready_bits.specs.Bits.{on, has, raised, lowered, Shown, bitsOf}
 use Rattle.run_ready_bits.proofs.Places.{Digit, even, odd, digit, half-on, low-on}
 use Rattle.run_ready_bits.proofs.Picks.{same}

@@ -9,8 +9,8 @@ use lib.ListN.{length, getD, length-append, length-map, List·getD-append, List�
 use lib.Seq.{getD-append-add}
 use borrow.Author.Tests.{lt-ltb, le-ltb}
 use Rattle.meaning.specs.Basics.{ifElse, allBelow}
-use Rattle.rowlist.proofs.Agreeing.{below-none, below-same}
-use Rattle.rowlist.proofs.Splits.{each-below}
+use Rattle.run_ready_bits.proofs.Agreeing.{below-none, below-same}
+use Rattle.run_ready_bits.proofs.Splits.{each-below}
 use Rattle.run_ready_bits.specs.Bits.{on, has, pickedFrom}
 use Rattle.run_ready_bits.proofs.Joins.{below-sum, any-default}
 

@@ -11,7 +11,7 @@ use lib.Dec.{eqb}
 use lib.Bits.{bitAnd, and-step, and-self, and-zero-l}
 use lib.Count.{trailingZeros, under}
 use Rattle.meaning.specs.Basics.{ifElse, allBelow}
-use Rattle.rowlist.proofs.Agreeing.{below-none, below-next, below-same}
+use Rattle.run_ready_bits.proofs.Agreeing.{below-none, below-next, below-same}
 use Rattle.run_ready_bits.specs.Bits.{on, withoutLowest}
 use Rattle.run_ready_bits.proofs.Joins.{below-sum, drop-map}
 

@@ -10,8 +10,8 @@ use lib.Pow.{pow-pos}
 use borrow.Author.Tests.{eqb-true, eqb-false}
 use Rattle.meaning.specs.Basics.{ifElse, allBelow}
 use Rattle.base_sets.proofs.Words.{zero-on}
-use Rattle.rowlist.specs.InOrder.{SameBut}
-use Rattle.rowlist.proofs.Agreeing.{below-none, below-next, below-same}
+use Rattle.run_ready_bits.proofs.Splits.{SameBut}
+use Rattle.run_ready_bits.proofs.Agreeing.{below-none, below-next, below-same}
 use Rattle.run_ready_bits.specs.Bits.{on, wordOf, has, turned, raised, lowered, noRows, BitsCounted, Shown}
 use Rattle.run_ready_bits.proofs.Joins.{below-sum, any-default}
 use Rattle.run_ready_bits.proofs.Shows.{as-on, differs, differs-none, turned-has, turned-counted}

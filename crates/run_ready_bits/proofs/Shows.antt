@@ -13,9 +13,7 @@ use borrow.Author.Tests.{eq-eqb, ne-eqb, eqb-true, eqb-false}
 use Rattle.meaning.specs.Basics.{allBelow}
 use Rattle.base_sets.proofs.Words.{power-on, power-below}
 use Rattle.base_sets.proofs.Words as W
-use Rattle.rowlist.specs.InOrder.{SameBut}
-use Rattle.rowlist.proofs.Splits.{split, few-below}
-use Rattle.rowlist.proofs.Placing.{one-more}
+use Rattle.run_ready_bits.proofs.Splits.{SameBut, split, few-below, one-more}
 use Rattle.run_ready_bits.proofs.Places.{Digit, even, odd, digit}
 use Rattle.run_ready_bits.specs.Bits.{on, wordOf, has, plus, turned, BitsCounted}
 

@@ -1,12 +1,15 @@
 -- Answers as numbers with what they leave in a lent buffer, case by case.
-use mathlib.Core.Path.{_≡_, refl, ap}
+use mathlib.Core.Path.{_≡_, refl, sym, ap}
+use mathlib.Core.Bool.{Bool, true, false}
 use mathlib.Core.List.{List, [], _∷_}
 use mathlib.Core.Option.{Option, none, some}
 use Prim.Native.Nat.{ℕ, zero, suc}
 use native.Mathlib.Omega.{arith}
 use lib.IntN.{ℤ}
 use lib.ListN.{length, set}
-use borrow.Author.Tests.{eq-eqb, ne-eqb}
+use lib.Dec.{eqb}
+use borrow.Author.Tests.{eq-eqb, ne-eqb, eqb-true}
+use Rattle.meaning.specs.Basics.{ifElse}
 use Rattle.base_numbers.specs.Reading.{parsedOf}
 use Rattle.base_numbers.specs.declared.Parsed.the-variants.{Number, Malformed}
 use Rattle.test_leaves.specs.Lent.{numberLent, reasonOf, copied}
@@ -38,3 +41,11 @@ module _ {A : Type 0} where
 
   pub copied-not : (list out : List A) → ¬ (length out ≡ length list) → copied list out ≡ out
   copied-not list out h = simp (ne-eqb (length out) (length list) h)
+
+  -- a buffer keeps its length
+  pub copied-length : (list out : List A) → length (copied list out) ≡ length out
+  copied-length list out = go (eqb (length out) (length list)) refl
+    where
+      go : (b : Bool) → eqb (length out) (length list) ≡ b → length (ifElse b list out) ≡ length out
+      go true e = sym (eqb-true (length out) (length list) e)
+      go false e = refl

@@ -1,34 +1,44 @@
--- The value of a row's expression: there is one to look for in a table within the limits.
-use mathlib.Core.Path.{_≡_}
+-- The value of a row's expression: there is one to look for in an accepted table, at its rows.
+use mathlib.Core.Path.{_≡_, refl, _∙_}
+use mathlib.Core.Bool.{Bool, true, false}
 use mathlib.Core.List.{List}
 use mathlib.Core.Option.{none, some}
-use Prim.Native.Nat.{ℕ, _≤_, _<_}
-use lib.IntN.{ℤ}
-use borrow.Author.Tests.{le-leb, lt-leb}
+use Prim.Native.Nat.{ℕ, _≤_}
+use lib.IntN.{ℤ, pos}
+use lib.ListN.{replicate, length-replicate}
+use Rattle.meaning.specs.Basics.{ifElse, isSome}
 use Rattle.meaning.specs.Rows.{rowCount}
 use Rattle.meaning.specs.Tree.{contentAt}
-use Rattle.meaning.specs.Verdict.{limitFault}
 use Rattle.meaning.specs.Values.{Message, value}
-use Rattle.meaning.specs.Faults.{WithinLimits}
+use Rattle.meaning.specs.Answers.{check}
 use Rattle.meaning.specs.declared.Value.the-variants.{Missing}
 use Rattle.meaning.specs.Refusals.{Refusal}
-use Rattle.meaning.specs.Declarations.{declarations}
-use Rattle.meaning.proofs.StageLaws.{limit-none}
-use Rattle.test_leaves.specs.Leaves.{valueAt}
+use Rattle.agreement.proofs.TableTree.{part-past}
+use Rattle.run_values.specs.Cells.{cellsIn}
+use Rattle.run_values.proofs.ArrayCells.{cells-decoded}
+use Rattle.test_leaves.specs.Lent.{copied}
+use Rattle.test_leaves.specs.Leaves.{cellsLent, valueAt}
+use Rattle.test_leaves.proofs.Packing.{copied-length}
 
-module _ (rows : List ℤ) where
-  pub within-limits : limitFault rows ≡ none → (r : ℕ) → r < declarations rows → WithinLimits rows r
-  within-limits = limit-none rows .0
+module _ (rows : List ℤ) (cells : List Message) (r : ℕ) where
+  pub past-rows : rowCount rows ≤ r → Missing 0 ≡ valueAt rows cells r
+  unfolding valueAt value
+  past-rows h = rw (part-past rows r h) (go (isSome (check rows)))
+    where
+      go : (t : Bool) → Missing 0 ≡ ifElse t (Missing 0) (Missing 0)
+      go true = refl
+      go false = refl
 
-  module _ (cells : List Message) (r : ℕ) where
-    pub too-many-rows : 1024 < rowCount rows → Missing 0 ≡ valueAt rows cells r
-    unfolding valueAt
-    too-many-rows h = simp (lt-leb (rowCount rows) 1024 h)
+  pub refused-rows : (f : Refusal) → check rows ≡ some f → Missing 0 ≡ valueAt rows cells r
+  unfolding valueAt
+  refused-rows f e = rw e
 
-    pub limit-passed : (f : Refusal) → rowCount rows ≤ 1024 → limitFault rows ≡ some f → Missing 0 ≡ valueAt rows cells r
-    unfolding valueAt
-    limit-passed f h e = simp (le-leb (rowCount rows) 1024 h, e)
+  pub value-found : check rows ≡ none → value cells (contentAt rows r .expr) ≡ valueAt rows cells r
+  unfolding valueAt
+  value-found e = rw e
 
-    pub value-found : rowCount rows ≤ 1024 → limitFault rows ≡ none → value cells (contentAt rows r .expr) ≡ valueAt rows cells r
-    unfolding valueAt
-    value-found h e = simp (le-leb (rowCount rows) 1024 h, e)
+-- the cells, copied into arrays of 256
+pub cells-copied : (values : List ℤ) (marks : List ℕ) (xs : List ℤ) (ms : List ℕ) → xs ≡ copied values (replicate 256 (pos 0)) → ms ≡ copied marks (replicate 256 0) → cellsIn xs ms ≡ cellsLent values marks
+cells-copied values marks xs ms e f =
+    rw (e, f)
+    (cells-decoded (copied values (replicate 256 (pos 0))) (copied marks (replicate 256 0)) (copied-length values (replicate 256 (pos 0)) ∙ length-replicate 256 (pos 0)) (copied-length marks (replicate 256 0) ∙ length-replicate {A = ℕ} 256 0))

@@ -1,17 +1,16 @@
 -- What the exported functions answer that join several leaves.
 use mathlib.Core.List.{List, [], _∷_}
 use Prim.Native.Nat.{ℕ}
-use lib.IntN.{ℤ}
-use lib.ListN.{set}
-use lib.Dec.{leb}
+use lib.IntN.{ℤ, pos}
+use lib.ListN.{set, replicate}
 use Rattle.meaning.specs.Basics.{ifElse, isSome}
-use Rattle.meaning.specs.Limits.{maxRows}
-use Rattle.meaning.specs.Rows.{rowCount}
 use Rattle.meaning.specs.Tree.{contentAt}
 use Rattle.meaning.specs.TableBytes.{bytesFault, rowsOf, numbersFault}
 use Rattle.meaning.specs.Verdict.{formFault, treeFault, limitFault}
 use Rattle.meaning.specs.Refusals.{Stage, firstFault}
 use Rattle.meaning.specs.Values.{Message, value}
+use Rattle.meaning.specs.Buffers.{decoded}
+use Rattle.meaning.specs.Answers.{check}
 use Rattle.meaning.specs.declared.Value.{Value}
 use Rattle.meaning.specs.declared.Value.the-variants.{Missing}
 use Rattle.meaning.specs.declared.Verdict.{Verdict}
@@ -27,11 +26,13 @@ formStages = numbersFault ∷ formFault ∷ treeFault ∷ limitFault ∷ []
 unfoldable pub formOfBytes : Stage (List ℕ)
 formOfBytes bytes = firstFault (bytesFault ∷ (λ b. firstFault formStages (rowsOf b)) ∷ []) bytes
 
--- the value of the expression of row r, of at most 1,024 rows within the limits
+-- the 256 cells that lent numbers and marks mean; a buffer of another length counts as zeros
+abbrev pub cellsLent : List ℤ → List ℕ → List Message
+cellsLent values marks = decoded (copied values (replicate 256 (pos 0))) (copied marks (replicate 256 0))
+
+-- the value of the expression of row r of an accepted table; of a refused one there is none
 unfoldable pub valueAt : List ℤ → List Message → ℕ → Value
-valueAt rows cells r =
-    let v = value cells (contentAt rows r .expr) in
-    ifElse (leb (rowCount rows) maxRows) (ifElse (isSome (limitFault rows)) (Missing 0) v) (Missing 0)
+valueAt rows cells r = let v = value cells (contentAt rows r .expr) in ifElse (isSome (check rows)) (Missing 0) v
 
 -- what reading a sheet answers and leaves in three lent buffers
 pub record SheetAnswer : Type 0 where

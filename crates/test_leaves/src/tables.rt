@@ -1,11 +1,14 @@
-// A table's bytes by the stages 2 to 6, and the value of an expression of a table's rows.
+// A table's bytes by the stages 2 to 6, and the value of an expression of an accepted table.
 ghost use mathlib.Core.Path.{_≡_};
-ghost use Rattle.meaning.specs.Buffers.{decoded};
-ghost use Rattle.meaning.specs.Answers.{verdictOf};
+ghost use mathlib.Core.Option.{none};
+ghost use Prim.Native.Nat.{_<_};
+ghost use Rattle.meaning.specs.Rows.{rowCount};
+ghost use Rattle.meaning.specs.Tree.{contentAt};
+ghost use Rattle.meaning.specs.Values.{value};
+ghost use Rattle.meaning.specs.Answers.{check, verdictOf};
 ghost use Rattle.test_leaves.specs.Lent.{valueLent, verdictLent};
-ghost use Rattle.test_leaves.specs.Leaves.{formOfBytes, valueAt};
+ghost use Rattle.test_leaves.specs.Leaves.{formOfBytes, cellsLent, valueAt};
 use crate::lending;
-use base_rows::Place;
 use meaning::Value;
 use meaning::Verdict;
 
@@ -33,20 +36,31 @@ pub extern "C" fn leaf_check(bytes: &[u8], place: &mut [u32]) -> u32
     lending::put_verdict(form_of_bytes(bytes), place)
 }
 
-// The value of the expression of row r; none if there are too many rows or one of them passes a limit.
-fn value_at<'a>(rows: &'a [i32], values: &'a [i32], marks: &'a [u8], r: usize) -> Value
-    ensures { λ v. ⌜ v ≡ valueAt (now (rows .entry)) (decoded (now (values .entry)) (now (marks .entry))) r ⌝ }
+// The value of the expression of row r, which is in an accepted table.
+fn value_in<'a>(rows: &'a [i32], values: &'a [i32], marks: &'a [u8], r: usize) -> Value
+    requires accepted { ⌜ check (now rows) ≡ none ⌝ }
+    requires inside { ⌜ r < rowCount (now rows) ⌝ }
+    ensures { λ v. ⌜ v ≡ value (cellsLent (now (values .entry)) (now (marks .entry))) (contentAt (now (rows .entry)) r .expr) ⌝ }
 {
-    if 1024 < base_rows::row_count(rows) {
+    let code = run_preparing::prepare(rows).numbers;
+    let mut cells = [0i32; 256];
+    lending::put_numbers(values, &mut cells);
+    let mut given = [0u8; 256];
+    lending::put_marks(marks, &mut given);
+    run_values::eval(&code, &cells, &given, r)
+}
+
+// The value of the expression of row r; none if the table is refused, or has no such row.
+fn value_at<'a>(rows: &'a [i32], values: &'a [i32], marks: &'a [u8], r: usize) -> Value
+    ensures { λ v. ⌜ v ≡ valueAt (now (rows .entry)) (cellsLent (now (values .entry)) (now (marks .entry))) r ⌝ }
+{
+    if rows.len() / 4 <= r {
         return Value::Missing(0);
     }
-    let limit = base_rows::limits::limit_fault(rows);
-    match limit {
-        Place::Fault(_) => Value::Missing(0),
-        Place::Nowhere => {
-            let names = base_layout::layout_of(rows).names;
-            evaluation::eval(rows, &names, values, marks, r)
-        }
+    let verdict = check_verdict::check_rows(rows);
+    match verdict {
+        Verdict::Rejected(_, _) => Value::Missing(0),
+        Verdict::Accepted => value_in(rows, values, marks, r),
     }
 }
 
@@ -59,7 +73,7 @@ pub extern "C" fn leaf_value<'a>(
     r: usize,
     out: &mut [i32],
 ) -> u32
-    ensures { λ n. ⌜ (n, now (out .exit)) ≡ valueLent (valueAt (now (rows .entry)) (decoded (now (values .entry)) (now (marks .entry))) r) (now (out .entry)) ⌝ }
+    ensures { λ n. ⌜ (n, now (out .exit)) ≡ valueLent (valueAt (now (rows .entry)) (cellsLent (now (values .entry)) (now (marks .entry))) r) (now (out .entry)) ⌝ }
 {
     lending::put_value(value_at(rows, values, marks, r), out)
 }

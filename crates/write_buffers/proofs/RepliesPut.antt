@@ -25,8 +25,8 @@ module _ (d : Done) (b : Buffers) where
   pub put-refused : (n p : ℕ) → d .answer ≡ Refused n p → _≡_ {A = Reply} (record { answer = Refused n p; buffers = b }) (putReply (replyIn d) b)
   put-refused n p e = rw e
 
-  pub put-ran : (o : Outcome) (k : ℕ) (r : Buffers) → d .answer ≡ Ran o k → r ≡ over (replyIn d .buffers) b → _≡_ {A = Reply} (record { answer = Ran o k; buffers = r }) (putReply (replyIn d) b)
-  put-ran o k r e h = rw (e, h)
+  pub put-ran : (o : Outcome) (k n : ℕ) (r : Buffers) → d .answer ≡ Ran o k n → r ≡ over (replyIn d .buffers) b → _≡_ {A = Reply} (record { answer = Ran o k n; buffers = r }) (putReply (replyIn d) b)
+  put-ran o k n r e h = rw (e, h)
 
 module _ {A : Type 0} where
   sized-length : (n : ℕ) (d : A) (xs : List A) → length (sized n d xs) ≡ n
@@ -57,7 +57,7 @@ over-encoded rows s b = λ i. record {
 
 put-reply : (rows : List ℤ) (b : Buffers) (q : Result) → putReply (replyOf rows blank q) b ≡ replyOf rows b q
 put-reply rows b (refused f) = refl
-put-reply rows b (ran r) = λ i. record { answer = Ran (r .outcome) (r .steps); buffers = over-encoded rows (r .state) b i }
+put-reply rows b (ran r) = λ i. record { answer = Ran (r .outcome) (r .steps) (r .ready); buffers = over-encoded rows (r .state) b i }
 
 -- whether a lent buffer is too short, by the lengths
 abbrev pub shortIn : Buffers → Bool

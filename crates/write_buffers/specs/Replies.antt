@@ -38,7 +38,7 @@ over a b =
 -- "Refused calls write to no lent buffer"
 abbrev pub writtenUnlessRefused : Answer → Buffers → Buffers → Buffers
 writtenUnlessRefused (Refused n p) a b = b
-writtenUnlessRefused (Ran o k) a b = over a b
+writtenUnlessRefused (Ran o k n) a b = over a b
 
 -- a reply put into the lent buffers
 abbrev pub putReply : Reply → Buffers → Reply

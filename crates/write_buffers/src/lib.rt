@@ -87,10 +87,10 @@ pub fn put_done(
     let answer = d.answer;
     match answer {
         Answer::Refused(number, place) => Answer::Refused(number, place),
-        Answer::Ran(outcome, steps) => {
+        Answer::Ran(outcome, steps, ready) => {
             put_cells(d, cells, marks, states);
             put_host_channels(d, places, numbers, counts);
-            Answer::Ran(outcome, steps)
+            Answer::Ran(outcome, steps, ready)
         }
     }
 }

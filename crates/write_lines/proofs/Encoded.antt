@@ -9,7 +9,6 @@ use native.Mathlib.Omega.{arith}
 use lib.IntN.{ℤ, pos}
 use lib.ListN.{length, take, drop, replicate, length-append, length-take, length-drop, length-replicate, length-map}
 use lib.Seq.{take-all, take-append-le, take-append-add, take-append-seam, drop-append-le, take-at, drop-at}
-use Rattle.meaning.specs.declared.Answer.the-variants.{Ran}
 use Rattle.meaning.specs.declared.Outcome.{Outcome}
 use Rattle.meaning.specs.Limits.{maxRows, maxCells, maxHostChannels, maxCapacity}
 use Rattle.meaning.specs.Rows.{rowCount}
@@ -18,12 +17,12 @@ use Rattle.meaning.specs.Declarations.{declarations, sumBelow, cellsAt, capacit
 use Rattle.meaning.specs.Values.{Message}
 use Rattle.meaning.specs.State.{State}
 use Rattle.meaning.specs.Buffers.{Buffers, sized, lent, mark, numberIn, decoded, capacities, strips, encode}
-use Rattle.meaning.specs.Printing.{Line, varWord, numbered, cellsOf, cellLines, outLines, stopLines, answerLine, runLines, printedLines}
+use Rattle.meaning.specs.Printing.{Line, varWord, numbered, cellsOf, cellLines, outLines, stopLines, outcomeLine, endLines, printedLines}
 use Rattle.meaning.specs.Answers.{ran}
 use Rattle.meaning.specs.Runner.{printedResult}
 use Rattle.meaning.specs.PrintedForms.{Each, each-none, each-more}
 use Rattle.meaning.specs.Run.{RunResult}
-use Rattle.write_lines.specs.Decoding.{outputsIn, tableRows, resultIn}
+use Rattle.write_lines.specs.Decoding.{outputsIn, tableRows, stateIn}
 use Rattle.write_lines.proofs.RowLines.{cellsBelow, cells-below-none, cells-below-all, cells-below-more, total, host-channels-below, capacities-below}
 
 -- Lent buffers ----------------------------------------------------------------------------------------------------------------------
@@ -147,14 +146,14 @@ pub record Held (rows : List ℤ) (s : State) : Type 0 where
 
 module _ (rows : List ℤ) (s : State) (b : Buffers) (h : Held rows s) where
   -- what the buffers say
-  abbrev said : Outcome → ℕ → RunResult
-  said o n =
+  abbrev said : State
+  said =
       let e = encode rows s b in
-      resultIn rows o n (e .cells) (e .marks) (e .states) (e .numbers) (e .counts)
+      stateIn rows (e .cells) (e .marks) (e .states) (e .numbers) (e .counts)
 
-  cells-said : (o : Outcome) (n : ℕ) → cellLines rows (said o n .state .store .cells) ≡ cellLines rows (s .store .cells)
+  cells-said : cellLines rows (said .store .cells) ≡ cellLines rows (s .store .cells)
   unfolding encode
-  cells-said o n =
+  cells-said =
       let few : length (s .store .cells) ≤ maxCells = (let a = h .cells-all in let f = h .cells-few in omega arith) in
       ap (cellLines rows) (
       ap₂ decoded
@@ -177,30 +176,30 @@ module _ (rows : List ℤ) (s : State) (b : Buffers) (h : Held rows s) where
       let f = h .capacity-few in
       omega (arith, length-strips (capacityAt rows) (channels rows 2) (s .store .outputs) (h .outputs-within), capacities-below rows (declarations rows))
 
-  outputs-said : (o : Outcome) (n : ℕ) → said o n .state .store .outputs ≡ s .store .outputs
+  outputs-said : said .store .outputs ≡ s .store .outputs
   unfolding encode
-  outputs-said o n =
+  outputs-said =
       ap₂ (outputsIn (capacities rows))
       (lent-front maxHostChannels 0 (map length (s .store .outputs)) (b .counts) ∙ sized-long maxHostChannels 0 (map length (s .store .outputs)) (b .counts) lists-few)
       (lent-front maxCapacity (pos 0) (strips (capacities rows) (s .store .outputs)) (b .numbers) ∙ sized-long maxCapacity (pos 0) (strips (capacities rows) (s .store .outputs)) (b .numbers) numbers-few)
       ∙ outputs-back (capacities rows) (s .store .outputs) _ _ (h .outputs-within)
 
-  states-said : (o : Outcome) (n : ℕ) → said o n .state .states ≡ s .states
+  states-said : said .states ≡ s .states
   unfolding encode
-  states-said o n = ap (λ (k : ℕ). take k (lent maxRows 0 (s .states) (b .states))) (sym (h .states-all)) ∙ lent-take maxRows 0 (s .states) (b .states) (let f = h .rows-few in let a = h .states-all in omega arith)
+  states-said = ap (λ (k : ℕ). take k (lent maxRows 0 (s .states) (b .states))) (sym (h .states-all)) ∙ lent-take maxRows 0 (s .states) (b .states) (let f = h .rows-few in let a = h .states-all in omega arith)
 
   -- the lines of what is in the buffers are the lines of the run
-  pub lines-said : (o : Outcome) (n : ℕ) → runLines rows (said o n) ≡ runLines rows (record { outcome = o; steps = n; state = s })
-  unfolding runLines
+  pub lines-said : (o : Outcome) (n : ℕ) → endLines rows o n said ≡ endLines rows o n s
+  unfolding endLines
   lines-said o n =
-      ap₂ (λ (l : List Line) (xss : List (List Message)). answerLine (Ran o n) ∷ l ++ outLines (channels rows 2) xss ++ stopLines 0 (said o n .state .states)) (cells-said o n) (outputs-said o n)
-      ∙ ap (λ (qs : List ℕ). answerLine (Ran o n) ∷ cellLines rows (s .store .cells) ++ outLines (channels rows 2) (s .store .outputs) ++ stopLines 0 qs) (states-said o n)
+      ap₂ (λ (l : List Line) (xss : List (List Message)). outcomeLine o n ∷ l ++ outLines (channels rows 2) xss ++ stopLines 0 (said .states)) cells-said outputs-said
+      ∙ ap (λ (qs : List ℕ). outcomeLine o n ∷ cellLines rows (s .store .cells) ++ outLines (channels rows 2) (s .store .outputs) ++ stopLines 0 qs) states-said
 
   -- what `run_page` is given by what a run leaves, it prints as the sheet runner's definition says
-  pub printed-text-said : length rows ≤ 4 * maxRows → (o : Outcome) (n : ℕ)
+  pub printed-text-said : length rows ≤ 4 * maxRows → (o : Outcome) (n total : ℕ)
       → let e = encode rows s b in
-      printedLines (runLines (tableRows rows) (resultIn (tableRows rows) o n (e .cells) (e .marks) (e .states) (e .numbers) (e .counts))) ≡ printedResult rows (ran (record { outcome = o; steps = n; state = s }))
-  printed-text-said few o n =
+      printedLines (endLines (tableRows rows) o n (stateIn (tableRows rows) (e .cells) (e .marks) (e .states) (e .numbers) (e .counts))) ≡ printedResult rows (ran (record { outcome = o; steps = n; ready = total; state = s }))
+  printed-text-said few o n total =
       let e = encode rows s b in
-      ap (λ (t : List ℤ). printedLines (runLines t (resultIn t o n (e .cells) (e .marks) (e .states) (e .numbers) (e .counts)))) (take-all (4 * maxRows) rows few)
+      ap (λ (t : List ℤ). printedLines (endLines t o n (stateIn t (e .cells) (e .marks) (e .states) (e .numbers) (e .counts)))) (take-all (4 * maxRows) rows few)
       ∙ ap printedLines (lines-said o n)

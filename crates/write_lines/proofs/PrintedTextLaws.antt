@@ -7,9 +7,9 @@ use lib.IntN.{ℤ}
 use lib.ListN.{length, take, length-take}
 use Rattle.meaning.specs.declared.Outcome.{Outcome}
 use Rattle.meaning.specs.Buffers.{decoded, capacities}
-use Rattle.meaning.specs.Printing.{Line, lineBytes, namesLine, printedLines, runLines}
+use Rattle.meaning.specs.Printing.{Line, lineBytes, namesLine, printedLines, endLines}
 use Rattle.write_bytes.specs.Writing.{printedIn, Writer, putAll, putLines}
-use Rattle.write_lines.specs.Decoding.{outputsIn, tableRows, partLines, resultIn}
+use Rattle.write_lines.specs.Decoding.{outputsIn, tableRows, partLines, stateIn}
 use Rattle.write_bytes.proofs.Writers.{putAll-append, putAll-first, putLines-append}
 
 pub printed-text-made : (a : Line) (cells outs stops : List Line) (old : List ℕ) {w₁ w₂ w₃ w₄ w₅ : Writer}
@@ -37,6 +37,6 @@ pub run-made : (rows : List ℤ) (o : Outcome) (n : ℕ) (values : List ℤ) (ma
     {T cutValues cutNumbers : List ℤ} {cutMarks cutStates cutCounts : List ℕ}
     → T ≡ take 4096 rows → cutValues ≡ take 256 values → cutMarks ≡ take 256 marks → cutStates ≡ take (length T / 4) states → cutNumbers ≡ take 1024 numbers → cutCounts ≡ take 8 counts
     → w ≡ printedIn (printedLines (partLines T o n (decoded cutValues cutMarks) (outputsIn (capacities T) cutCounts cutNumbers) cutStates)) old
-    → w ≡ printedIn (printedLines (runLines (tableRows rows) (resultIn (tableRows rows) o n values marks states numbers counts))) old
-unfolding runLines
+    → w ≡ printedIn (printedLines (endLines (tableRows rows) o n (stateIn (tableRows rows) values marks states numbers counts))) old
+unfolding endLines
 run-made rows o n values marks states numbers counts old t v m s z k e = rw (s, t, v, m, z, k) at e

@@ -8,12 +8,10 @@ use Rattle.meaning.specs.declared.Outcome.{Outcome}
 use Rattle.meaning.specs.Limits.{maxRows, maxCells, maxHostChannels, maxCapacity}
 use Rattle.meaning.specs.Rows.{rowCount}
 use Rattle.meaning.specs.State.{State}
-use Rattle.meaning.specs.declared.Answer.the-variants.{Ran}
 use Rattle.meaning.specs.Declarations.{channels}
 use Rattle.meaning.specs.Values.{Message}
 use Rattle.meaning.specs.Buffers.{decoded, capacities}
-use Rattle.meaning.specs.Printing.{Line, cellLines, outLines, stopLines, answerLine}
-use Rattle.meaning.specs.Run.{RunResult}
+use Rattle.meaning.specs.Printing.{Line, cellLines, outLines, stopLines, outcomeLine}
 
 -- output lists by their capacities and counts: "A strip follows the one before it by capacity", and its count says how many numbers it has
 unfoldable pub outputsIn : List ℕ → List ℕ → List ℤ → List (List Message)
@@ -37,10 +35,6 @@ stateIn rows values marks states numbers counts =
       };
     }
 
--- a run by its outcome, its steps and what it leaves in the lent buffers: numbers and marks of cells, row states, numbers and counts of outputs
-abbrev pub resultIn : List ℤ → Outcome → ℕ → List ℤ → List ℕ → List ℕ → List ℤ → List ℕ → RunResult
-resultIn rows o steps values marks states numbers counts = record { outcome = o; steps = steps; state = stateIn rows values marks states numbers counts }
-
 -- the lines of a run by its parts
 abbrev pub partLines : List ℤ → Outcome → ℕ → List Message → List (List Message) → List ℕ → List Line
-partLines rows o steps cells outputs states = answerLine (Ran o steps) ∷ cellLines rows cells ++ outLines (channels rows 2) outputs ++ stopLines 0 states
+partLines rows o steps cells outputs states = outcomeLine o steps ∷ cellLines rows cells ++ outLines (channels rows 2) outputs ++ stopLines 0 states

@@ -4,13 +4,12 @@ ghost use mathlib.Core.List.{[], _∷_, map};
 ghost use mathlib.Core.Option.{some};
 ghost use Prim.Native.Nat.{_*_, _≤_};
 ghost use lib.ListN.{length, getD};
-ghost use Rattle.meaning.specs.declared.Answer.the-variants.{Ran};
 ghost use Rattle.meaning.specs.Basics.{ifElse};
 ghost use Rattle.meaning.specs.Limits.{maxRows, maxCells, maxCapacity};
 ghost use Rattle.meaning.specs.Declarations.{declarations, hasRole, channels};
 ghost use Rattle.meaning.specs.Buffers.{cellOf, decoded, capacities};
 ghost use Rattle.meaning.specs.Printing as printing;
-ghost use Rattle.meaning.specs.Printing.{varWord, line, numbered, cellLines, outLines, stopLines, answerLine, valueBytes};
+ghost use Rattle.meaning.specs.Printing.{varWord, line, numbered, cellLines, outLines, stopLines, outcomeLine, valueBytes};
 ghost use Rattle.base_numbers.specs.Printing.{textOf};
 ghost use Rattle.write_bytes.specs.Writing.{putLines};
 ghost use Rattle.write_lines.specs.Decoding.{outputsIn};
@@ -186,7 +185,7 @@ pub fn put_stops(states: &[u8], out: &mut [u8], at: usize) -> usize
 
 // The line of an outcome and its steps.
 pub fn put_answer(outcome: Outcome, steps: u32, out: &mut [u8], at: usize) -> usize
-    ensures { λ r. ⌜ (r, now (out .exit)) ≡ putLines (answerLine (Ran outcome steps) ∷ []) (at, now (out .entry)) ⌝ }
+    ensures { λ r. ⌜ (r, now (out .exit)) ≡ putLines (outcomeLine outcome steps ∷ []) (at, now (out .entry)) ⌝ }
 {
     let value = base_numbers::decimal(steps);
     match outcome {

@@ -4,9 +4,9 @@ ghost use Prim.Native.Nat.{_*_, _≤_};
 ghost use lib.ListN.{length};
 ghost use Rattle.meaning.specs.Limits.{maxRows, maxCells, maxCapacity};
 ghost use Rattle.meaning.specs.Buffers.{decoded, capacities};
-ghost use Rattle.meaning.specs.Printing.{runLines, refusedLine, lineBytes, printedLines};
+ghost use Rattle.meaning.specs.Printing.{endLines, refusedLine, lineBytes, printedLines};
 ghost use Rattle.write_bytes.specs.Writing.{printedIn};
-ghost use Rattle.write_lines.specs.Decoding.{outputsIn, tableRows, partLines, resultIn};
+ghost use Rattle.write_lines.specs.Decoding.{outputsIn, tableRows, partLines, stateIn};
 use crate::lines;
 use meaning::Outcome;
 use write_bytes::slices;
@@ -59,7 +59,7 @@ pub fn run_printed_text(
     counts: &[u32],
     out: &mut [u8],
 ) -> usize
-    ensures { λ r. ⌜ (r, now (out .exit)) ≡ printedIn (printedLines (runLines (tableRows (now (rows .entry))) (resultIn (tableRows (now (rows .entry))) outcome steps (now (values .entry)) (now (marks .entry)) (now (states .entry)) (now (numbers .entry)) (now (counts .entry))))) (now (out .entry)) ⌝ }
+    ensures { λ r. ⌜ (r, now (out .exit)) ≡ printedIn (printedLines (endLines (tableRows (now (rows .entry))) outcome steps (stateIn (tableRows (now (rows .entry))) (now (values .entry)) (now (marks .entry)) (now (states .entry)) (now (numbers .entry)) (now (counts .entry))))) (now (out .entry)) ⌝ }
 {
     let table = slices::of_numbers(rows, 0, 4096);
     put_run(

@@ -4,11 +4,8 @@ use borrow.Author.Needs.{needs}
 use Rattle.call_runner.proofs.rows_printed_text.Statement.{statement}
 use Rattle.call_runner.proofs.rows_printed_text.Tie as tie
 
-slice-aggregate-do-rows : tie.Need-slice-aggregate-do-rows
-slice-aggregate-do-rows c = search needs
-
-do-rows-requires : tie.Need-do-rows-requires
-do-rows-requires c κs = search needs
+task-done-requires : tie.Need-task-done-requires
+task-done-requires c κs = search needs
 
 enum-known-answer : tie.Need-enum-known-answer
 enum-known-answer c = search needs
@@ -45,8 +42,8 @@ same-length c = search needs
 
 returns : tie.Need-returns
 returns c =
-    let a = c .before .before .before .before .before .before .before .before .before .before .before .args in
-    let done = c .before .before .before .before .before .before .before .do-rows in
+    let a = c .before .before .before .before .before .before .before .before .before .before .args in
+    let done = c .before .before .before .before .before .before .before .task-done in
     let g = c .before .before .before .before .before .answer .given in
     refusal-done (a .rows .now) (a .sheet .now) (done .result) (done .ensures) (a .out .now) (g .0 .0) (g .0 .1 .0) (g .1) _ (c .before .before .refusal-printed-text .ensures .0) (c .before .before .refusal-printed-text .ensures .1)
 
@@ -55,18 +52,17 @@ same-length-2 c = search needs
 
 returns-2 : tie.Need-returns-2
 returns-2 c =
-    let a = c .before .before .before .before .before .before .before .before .before .before .before .before .before .before .before .before .before .before .before .before .before .before .args in
-    let done = c .before .before .before .before .before .before .before .before .before .before .before .before .before .before .before .before .before .before .do-rows in
+    let a = c .before .before .before .before .before .before .before .before .before .before .before .before .before .before .before .before .before .before .before .before .before .args in
+    let done = c .before .before .before .before .before .before .before .before .before .before .before .before .before .before .before .before .before .before .task-done in
     let g = c .before .before .before .before .before .before .before .before .before .before .before .before .before .before .before .before .answer2 .given in
     let states = c .before .before .before .before .before .before .row-states in
-    run-done (a .rows .now) (a .sheet .now) (done .result) (done .ensures) (a .out .now) (g .0 .0) (g .0 .1 .0) (g .1) _ (states .ensures .0) (states .ensures .1) _ (c .before .before .run-printed-text .ensures)
+    run-done (a .rows .now) (a .sheet .now) (done .result) (done .ensures) (a .out .now) (g .0 .0) (g .0 .1 .0) (g .0 .1 .1 .0) (g .1) _ (states .ensures .0) (states .ensures .1) _ (c .before .before .run-printed-text .ensures)
 
 pub rows-printed-text-spec : {M : Type 1} → statement M
 rows-printed-text-spec =
     tie.close
     (tie.spec
-    slice-aggregate-do-rows
-    do-rows-requires
+    task-done-requires
     enum-known-answer
     refusal-printed-text-requires
     enum-known-answer-2

@@ -46,7 +46,7 @@ returns-2 c =
     let g = c .before .before .before .before .before .before .before .before .before .before .before .before .before .before .before .before .before .before .before .answer2 .given in
     let first = c .before .before .before .before .before .before .before .before .before .before .before .before .before .before .put-cells .ensures in
     let rest = c .before .before .before .before .before .put-host-channels .ensures in
-    put-ran (a .d) _ (g .0 .0) (g .0 .1 .0) _ (g .1) (λ i. record { cells = first .0 i; marks = first .1 i; states = first .2 i; places = rest .0 i; numbers = rest .1 i; counts = rest .2 i })
+    put-ran (a .d) _ (g .0 .0) (g .0 .1 .0) (g .0 .1 .1 .0) _ (g .1) (λ i. record { cells = first .0 i; marks = first .1 i; states = first .2 i; places = rest .0 i; numbers = rest .1 i; counts = rest .2 i })
 
 pub put-done-spec : {M : Type 1} → statement M
 put-done-spec =

@@ -1,10 +1,9 @@
 -- The table's refusal, or what its sheet comes to. Assumes nothing.
-use mathlib.Core.Path.{sym, ap, _∙_}
+use mathlib.Core.Path.{sym, _∙_}
 use borrow.Author.Needs.{needs}
-use Rattle.meaning.specs.Answers.{check, replyOf}
-use Rattle.machine.specs.Held.{blank}
+use Rattle.meaning.specs.Answers.{check}
 use Rattle.meaning.proofs.AnswerLaws.{accepted-none, rejected-some}
-use Rattle.call_table.proofs.Stages.{table-refused}
+use Rattle.call_table.proofs.Stages.{task, table-refused, task-refused}
 use Rattle.call_table.proofs.tasks.do_rows.Statement.{statement}
 use Rattle.call_table.proofs.tasks.do_rows.Tie as tie
 
@@ -21,14 +20,20 @@ enum-told : tie.Need-enum-told
 enum-told c = search needs
 
 run-sheet-requires : tie.Need-run-sheet-requires
-run-sheet-requires c κs = accepted-none (check (c .before .before .before .before .before .args .rows .now)) (sym (c .enum-told .given .1) ∙ c .before .before .check-rows .ensures)
+run-sheet-requires c κs = accepted-none (check (c .before .before .before .before .before .before .before .before .before .args .rows .now)) (sym (c .before .before .enum-told .given .1) ∙ c .before .before .before .before .check-rows .ensures)
 
 returns : tie.Need-returns
 returns c =
-    let a = c .before .before .before .before .before .before .before .args in
+    let a = c .before .before .before .before .before .before .before .before .before .args in
     let g = c .before .before .verdict .given in
     let fault = rejected-some (check (a .rows .now)) (g .0 .0) (g .0 .1 .0) (sym (g .1) ∙ c .before .before .before .before .check-rows .ensures) in
-    c .refused .ensures ∙ ap (replyOf (a .rows .now) blank) (sym (table-refused (a .rows .now) (a .sheet .now) (a .choices .now) (a .budget) (g .0 .0) (g .0 .1 .0) fault))
+    task-refused (task (a .rows .now) (a .sheet .now) (a .choices .now) (a .budget)) _ _ (g .0 .0) (g .0 .1 .0) (table-refused (a .rows .now) (a .sheet .now) (a .choices .now) (a .budget) (g .0 .0) (g .0 .1 .0) fault) (c .refused .ensures)
+
+same-length : tie.Need-same-length
+same-length c = search needs
+
+same-length-2 : tie.Need-same-length-2
+same-length-2 c = search needs
 
 returns-2 : tie.Need-returns-2
 returns-2 c = search needs
@@ -43,4 +48,6 @@ do-rows-spec =
     enum-told
     run-sheet-requires
     returns
+    same-length
+    same-length-2
     returns-2)

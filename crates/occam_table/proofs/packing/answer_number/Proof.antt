@@ -1,9 +1,10 @@
 -- By the answer. Assumes nothing.
-use mathlib.Core.Path.{ap, sym, _∙_}
+use mathlib.Core.Path.{ap, sym, subst, _∙_}
 use Prim.Native.Nat.{ℕ, _+_, _*_}
 use native.Mathlib.Omega.{arith}
 use borrow.Author.Needs.{needs}
 use Rattle.occam_table.specs.Packing.{answerNumber}
+use Rattle.occam_table.specs.PackingClaims.{PossibleAnswer}
 use Rattle.occam_table.proofs.Outcomes.{outcome-small}
 use Rattle.occam_table.proofs.packing.answer_number.Statement.{statement}
 use Rattle.occam_table.proofs.packing.answer_number.Tie as tie
@@ -41,11 +42,22 @@ mul-result-3 c = search needs
 add-result-2 : tie.Need-add-result-2
 add-result-2 c = record { fits = omega (arith, c .outcome-number .ensures, outcome-small (c .before .before .a2 .given .0 .0)) }
 
+cast-result-4 : tie.Need-cast-result-4
+cast-result-4 c = search needs
+
+mul-result-4 : tie.Need-mul-result-4
+mul-result-4 c = let p = subst PossibleAnswer (c .before .before .a2 .given .1) (c .before .before .before .before .pre) in record { fits = omega (arith, p .1) }
+
+add-result-3 : tie.Need-add-result-3
+add-result-3 c =
+    let p = subst PossibleAnswer (c .before .before .a2 .given .1) (c .before .before .before .before .pre) in
+    record { fits = omega (arith, p .0, p .1, c .outcome-number .ensures, outcome-small (c .before .before .a2 .given .0 .0)) }
+
 returns : tie.Need-returns
 returns c = ap answerNumber (sym (c .before .a .given .1))
 
 returns-2 : tie.Need-returns-2
-returns-2 c = ap (λ (n : ℕ). 256 * n + 65536 * c .before .before .a2 .given .0 .1 .0) (c .outcome-number .ensures) ∙ ap answerNumber (sym (c .before .before .a2 .given .1))
+returns-2 c = ap (λ (n : ℕ). 256 * n + 65536 * c .before .before .a2 .given .0 .1 .0 + 1099511627776 * c .before .before .a2 .given .0 .1 .1 .0) (c .outcome-number .ensures) ∙ ap answerNumber (sym (c .before .before .a2 .given .1))
 
 pub answer-number-spec : {M : Type 1} → statement M
 answer-number-spec =
@@ -62,5 +74,8 @@ answer-number-spec =
     cast-result-3
     mul-result-3
     add-result-2
+    cast-result-4
+    mul-result-4
+    add-result-3
     returns
     returns-2)

@@ -1,30 +1,21 @@
--- Within the limits the layout stands for the declarations, and the expression is evaluated. Assumes nothing.
+-- The value of a row of an accepted table, none of any other. Assumes nothing.
 use mathlib.Core.Path.{_≡_, sym, _∙_}
-use mathlib.Core.Option.{none, some}
-use Prim.Native.Nat.{_≤_}
-use native.Mathlib.Omega.{arith}
+use mathlib.Core.Option.{none}
 use borrow.Author.Needs.{needs}
-use Rattle.meaning.specs.Rows.{rowCount}
-use Rattle.meaning.specs.Verdict.{limitFault}
-use Rattle.check_form.proofs.VerdictLaws.{place-some, place-none, limit-found}
-use Rattle.test_leaves.proofs.Values.{within-limits, too-many-rows, limit-passed, value-found}
+use Rattle.meaning.specs.Answers.{check}
+use Rattle.meaning.proofs.AnswerLaws.{accepted-none, rejected-some}
+use Rattle.test_leaves.proofs.Values.{past-rows, refused-rows, value-found}
 use Rattle.test_leaves.proofs.tables.value_at.Statement.{statement}
 use Rattle.test_leaves.proofs.tables.value_at.Tie as tie
 
-few-rows : (c : tie.Else1) → rowCount (c .before .before .before .args .rows .now) ≤ 1024
-few-rows c = omega (arith, c .if1 .left, c .before .row-count .ensures)
-
-no-limit : (c : tie.After-enum-told2) → limitFault (c .before .before .before .before .before .before .args .rows .now) ≡ none
-no-limit c = limit-found (c .before .before .before .before .before .before .args .rows .now) none (place-none _ (sym (c .enum-told2 .given .1) ∙ c .before .before .limit-fault .ensures))
-
-row-count-requires : tie.Need-row-count-requires
-row-count-requires c κs = search needs
+no-fault : (c : tie.After-enum-told2) → check (c .before .before .before .before .before .args .rows .now) ≡ none
+no-fault c = accepted-none (check (c .before .before .before .before .before .args .rows .now)) (sym (c .enum-told2 .given .1) ∙ c .before .before .check-rows .ensures)
 
 returns : tie.Need-returns
-returns c = too-many-rows (c .before .before .before .args .rows .now) _ _ (omega (arith, c .if1 .taken, c .before .row-count .ensures))
+returns c = past-rows (c .before .before .args .rows .now) _ (c .before .before .args .r) (c .if1 .taken)
 
-limit-fault-requires : tie.Need-limit-fault-requires
-limit-fault-requires c κs = search needs
+check-rows-requires : tie.Need-check-rows-requires
+check-rows-requires c κs = search needs
 
 enum-told : tie.Need-enum-told
 enum-told c = search needs
@@ -32,39 +23,29 @@ enum-told c = search needs
 enum-told-2 : tie.Need-enum-told-2
 enum-told-2 c = search needs
 
-layout-of-requires : tie.Need-layout-of-requires
-layout-of-requires c κs =
-    let rows = c .before .before .before .before .before .before .args .rows .now in
-    (few-rows (c .before .before .before), within-limits rows (no-limit c))
-
-slice-aggregate-eval : tie.Need-slice-aggregate-eval
-slice-aggregate-eval c = search needs
-
-eval-requires : tie.Need-eval-requires
-eval-requires c κs = search needs
+value-in-requires : tie.Need-value-in-requires
+value-in-requires c κs = (no-fault c, c .before .before .before .if1 .left)
 
 returns-2 : tie.Need-returns-2
 returns-2 c =
-    let rows = c .before .before .before .before .before .before .args .rows .now in
-    let r = c .enum-told .given .0 .0 in
-    limit-passed rows _ _ (6, r) (few-rows (c .before .before .before)) (limit-found rows (some r) (place-some _ r (sym (c .enum-told .given .1) ∙ c .before .before .limit-fault .ensures)))
+    let a = c .before .before .before .before .before .args in
+    let g = c .enum-told .given in
+    refused-rows (a .rows .now) _ (a .r) (g .0 .0, g .0 .1 .0) (rejected-some (check (a .rows .now)) (g .0 .0) (g .0 .1 .0) (sym (g .1) ∙ c .before .before .check-rows .ensures))
 
 returns-3 : tie.Need-returns-3
 returns-3 c =
-    let s = c .before .before .before .before in
-    c .eval .ensures ∙ value-found (s .before .before .before .before .before .before .args .rows .now) _ _ (few-rows (s .before .before .before)) (no-limit s)
+    let told = c .before in
+    let a = told .before .before .before .before .before .args in
+    c .value-in .ensures ∙ value-found (a .rows .now) _ (a .r) (no-fault told)
 
 pub value-at-spec : {M : Type 1} → statement M
 value-at-spec =
     tie.close
     (tie.spec
-    row-count-requires
     returns
-    limit-fault-requires
+    check-rows-requires
     enum-told
     enum-told-2
-    layout-of-requires
-    slice-aggregate-eval
-    eval-requires
+    value-in-requires
     returns-2
     returns-3)

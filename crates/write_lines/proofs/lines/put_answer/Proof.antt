@@ -3,11 +3,10 @@ use mathlib.Core.Path.{ap, sym, _∙_}
 use mathlib.Core.Option.{some}
 use mathlib.Core.List.{[], _∷_}
 use lib.IntN.{pos}
-use Rattle.meaning.specs.declared.Answer.the-variants.{Ran}
 use Rattle.meaning.specs.declared.Outcome.{Outcome}
 use Rattle.meaning.specs.declared.Outcome.the-variants.{Ended, Stuck, Broken, Spent}
 use Rattle.meaning.specs.Numerals.{printed}
-use Rattle.meaning.specs.Printing.{outcomeWord, wordBytes, answerLine}
+use Rattle.meaning.specs.Printing.{outcomeWord, wordBytes, outcomeLine}
 use Rattle.write_bytes.specs.Writing.{putLines}
 use Rattle.write_lines.proofs.LineSteps.{one-line}
 use borrow.Author.Needs.{needs}
@@ -57,45 +56,45 @@ same-length : tie.Need-same-length
 same-length c = search needs
 
 returns : tie.Need-returns
-unfolding wordBytes printed answerLine
+unfolding wordBytes printed outcomeLine
 returns c =
     let a = c .before .before .before .before .before .before .before .before .before .args in
     c .before .before .put-line .ensures
     ∙ one-line (outcomeWord Ended) 0 0 (some (pos (a .steps))) (c .before .before .before .before .before .before .before .decimal .ensures) (a .at, a .out .now)
-    ∙ ap (λ (o : Outcome). putLines (answerLine (Ran o (a .steps)) ∷ []) (a .at, a .out .now)) (sym (c .before .before .before .before .before .enum-told .given .1))
+    ∙ ap (λ (o : Outcome). putLines (outcomeLine o (a .steps) ∷ []) (a .at, a .out .now)) (sym (c .before .before .before .before .before .enum-told .given .1))
 
 same-length-2 : tie.Need-same-length-2
 same-length-2 c = search needs
 
 returns-2 : tie.Need-returns-2
-unfolding wordBytes printed answerLine
+unfolding wordBytes printed outcomeLine
 returns-2 c =
     let a = c .before .before .before .before .before .before .before .before .before .args in
     c .before .before .put-line2 .ensures
     ∙ one-line (outcomeWord Stuck) 0 0 (some (pos (a .steps))) (c .before .before .before .before .before .before .before .decimal .ensures) (a .at, a .out .now)
-    ∙ ap (λ (o : Outcome). putLines (answerLine (Ran o (a .steps)) ∷ []) (a .at, a .out .now)) (sym (c .before .before .before .before .before .enum-told2 .given .1))
+    ∙ ap (λ (o : Outcome). putLines (outcomeLine o (a .steps) ∷ []) (a .at, a .out .now)) (sym (c .before .before .before .before .before .enum-told2 .given .1))
 
 same-length-3 : tie.Need-same-length-3
 same-length-3 c = search needs
 
 returns-3 : tie.Need-returns-3
-unfolding wordBytes printed answerLine
+unfolding wordBytes printed outcomeLine
 returns-3 c =
     let a = c .before .before .before .before .before .before .before .before .before .args in
     c .before .before .put-line3 .ensures
     ∙ one-line (outcomeWord Broken) 0 0 (some (pos (a .steps))) (c .before .before .before .before .before .before .before .decimal .ensures) (a .at, a .out .now)
-    ∙ ap (λ (o : Outcome). putLines (answerLine (Ran o (a .steps)) ∷ []) (a .at, a .out .now)) (sym (c .before .before .before .before .before .enum-told3 .given .1))
+    ∙ ap (λ (o : Outcome). putLines (outcomeLine o (a .steps) ∷ []) (a .at, a .out .now)) (sym (c .before .before .before .before .before .enum-told3 .given .1))
 
 same-length-4 : tie.Need-same-length-4
 same-length-4 c = search needs
 
 returns-4 : tie.Need-returns-4
-unfolding wordBytes printed answerLine
+unfolding wordBytes printed outcomeLine
 returns-4 c =
     let a = c .before .before .before .before .before .before .before .before .before .args in
     c .before .before .put-line4 .ensures
     ∙ one-line (outcomeWord Spent) 0 0 (some (pos (a .steps))) (c .before .before .before .before .before .before .before .decimal .ensures) (a .at, a .out .now)
-    ∙ ap (λ (o : Outcome). putLines (answerLine (Ran o (a .steps)) ∷ []) (a .at, a .out .now)) (sym (c .before .before .before .before .before .enum-told4 .given .1))
+    ∙ ap (λ (o : Outcome). putLines (outcomeLine o (a .steps) ∷ []) (a .at, a .out .now)) (sym (c .before .before .before .before .before .enum-told4 .given .1))
 
 pub put-answer-spec : {M : Type 1} → statement M
 put-answer-spec =

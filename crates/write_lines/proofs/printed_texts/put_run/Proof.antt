@@ -1,8 +1,7 @@
 -- The line of names, and the lines of the run's parts. Assumes nothing.
-use Rattle.meaning.specs.declared.Answer.the-variants.{Ran}
 use Rattle.meaning.specs.Declarations.{channels}
 use Rattle.meaning.specs.Buffers.{decoded, capacities}
-use Rattle.meaning.specs.Printing.{answerLine, cellLines, outLines, stopLines}
+use Rattle.meaning.specs.Printing.{outcomeLine, cellLines, outLines, stopLines}
 use Rattle.write_lines.specs.Decoding.{outputsIn}
 use Rattle.write_lines.proofs.PrintedTextLaws.{printed-text-made}
 use borrow.Author.Needs.{needs}
@@ -33,7 +32,7 @@ same-length c = search needs
 returns : tie.Need-returns
 returns c =
     let a = c .before .before .before .before .before .before .before .before .before .before .before .before .before .before .before .before .before .before .before .before .before .before .before .before .before .args in
-    printed-text-made (answerLine (Ran (a .outcome) (a .steps)))
+    printed-text-made (outcomeLine (a .outcome) (a .steps))
     (cellLines (a .rows .now) (decoded (a .values .now) (a .marks .now)))
     (outLines (channels (a .rows .now) 2) (outputsIn (capacities (a .rows .now)) (a .counts .now) (a .numbers .now)))
     (stopLines 0 (a .states .now))

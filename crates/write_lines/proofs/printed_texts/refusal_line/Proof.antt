@@ -2,9 +2,8 @@
 use mathlib.Core.Path.{_∙_}
 use mathlib.Core.Option.{some}
 use lib.IntN.{pos}
-use Rattle.meaning.specs.declared.Answer.the-variants.{Refused}
 use Rattle.meaning.specs.Numerals.{printed}
-use Rattle.meaning.specs.Printing.{refusedWord, wordBytes, answerLine, lineBytes}
+use Rattle.meaning.specs.Printing.{refusedWord, wordBytes, refusedLine, lineBytes}
 use Rattle.write_bytes.proofs.Writers.{putLines-one, putAll-first}
 use Rattle.write_lines.proofs.LineSteps.{one-line}
 use borrow.Author.Needs.{needs}
@@ -24,13 +23,13 @@ same-length : tie.Need-same-length
 same-length c = search needs
 
 returns : tie.Need-returns
-unfolding wordBytes printed answerLine
+unfolding wordBytes printed
 returns c =
     let a = c .before .before .before .before .before .before .before .args in
     c .before .before .put-line .ensures
     ∙ one-line refusedWord (a .number) (a .place) (some (pos 0)) (c .before .before .before .before .decimal .ensures) (0, a .out .now)
-    ∙ putLines-one (answerLine (Refused (a .number) (a .place))) (0, a .out .now)
-    ∙ putAll-first (lineBytes (answerLine (Refused (a .number) (a .place)))) (a .out .now)
+    ∙ putLines-one (refusedLine (a .number, a .place)) (0, a .out .now)
+    ∙ putAll-first (lineBytes (refusedLine (a .number, a .place))) (a .out .now)
 
 pub refusal-line-spec : {M : Type 1} → statement M
 refusal-line-spec =

@@ -1,3 +1,0 @@
-pub mod CellLaws
-pub mod Expressions
-pub mod Evaluated

@@ -1,4 +1,0 @@
-pub mod Actions
-pub mod Found
-pub mod Choices
-pub mod Stands

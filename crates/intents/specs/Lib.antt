@@ -1,3 +1,0 @@
-pub mod Does
-pub mod Rows
-pub mod Stands

@@ -1,3 +1,0 @@
-pub mod KeptAgain
-pub mod Halves
-pub mod PassedOver

@@ -1,2 +1,0 @@
-pub mod RowCodes
-pub mod Filling

@@ -1,2 +1,0 @@
-pub mod MemberNotes
-pub mod NextLinks

@@ -1,0 +1,10 @@
+pub mod ChangesMade
+pub mod Reasons
+pub mod Forms
+pub mod OptionProcesses
+pub mod Told
+pub mod NotesTold
+pub mod OutputRows
+pub mod ChangeRows
+pub mod StepChanges
+pub mod StepLaws

@@ -1,0 +1,4 @@
+pub mod Does
+pub mod Rows
+pub mod Held
+pub mod Stands

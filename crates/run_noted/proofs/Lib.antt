@@ -1,0 +1,14 @@
+pub mod Blocks
+pub mod Contents
+pub mod Offers
+pub mod Leaving
+pub mod Left
+pub mod Start
+pub mod Walks
+pub mod Anew
+pub mod NotedRows
+pub mod Sending
+pub mod Encoded
+pub mod RowNoted
+pub mod Fits
+pub mod StepLeft

@@ -1,0 +1,9 @@
+pub mod KindCases
+pub mod Standing
+pub mod Below
+pub mod OptionLinks
+pub mod Noting
+pub mod OwnerNotes
+pub mod ByRow
+pub mod MemberNotes
+pub mod NextLinks

@@ -1,0 +1,5 @@
+pub mod Lists
+pub mod StripStarts
+pub mod RowLaws
+pub mod Filling
+pub mod NotedRows

@@ -1,0 +1,2 @@
+pub mod GoingUp
+pub mod ParentNotes

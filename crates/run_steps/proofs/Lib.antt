@@ -1,0 +1,12 @@
+pub mod Choosing
+pub mod Outcomes
+pub mod Ending
+pub mod Going
+pub mod Underway
+pub mod NotedInTurn
+pub mod TurnLaws
+pub mod Turning
+pub mod ChangedRows
+pub mod Round
+pub mod Stands
+pub mod Laws

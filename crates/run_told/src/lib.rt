@@ -1,0 +1,1 @@
+// What the four lists of the notes of a state tell of it: a crate of theorems.

@@ -1,0 +1,5 @@
+pub mod CellLaws
+pub mod ArrayCells
+pub mod Elements
+pub mod NoExpressions
+pub mod CodeValues

@@ -1,0 +1,173 @@
+// The cell store, and the values of expressions and subscripts from a prepared table.
+ghost use mathlib.Core.Path.{_≡_};
+ghost use mathlib.Core.Option.{none};
+ghost use mathlib.Core.List.{List};
+ghost use Prim.Native.Nat.{_≤_};
+ghost use lib.IntN.{ℤ};
+ghost use lib.ListN.{getD};
+ghost use lib.Signed.{nonNeg};
+ghost use lib.Dec.{T};
+ghost use Rattle.meaning.specs.Tree.{contentAt, actionOf};
+ghost use Rattle.meaning.specs.Values.{isTrue, truth, operate, monadicOf, whenNumber, cellValue, readCell};
+ghost use Rattle.meaning.specs.Values as meaning;
+ghost use Rattle.run_values.specs.Cells.{cellsIn};
+ghost use Rattle.meaning.specs.State.{program, processAt};
+ghost use Rattle.run_code.specs.Prepared.{Prepared, entryAt, placeAt};
+ghost use Rattle.run_values.specs.Targets.{targetIndex, assignedIndex};
+
+pub mod store; // store.rt: the cells, by value
+
+use meaning::Index;
+use meaning::Value;
+use run_code::first;
+use run_code::number;
+use run_code::place;
+
+// What a cell gives: its number if it is set, else reason 1.
+pub fn cell<'a>(values: &'a [i32; 256], marks: &'a [u8; 256], i: usize) -> Value
+    ensures { λ v. ⌜ v ≡ cellValue (getD (cellsIn (now (values .entry)) (now (marks .entry))) i none) ⌝ }
+{
+    if 256 <= i {
+        return Value::Missing(1);
+    }
+    if marks[i] == 0 {
+        return Value::Missing(1);
+    }
+    Value::Number(values[i])
+}
+
+// What the cell gives that a name and a subscript mean.
+pub fn cell_at<'a>(values: &'a [i32; 256], marks: &'a [u8; 256], i: Index) -> Value
+    ensures { λ v. ⌜ v ≡ readCell (cellsIn (now (values .entry)) (now (marks .entry))) i ⌝ }
+{
+    match i {
+        Index::At(n) => cell(values, marks, n),
+        Index::Fails(k) => Value::Missing(k),
+    }
+}
+
+// A monadic operator on what may have a value.
+pub fn monadic(op: u32, v: Value) -> Value
+    ensures { λ r. ⌜ r ≡ whenNumber v (monadicOf op) ⌝ }
+{
+    match v {
+        Value::Number(x) => base_numbers::monadic(op, x),
+        Value::Missing(k) => Value::Missing(k),
+    }
+}
+
+// A dyadic operator on a first operand, and on a second that may have a value.
+pub fn dyadic(op: u32, x: i32, w: Value) -> Value
+    ensures { λ r. ⌜ r ≡ whenNumber w (operate op x) ⌝ }
+{
+    match w {
+        Value::Number(y) => base_numbers::dyadic(op, x, y),
+        Value::Missing(k) => Value::Missing(k),
+    }
+}
+
+// What AND or OR gives that its first operand decides.
+pub fn decided(x: i32) -> Value
+    ensures { λ r. ⌜ r ≡ truth (isTrue x) ⌝ }
+{
+    if base_numbers::is_true(x) {
+        return Value::Number(1);
+    }
+    Value::Number(0)
+}
+
+// The value of the expression of row r, or the first reason met.
+pub fn eval<'a>(
+    code: &'a [i32; 10250],
+    values: &'a [i32; 256],
+    marks: &'a [u8; 256],
+    r: usize,
+) -> Value
+    requires table { ⌜ ((rows : List ℤ) × Prepared rows (now code)) ⌝ }
+    requires inside { ⌜ r ≤ 1024 ⌝ }
+    ensures { λ v. ⌜ ((rows : List ℤ) → Prepared rows (now (code .entry)) → v ≡ meaning.value (cellsIn (now (values .entry)) (now (marks .entry))) (contentAt rows r .expr)) ⌝ }
+{
+    match place(code, r, 0) {
+        1 => Value::Number(number(code, r)),
+        2 => cell(values, marks, first(code, r) as usize),
+        3 => Value::Missing(2),
+        4 => {
+            let i = eval(code, values, marks, place(code, r, 2) as usize);
+            cell_at(
+                values,
+                marks,
+                base_numbers::subscript(first(code, r), place(code, r, 6), i),
+            )
+        }
+        5 => {
+            let v = eval(code, values, marks, place(code, r, 2) as usize);
+            monadic(first(code, r), v)
+        }
+        6 => {
+            let op = first(code, r);
+            let v = eval(code, values, marks, place(code, r, 2) as usize);
+            match v {
+                Value::Missing(k) => Value::Missing(k),
+                Value::Number(x) => {
+                    if base_numbers::decides(op, x) {
+                        return decided(x);
+                    }
+                    dyadic(op, x, eval(code, values, marks, place(code, r, 3) as usize))
+                }
+            }
+        }
+        _ => Value::Missing(0),
+    }
+}
+
+// The cell or channel element of row r: its numbers 1 and 6 tell the first and how many, the expression of its second row is the subscript.
+pub fn index<'a>(
+    code: &'a [i32; 10250],
+    values: &'a [i32; 256],
+    marks: &'a [u8; 256],
+    r: usize,
+) -> Index
+    requires table { ⌜ ((rows : List ℤ) × Prepared rows (now code)) ⌝ }
+    requires inside { ⌜ (r ≤ 1024) × T (nonNeg (entryAt (now code) r 1)) ⌝ }
+    ensures { λ i. ⌜ ((rows : List ℤ) → Prepared rows (now (code .entry)) → i ≡ meaning.index (cellsIn (now (values .entry)) (now (marks .entry))) (placeAt (now (code .entry)) r 1) (placeAt (now (code .entry)) r 6) (contentAt rows (placeAt (now (code .entry)) r 2) .expr)) ⌝ }
+{
+    let v = eval(code, values, marks, place(code, r, 2) as usize);
+    base_numbers::subscript(first(code, r), place(code, r, 6), v)
+}
+
+// The cell that the element of row r means as a target, or why there is none.
+pub fn target<'a>(
+    code: &'a [i32; 10250],
+    values: &'a [i32; 256],
+    marks: &'a [u8; 256],
+    r: usize,
+) -> Index
+    requires table { ⌜ ((rows : List ℤ) × Prepared rows (now code)) ⌝ }
+    requires inside { ⌜ r ≤ 1024 ⌝ }
+    ensures { λ i. ⌜ ((rows : List ℤ) → Prepared rows (now (code .entry)) → i ≡ targetIndex (cellsIn (now (values .entry)) (now (marks .entry))) (contentAt rows r .target)) ⌝ }
+{
+    match place(code, r, 0) {
+        2 => Index::At(first(code, r) as usize),
+        3 => Index::Fails(2),
+        4 => index(code, values, marks, r),
+        _ => Index::Fails(0),
+    }
+}
+
+// The cell that the assignment of row r assigns to, or why there is none; reason 2 where row r is no assignment.
+pub fn assigned<'a>(
+    code: &'a [i32; 10250],
+    values: &'a [i32; 256],
+    marks: &'a [u8; 256],
+    r: usize,
+) -> Index
+    requires table { ⌜ ((rows : List ℤ) × Prepared rows (now code)) ⌝ }
+    requires inside { ⌜ r ≤ 1024 ⌝ }
+    ensures { λ i. ⌜ ((rows : List ℤ) → Prepared rows (now (code .entry)) → i ≡ assignedIndex (cellsIn (now (values .entry)) (now (marks .entry))) (actionOf (processAt (program rows) r))) ⌝ }
+{
+    match place(code, r, 0) {
+        46 => Index::At(first(code, r) as usize),
+        48 => index(code, values, marks, r),
+        _ => Index::Fails(2),
+    }
+}

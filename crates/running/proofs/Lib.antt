@@ -1,5 +1,0 @@
-pub mod Starting
-pub mod Outcomes
-pub mod Going
-pub mod Ending
-pub mod Underway

@@ -1,4 +1,0 @@
-pub mod Members
-pub mod Shapes
-pub mod States
-pub mod Touched

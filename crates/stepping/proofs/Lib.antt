@@ -1,5 +1,0 @@
-pub mod ActNotes
-pub mod OutputElements
-pub mod OptionOffers
-pub mod StepsNoted
-pub mod StepTests

@@ -1,2 +1,0 @@
-pub mod ArraysPut
-pub mod Chosen
