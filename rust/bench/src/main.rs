@@ -1,9 +1,12 @@
 //! Times of the proved code beside those of the separate program, on this machine.
 //!
-//! `cargo run --offline --release -p bench` prints one table. `bench once SHEET proved|separate
-//! BUDGET` makes one call, for a count of its instructions (`rust/bench/instructions`); `bench sheets`
-//! lists the sheets with their steps.
+//! `cargo run --offline --release -p bench` prints one table, `bench largest` its last lines: the
+//! largest sheets. The other words are for counts of instructions (`rust/bench/instructions`):
+//! `bench once SHEET SIDE BUDGET` makes one call on a sheet that `bench sheets` lists, `bench grown
+//! PART NUMBER SIDE BUDGET` one on a sheet with so many of a part that `bench growth` lists, and
+//! `bench calls NUMBER SIDE` so many on a table of one row. SIDE is proved or separate.
 
+mod growth;
 mod sheets;
 mod tree;
 
@@ -16,6 +19,8 @@ use std::time::Instant;
 const BUDGET: u32 = 65_536;
 /// Rounds, in which the two programs take turns.
 const ROUNDS: usize = 21;
+/// Rounds of the largest sheets.
+const LARGE_ROUNDS: usize = 5;
 /// Checks in a round.
 const CHECKS: u32 = 20;
 
@@ -37,13 +42,33 @@ fn main() {
     let words: Vec<&str> = words.iter().map(String::as_str).collect();
     match words[..] {
         [] => print_times(),
+        ["largest"] => print_largest(),
         ["sheets"] => print_sheets(),
-        ["once", name, side, budget] => once(name, side, budget),
+        ["growth"] => print_growth(),
+        ["once", sheet, side, budget] => {
+            call(&sheets::runs()[number(sheet)], side, number(budget), 1);
+        }
+        ["grown", part, count, side, budget] => {
+            let sheet = growth::parts()[number(part)].sheet;
+            let steps = call(&sheet(number(count) as i32), side, number(budget), 1);
+            assert_eq!(steps, number(budget) as u64, "the loop never ends");
+        }
+        ["calls", count, side] => {
+            call(&growth::smallest(), side, 1, number(count));
+        }
         _ => {
-            eprintln!("usage: bench | bench sheets | bench once SHEET proved|separate BUDGET");
+            eprintln!(
+                "usage: bench | bench largest | bench sheets | bench growth | bench once SHEET SIDE BUDGET | \
+                 bench grown PART NUMBER SIDE BUDGET | bench calls NUMBER SIDE"
+            );
             std::process::exit(2);
         }
     }
+}
+
+/// A whole number of the command line.
+fn number(word: &str) -> usize {
+    word.parse().expect("a whole number")
 }
 
 /// Runs a sheet; tells the steps.
@@ -53,7 +78,7 @@ fn run(side: Side, sheet: &Sheet, budget: u32, buffers: &mut Buffers) -> u64 {
         Side::Proved => {
             let packed = calls::run_table(table, readings, &[], budget, buffers.lend());
             assert_eq!(packed & 255, 0, "{} is refused", sheet.name);
-            packed >> 16
+            packed >> 16 & 0xFF_FFFF
         }
         Side::Separate => {
             let budget = u64::from(budget);
@@ -81,10 +106,10 @@ struct Times {
     median: f64,
 }
 
-/// The times of a call by both programs, which take turns.
-fn times(mut call: impl FnMut(Side), calls: u32) -> [Times; 2] {
+/// The times of a call by both programs, which take turns for so many rounds.
+fn times(mut call: impl FnMut(Side), calls: u32, turns: usize) -> [Times; 2] {
     let mut rounds = [Vec::new(), Vec::new()];
-    for _ in 0..ROUNDS {
+    for _ in 0..turns {
         for (side, times) in [Side::Proved, Side::Separate].into_iter().zip(&mut rounds) {
             let start = Instant::now();
             (0..calls).for_each(|_| call(side));
@@ -95,43 +120,67 @@ fn times(mut call: impl FnMut(Side), calls: u32) -> [Times; 2] {
         times.sort_by(f64::total_cmp);
         Times {
             least: times[0],
-            median: times[ROUNDS / 2],
+            median: times[turns / 2],
         }
     })
 }
 
 /// Prints one table of all times.
 fn print_times() {
-    println!("Microseconds a call, least and median of {ROUNDS} rounds in which the programs take");
-    println!(
-        "turns. Ratio: proved / separate. Net: the least time, less that of a call with budget 0."
-    );
-    println!();
-    println!("{}", HEADINGS.join("\n"));
+    print_headings();
     for sheet in sheets::tables() {
-        let checked = times(|side| check(side, &sheet), CHECKS);
+        let checked = times(|side| check(side, &sheet), CHECKS, ROUNDS);
         println!("{}", line(&sheet, 0, &checked));
     }
-    let mut buffers = Buffers::default();
     for sheet in sheets::runs() {
-        let steps = run(Side::Proved, &sheet, BUDGET, &mut buffers);
-        assert_eq!(steps, run(Side::Separate, &sheet, BUDGET, &mut buffers));
-        let whole = times(
-            |side| assert_eq!(run(side, &sheet, BUDGET, &mut buffers), steps),
-            1,
-        );
-        let empty = times(
-            |side| assert_eq!(run(side, &sheet, 0, &mut buffers), 0),
-            CHECKS,
-        );
-        let net = |side: usize| (whole[side].least - empty[side].least) * 1e3 / steps as f64;
-        println!(
-            "{} {:8.1} {:8.1}",
-            line(&sheet, steps, &whole),
-            net(0),
-            net(1)
-        );
+        print_runs(&sheet, ROUNDS);
     }
+    for sheet in growth::largest() {
+        print_runs(&sheet, LARGE_ROUNDS);
+    }
+}
+
+/// Prints the times of the largest sheets.
+fn print_largest() {
+    print_headings();
+    for sheet in growth::largest() {
+        print_runs(&sheet, LARGE_ROUNDS);
+    }
+}
+
+/// Says what the columns are.
+fn print_headings() {
+    println!("Microseconds a call, least and median of {ROUNDS} rounds ({LARGE_ROUNDS} of the largest sheets) in");
+    println!(
+        "which the programs take turns. Ratio: proved / separate. Net: the least time, less that"
+    );
+    println!("of a call with budget 0.");
+    println!();
+    println!("{}", HEADINGS.join("\n"));
+}
+
+/// Prints the times of a sheet's runs.
+fn print_runs(sheet: &Sheet, turns: usize) {
+    let mut buffers = Buffers::default();
+    let steps = run(Side::Proved, sheet, BUDGET, &mut buffers);
+    assert_eq!(steps, run(Side::Separate, sheet, BUDGET, &mut buffers));
+    let whole = times(
+        |side| assert_eq!(run(side, sheet, BUDGET, &mut buffers), steps),
+        1,
+        turns,
+    );
+    let empty = times(
+        |side| assert_eq!(run(side, sheet, 0, &mut buffers), 0),
+        CHECKS,
+        turns,
+    );
+    let net = |side: usize| (whole[side].least - empty[side].least) * 1e3 / steps as f64;
+    println!(
+        "{} {:8.1} {:8.1}",
+        line(sheet, steps, &whole),
+        net(0),
+        net(1)
+    );
 }
 
 /// One line of the table: a sheet, its steps, times and ratios.
@@ -159,18 +208,21 @@ fn print_sheets() {
     }
 }
 
-/// One call: a run of the sheet of this number with this budget.
-fn once(number: &str, side: &str, budget: &str) {
-    let number: usize = number.parse().expect("a sheet's number");
-    let budget: u32 = budget.parse().expect("a budget");
+/// Prints each part's number, how many of it the two sheets have, their steps and its name.
+fn print_growth() {
+    for (number, part) in growth::parts().iter().enumerate() {
+        let [few, many] = part.numbers;
+        println!("{number} {few} {many} {} {}", part.steps, part.name);
+    }
+}
+
+/// Runs a sheet with this budget so many times; tells the steps of the last run.
+fn call(sheet: &Sheet, side: &str, budget: usize, calls: usize) -> u64 {
     let side = match side {
         "proved" => Side::Proved,
         _ => Side::Separate,
     };
-    run(
-        side,
-        &sheets::runs()[number],
-        budget,
-        &mut Buffers::default(),
-    );
+    let mut buffers = Buffers::default();
+    let steps = (0..calls).map(|_| run(side, sheet, budget as u32, &mut buffers));
+    steps.last().unwrap_or(0)
 }

@@ -16,8 +16,17 @@ pub enum Expression {
     Dyadic(i32, Box<Expression>, Box<Expression>),
 }
 
+/// The guard of an option.
+pub enum Guard {
+    /// An input into a cell.
+    Input(Name, Name),
+    /// A boolean and SKIP.
+    Skip(i32),
+}
+
 /// A process.
 pub enum Process {
+    Skip,
     Assign(Name, Expression),
     /// An assignment to a cell whose subscript is an expression.
     AssignAt(i32, Expression, Expression),
@@ -26,6 +35,8 @@ pub enum Process {
     Seq(Vec<Process>),
     Par(Vec<Process>),
     If(Vec<(Expression, Process)>),
+    /// An ALT, SKIP after each of its guards.
+    Alt(Vec<Guard>),
     While(Expression, Box<Process>),
 }
 
@@ -125,6 +136,7 @@ impl Tree {
 
     fn process(&mut self, process: &Process) -> i32 {
         match process {
+            Process::Skip => self.row(21) as i32,
             Process::Assign(Name(variable, number), expression) => {
                 let subscript = Expression::Literal(*number);
                 self.action(22, *variable, &subscript, |tree| {
@@ -134,10 +146,7 @@ impl Tree {
             Process::AssignAt(variable, subscript, expression) => {
                 self.action(22, *variable, subscript, |tree| tree.expression(expression))
             }
-            Process::Input(Name(channel, element), target) => {
-                let element = Expression::Literal(*element);
-                self.action(23, *channel, &element, |tree| tree.cell(*target))
-            }
+            Process::Input(name, target) => self.input(*name, *target),
             Process::Output(Name(channel, element), expression) => {
                 let element = Expression::Literal(*element);
                 self.action(24, *channel, &element, |tree| tree.expression(expression))
@@ -145,6 +154,7 @@ impl Tree {
             Process::Seq(members) => self.members(30, members),
             Process::Par(members) => self.members(31, members),
             Process::If(choices) => self.choices(choices),
+            Process::Alt(guards) => self.options(guards),
             Process::While(boolean, body) => {
                 let row = self.row(33);
                 let boolean = self.expression(boolean);
@@ -152,6 +162,12 @@ impl Tree {
                 row as i32
             }
         }
+    }
+
+    /// Puts down an input.
+    fn input(&mut self, Name(channel, element): Name, target: Name) -> i32 {
+        let element = Expression::Literal(element);
+        self.action(23, channel, &element, |tree| tree.cell(target))
     }
 
     /// Puts down an assignment, input or output.
@@ -195,7 +211,34 @@ impl Tree {
         row as i32
     }
 
-    /// Puts down a member or choice, to which a field of an earlier row refers.
+    /// Puts down an ALT.
+    fn options(&mut self, guards: &[Guard]) -> i32 {
+        let row = self.row(34);
+        let mut above = (row, 1);
+        for guard in guards {
+            let link = self.link(42, above);
+            self.rows[link][1] = self.row(21) as i32;
+            self.rows[link][3] = self.guard(guard);
+            above = (link, 2);
+        }
+        self.rows[above.0][above.1] = -1;
+        row as i32
+    }
+
+    /// Puts down a guard.
+    fn guard(&mut self, guard: &Guard) -> i32 {
+        match guard {
+            Guard::Input(name, target) => self.input(*name, *target),
+            Guard::Skip(boolean) => {
+                let row = self.row(43);
+                let boolean = self.literal(*boolean);
+                self.rows[row] = [43, boolean, self.row(21) as i32, 0];
+                row as i32
+            }
+        }
+    }
+
+    /// Puts down a member, choice or option, to which a field of an earlier row refers.
     fn link(&mut self, kind: i32, (row, field): (usize, usize)) -> usize {
         let link = self.row(kind);
         self.rows[row][field] = link as i32;

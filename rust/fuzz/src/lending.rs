@@ -74,7 +74,7 @@ impl Lending {
 }
 
 /// That two buffers are equal, or words about the first position where they differ.
-fn same_numbers<T>(what: &str, name: &str, proved: &[T], wanted: &[T]) -> Result<(), String>
+pub fn same_numbers<T>(what: &str, name: &str, proved: &[T], wanted: &[T]) -> Result<(), String>
 where
     T: Copy + PartialEq + std::fmt::Debug,
 {

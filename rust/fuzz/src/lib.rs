@@ -4,13 +4,15 @@ pub mod inputs;
 mod lending;
 mod packed;
 pub mod random;
+mod traces;
 
 use lending::Lending;
-use occam_table::{calls, Machine, RowState, Run};
-use packed::{packed_answer, packed_verdict};
+use occam_table::{calls, Buffers, Machine, RowState, Run};
+use packed::{packed_answer, packed_answer_at, packed_verdict};
 use reference::table::rows_of_bytes;
-use reference::{answer_bytes, answer_rows, check_bytes, check_rows};
-use reference::{Answer, Ran, BUFFER_LENGTHS};
+use reference::{answer_bytes, answer_rows, check_bytes, check_rows, traced_bytes};
+use reference::{Answer, Ran, BUFFER_LENGTHS, TRACE_LENGTH};
+pub use traces::compare_traces;
 
 /// What one comparison is given.
 #[derive(Clone, Debug)]
@@ -53,6 +55,39 @@ pub fn compare(given: &Given, machine: &mut Machine) -> Result<Answer, String> {
     compare_numbers(given, given.numbers.as_ref().unwrap_or(&rows))?;
     compare_binding(given, machine)?;
     Ok(answer)
+}
+
+/// Compares the total of ready steps, with outcome and steps, at every budget up to `most` (of a
+/// refused input, which takes no step, at 0 and `most`); tells the greatest total met.
+pub fn compare_totals(given: &Given, most: u32) -> Result<u64, String> {
+    let Given {
+        table,
+        sheet,
+        choices,
+        ..
+    } = given;
+    let lists = [TRACE_LENGTH; 2];
+    let traced = traced_bytes(
+        table,
+        sheet,
+        choices,
+        u64::from(most),
+        BUFFER_LENGTHS,
+        lists,
+    );
+    let mut buffers = Buffers::default();
+    let mut greatest = 0;
+    let each = match traced.answer {
+        Answer::Ran(_) => 1,
+        Answer::Refused(_) => most.max(1) as usize,
+    };
+    for budget in (0..=most).step_by(each) {
+        let packed = calls::run_table(table, sheet, choices, budget, buffers.lend());
+        let wanted = packed_answer_at(budget, &traced);
+        same(&format!("answer with budget {budget}"), packed, wanted)?;
+        greatest = greatest.max(packed >> 40);
+    }
+    Ok(greatest)
 }
 
 /// That two things are equal, or words about the difference.
@@ -152,6 +187,7 @@ fn compare_binding(given: &Given, machine: &mut Machine) -> Result<(), String> {
 fn compare_run(run: &Run, ran: &Ran) -> Result<(), String> {
     same("outcome", run.outcome.word(), ran.outcome.word())?;
     same("steps", u64::from(run.steps), ran.steps)?;
+    same("ready", run.ready as usize, ran.ready)?;
     let count: usize = ran.layout.variables.iter().map(|part| part.length).sum();
     let cell = |number: usize| (ran.marks[number] == 1).then_some(ran.cells[number]);
     let cells: Vec<Option<i32>> = (0..count).map(cell).collect();

@@ -1,121 +1,23 @@
-//! Tables at the limits, deep and wide: the library answers in a thread with a stack of 1 MiB (half of what a thread has by
-//! default), and as the separate program does.
+//! Tables at the limits, deep and wide: the library answers in a thread with a stack of 1 MiB (`occam_table::STACK`, half of
+//! what a thread has by default), and as the separate program does.
+//!
+//! `cargo test --offline --release -p fuzz --test limits -- --ignored --nocapture` finds out the least stack of each.
+
+mod tables;
 
 use fuzz::{compare, Given};
-use occam_table::{calls, Buffers, Machine};
+use occam_table::{calls, Buffers, Machine, STACK};
+use std::process::{Command, Stdio};
 use std::thread;
+use tables::{
+    bytes, deep_alts, deep_expression, deep_ifs, deep_loops, deep_pars_in_a_loop, deep_subscript,
+    deep_sum, largest, nested, readings, wide_in_a_loop,
+};
 
-/// A table's bytes.
-fn bytes(rows: &[[i32; 4]]) -> Vec<u8> {
-    let line = |row: &[i32; 4]| format!("{},{},{},{}\n", row[0], row[1], row[2], row[3]);
-    let lines: String = rows.iter().map(line).collect();
-    format!("kind,a,b,c\n{lines}").into_bytes()
-}
-
-/// Links of one kind, each around the next, 1,000 rows deep, with an assignment innermost.
-fn nested(outer: i32) -> Vec<[i32; 4]> {
-    let mut rows = vec![[1, 1, 0, 0]];
-    while rows.len() < 1_000 {
-        let next = rows.len() as i32 + 1;
-        rows.extend([[outer, next, 0, 0], [40, next + 1, -1, 0]]);
-    }
-    let last = rows.len() as i32;
-    rows.extend([[22, 0, last + 1, last + 2], [10, 0, 0, 0], [10, 7, 0, 0]]);
-    rows
-}
-
-/// An assignment of a NOT of a NOT of ..., 1,000 rows deep.
-fn deep_expression() -> Vec<[i32; 4]> {
-    let mut rows = vec![[1, 1, 0, 0], [22, 0, 2, 3], [10, 0, 0, 0]];
-    while rows.len() < 1_000 {
-        rows.push([12, 1, rows.len() as i32 + 1, 0]);
-    }
-    rows.push([10, 5, 0, 0]);
-    rows
-}
-
-/// A WHILE in a WHILE in ..., 1,000 rows deep, with an assignment innermost that never ends the innermost.
-fn deep_loops() -> Vec<[i32; 4]> {
-    let mut rows = vec![[1, 1, 0, 0]];
-    while rows.len() < 1_000 {
-        let next = rows.len() as i32 + 1;
-        rows.extend([[33, next, next + 1, 0], [10, 1, 0, 0]]);
-    }
-    let last = rows.len() as i32;
-    rows.extend([[22, 0, last + 1, last + 2], [10, 0, 0, 0], [10, 7, 0, 0]]);
-    rows
-}
-
-/// Puts a member of a PAR down: its link, then its rows. The links are tied together afterwards.
-fn member(
-    rows: &mut Vec<[i32; 4]>,
-    links: &mut Vec<usize>,
-    process: impl Fn(i32) -> Vec<[i32; 4]>,
-) {
-    let at = rows.len();
-    links.push(at);
-    rows.push([40, at as i32 + 1, -1, 0]);
-    rows.extend(process(at as i32 + 1));
-}
-
-/// 1,023 rows, 256 cells, 256 channel elements, 8 channels from the host and 8 to it, capacities of 1,024.
-fn largest() -> Vec<[i32; 4]> {
-    let mut rows: Vec<[i32; 4]> = (0..4).map(|_| [1, 64, 0, 0]).collect();
-    rows.extend([64, 64, 64, 48].map(|size| [2, size, 0, 0]));
-    rows.extend((0..8).map(|_| [2, 1, 1, 0]));
-    rows.extend((0..8).map(|_| [2, 1, 2, 128]));
-    rows.push([31, 25, 0, 0]);
-    let mut links = Vec::new();
-    for k in 0..8 {
-        member(&mut rows, &mut links, |r| {
-            let target = [11, 0, r + 3, 0];
-            vec![
-                [23, 8 + k, r + 1, r + 2],
-                [10, 0, 0, 0],
-                target,
-                [10, k, 0, 0],
-            ]
-        });
-        member(&mut rows, &mut links, |r| {
-            vec![
-                [24, 16 + k, r + 1, r + 2],
-                [10, 0, 0, 0],
-                [10, 100 + k, 0, 0],
-            ]
-        });
-    }
-    for k in 8..239 {
-        member(&mut rows, &mut links, |r| {
-            vec![
-                [22, k / 64, r + 1, r + 2],
-                [10, k % 64, 0, 0],
-                [10, k, 0, 0],
-            ]
-        });
-    }
-    member(&mut rows, &mut links, |_| vec![[21, 0, 0, 0]]);
-    for pair in links.windows(2) {
-        rows[pair[0]][2] = pair[1] as i32;
-    }
-    rows
-}
-
-/// 128 lines of readings for channels 8 to 15, some absent.
-fn readings() -> Vec<u8> {
-    let mut sheet = String::from("8,9,10,11,12,13,14,15\n");
-    for line in 0..128_i32 {
-        let field = |k: i32| {
-            if (line + k) % 5 == 4 {
-                String::new()
-            } else {
-                (line * 8 + k).to_string()
-            }
-        };
-        let fields: Vec<String> = (0..8).map(field).collect();
-        sheet.push_str(&fields.join(","));
-        sheet.push('\n');
-    }
-    sheet.into_bytes()
+/// The stack of a call in KiB, for the tests; `OCCAM_STACK` asks for another one.
+fn stack() -> usize {
+    let asked = std::env::var("OCCAM_STACK").ok();
+    asked.map_or(STACK / 1_024, |text| text.parse().expect("a whole number"))
 }
 
 /// Runs a test in a thread with a stack of so many KiB.
@@ -128,11 +30,11 @@ fn within<T: Send + 'static>(kib: usize, test: impl FnOnce() -> T + Send + 'stat
         .expect("no panic")
 }
 
-/// The library's answer within 1 MiB of stack; then the comparison, with room for the separate program.
+/// The library's answer within the stack of a call; then the comparison, with room for the separate program.
 fn answered(rows: Vec<[i32; 4]>, sheet: &[u8], budget: u32) -> u64 {
     let (table, sheet) = (bytes(&rows), sheet.to_vec());
     let given = Given::new(&table, &sheet, vec![3, 1, 4, 1, 5, 9], budget);
-    let packed = within(1_024, move || {
+    let packed = within(stack(), move || {
         let mut buffers = Buffers::default();
         calls::run_table(&table, &sheet, &[3, 1, 4, 1, 5, 9], budget, buffers.lend())
     });
@@ -141,17 +43,33 @@ fn answered(rows: Vec<[i32; 4]>, sheet: &[u8], budget: u32) -> u64 {
             .map(|_| ())
             .expect("equal answers")
     });
-    packed
+    packed & OUTCOME_AND_STEPS
 }
 
+/// The lower 40 bits of an answer: a refusal, or outcome and steps.
+const OUTCOME_AND_STEPS: u64 = (1 << 40) - 1;
 const ENDED: u64 = 256;
+const BROKEN: u64 = 3 * 256;
 const SPENT: u64 = 4 * 256;
 
 #[test]
-fn deep_nests_of_seq_and_par() {
-    for outer in [30, 31] {
-        assert_eq!(answered(nested(outer), b"\n", 65_536), ENDED + 65_536);
-    }
+fn deep_nests_of_seq() {
+    assert_eq!(answered(nested(30), b"\n", 65_536), ENDED + 65_536);
+}
+
+#[test]
+fn deep_nests_of_par() {
+    assert_eq!(answered(nested(31), b"\n", 65_536), ENDED + 65_536);
+}
+
+#[test]
+fn deep_nests_of_if() {
+    assert_eq!(answered(deep_ifs(), b"\n", 65_536), ENDED + 340 * 65_536);
+}
+
+#[test]
+fn deep_nests_of_alt() {
+    assert_eq!(answered(deep_alts(), b"\n", 65_536), ENDED + 204 * 65_536);
 }
 
 #[test]
@@ -160,8 +78,42 @@ fn a_deep_expression() {
 }
 
 #[test]
+fn a_deep_sum_to_the_right() {
+    assert_eq!(answered(deep_sum(true), b"\n", 65_536), ENDED + 65_536);
+}
+
+#[test]
+fn a_deep_sum_to_the_left() {
+    assert_eq!(answered(deep_sum(false), b"\n", 65_536), ENDED + 65_536);
+}
+
+#[test]
+fn a_deep_subscript() {
+    assert_eq!(answered(deep_subscript(), b"\n", 65_536), BROKEN + 65_536);
+}
+
+#[test]
 fn deep_loops_are_spent() {
-    assert_eq!(answered(deep_loops(), b"\n", 5_000), SPENT + 5_000 * 65_536);
+    let spent = answered(deep_loops(), b"\n", 5_000);
+    assert_eq!(spent, SPENT + 5_000 * 65_536);
+}
+
+#[test]
+fn deep_pars_in_a_loop_are_spent() {
+    let spent = answered(deep_pars_in_a_loop(), b"\n", 500);
+    assert_eq!(spent, SPENT + 500 * 65_536);
+}
+
+#[test]
+fn a_wide_seq_in_a_loop_is_spent() {
+    let spent = answered(wide_in_a_loop(30), b"\n", 500);
+    assert_eq!(spent, SPENT + 500 * 65_536);
+}
+
+#[test]
+fn a_wide_par_in_a_loop_is_spent() {
+    let spent = answered(wide_in_a_loop(31), b"\n", 500);
+    assert_eq!(spent, SPENT + 500 * 65_536);
 }
 
 #[test]
@@ -169,4 +121,44 @@ fn the_largest_of_everything() {
     let rows = largest();
     assert_eq!(rows.len(), 1_023);
     assert_eq!(answered(rows, &readings(), 65_536) & 0xff, 0);
+}
+
+/// The names of the tests above.
+fn tests_here() -> Vec<String> {
+    let this = std::env::current_exe().expect("a name");
+    let listed = Command::new(this)
+        .arg("--list")
+        .output()
+        .expect("it starts");
+    let text = String::from_utf8(listed.stdout).expect("text");
+    let names = text.lines().filter_map(|line| line.strip_suffix(": test"));
+    let tests = names.filter(|name| *name != "least_stack");
+    tests.map(str::to_string).collect()
+}
+
+/// Whether a test passes with so many KiB of stack; a process of its own, since it may overflow.
+fn passes(test: &str, kib: usize) -> bool {
+    let status = Command::new(std::env::current_exe().expect("a name"))
+        .args(["--exact", test])
+        .env("OCCAM_STACK", kib.to_string())
+        .stdout(Stdio::null())
+        .stderr(Stdio::null())
+        .status();
+    status.expect("it starts").success()
+}
+
+#[test]
+#[ignore = "measures; by hand"]
+fn least_stack() {
+    for test in tests_here() {
+        let (mut too_little, mut enough) = (0, 4_096);
+        while too_little + 8 < enough {
+            let middle = (too_little + enough) / 2;
+            match passes(&test, middle) {
+                true => enough = middle,
+                false => too_little = middle,
+            }
+        }
+        println!("{enough:5} KiB {test}");
+    }
 }

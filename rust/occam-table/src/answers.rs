@@ -135,11 +135,24 @@ pub(crate) fn verdict(packed: u64) -> Verdict {
     }
 }
 
-/// Outcome and steps of a packed answer, or its refusal.
-pub(crate) fn answer(packed: u64) -> Result<(Outcome, u32), Refusal> {
+/// What a packed answer tells of a run.
+#[derive(Clone, Copy, Debug, PartialEq, Eq)]
+pub(crate) struct Told {
+    pub outcome: Outcome,
+    pub steps: u32,
+    pub ready: u32,
+}
+
+/// What a packed answer tells of a run, or its refusal: 256 times the outcome, 65,536 times the
+/// steps, which have 24 bits, and 2 to the power of 40 times the number of ready steps.
+pub(crate) fn answer(packed: u64) -> Result<Told, Refusal> {
     match refusal(packed) {
         Some(refusal) => Err(refusal),
-        None => Ok((outcome(packed), (packed >> 16) as u32)),
+        None => Ok(Told {
+            outcome: outcome(packed),
+            steps: (packed >> 16) as u32 & 0xFF_FFFF,
+            ready: (packed >> 40) as u32,
+        }),
     }
 }
 
@@ -174,9 +187,16 @@ mod tests {
         assert_eq!(verdict(0), Ok(()));
         assert_eq!(verdict(4 + 65_536 * 12), Err(refused));
         assert_eq!(answer(4 + 65_536 * 12), Err(refused));
-        assert_eq!(answer(256), Ok((Outcome::Ended, 0)));
-        let spent = 256 * 4 + 65_536 * 65_536;
-        assert_eq!(answer(spent), Ok((Outcome::Spent, 65_536)));
+        let told = |outcome, steps, ready| {
+            Ok(Told {
+                outcome,
+                steps,
+                ready,
+            })
+        };
+        assert_eq!(answer(256), told(Outcome::Ended, 0, 0));
+        let spent = 256 * 4 + 65_536 * 65_536 + (1_024 << 40);
+        assert_eq!(answer(spent), told(Outcome::Spent, 65_536, 1_024));
     }
 
     #[test]

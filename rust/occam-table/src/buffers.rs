@@ -1,4 +1,4 @@
-//! The six buffers that a run leaves its state in.
+//! The six buffers that a run leaves its state in, and the two lists of a traced run.
 
 /// Most rows of a table.
 pub const ROWS: usize = 1_024;
@@ -10,6 +10,10 @@ pub const HOST_CHANNELS: usize = 8;
 pub const CAPACITIES: usize = 1_024;
 /// Greatest budget.
 pub const BUDGET: u32 = 65_536;
+
+/// Least length of each of the two further lists of a traced run: one number for each step that a
+/// budget allows.
+pub const TRACE: usize = BUDGET as usize;
 
 /// Six lent buffers. Each has to be at least as long as its limit; a shorter one is refusal 1.
 ///
@@ -35,6 +39,26 @@ pub struct Lent<'b> {
     pub numbers: &'b mut [i32],
     /// How long each role 2 channel's list is: 8.
     pub counts: &'b mut [u32],
+}
+
+/// Two further lists, lent to a traced run. Each has to be at least [`TRACE`] long; a shorter one is
+/// refusal 1. A run puts 0 past its steps, up to that limit, and touches nothing past it.
+///
+/// ```
+/// use occam_table::{calls, Buffers, LentTrace, TRACE};
+///
+/// let (mut ready, mut taken) = (vec![7; TRACE], vec![7; TRACE - 1]);
+/// let mut buffers = Buffers::default();
+/// let trace = LentTrace { ready: &mut ready, taken: &mut taken };
+/// let answer = calls::run_rows_traced(&[21, 0, 0, 0], b"\n", &[], 0, buffers.lend(), trace);
+/// assert_eq!(answer, 1, "refusal 1 at place 0");
+/// assert_eq!(ready[0], 7, "a refused call writes to no lent list");
+/// ```
+pub struct LentTrace<'b> {
+    /// For each step how many were ready, this one included: 65,536.
+    pub ready: &'b mut [u16],
+    /// For each step the row that orders the one taken: 65,536.
+    pub taken: &'b mut [u16],
 }
 
 /// Six buffers, each exactly as long as its limit.
@@ -77,6 +101,32 @@ impl Buffers {
             places: &mut self.places,
             numbers: &mut self.numbers,
             counts: &mut self.counts,
+        }
+    }
+}
+
+/// The two lists of a traced run, each exactly as long as its limit.
+#[derive(Clone, Debug, PartialEq, Eq)]
+pub(crate) struct Trace {
+    pub ready: Vec<u16>,
+    pub taken: Vec<u16>,
+}
+
+impl Default for Trace {
+    fn default() -> Trace {
+        Trace {
+            ready: vec![0; TRACE],
+            taken: vec![0; TRACE],
+        }
+    }
+}
+
+impl Trace {
+    /// Lends both.
+    pub fn lend(&mut self) -> LentTrace<'_> {
+        LentTrace {
+            ready: &mut self.ready,
+            taken: &mut self.taken,
         }
     }
 }

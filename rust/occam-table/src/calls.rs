@@ -7,7 +7,7 @@
 //! changeable one is borrowed alone: Rust gives both.
 #![allow(unsafe_code)]
 
-use crate::buffers::Lent;
+use crate::buffers::{Lent, LentTrace};
 
 mod exported {
     extern "C" {
@@ -54,6 +54,56 @@ mod exported {
             numbers_length: usize,
             counts: *mut u32,
             counts_length: usize,
+        ) -> u64;
+        pub fn occam_run_rows_traced(
+            rows: *const i32,
+            rows_length: usize,
+            sheet: *const u8,
+            sheet_length: usize,
+            choices: *const u16,
+            choices_length: usize,
+            budget: u32,
+            cells: *mut i32,
+            cells_length: usize,
+            marks: *mut u8,
+            marks_length: usize,
+            states: *mut u8,
+            states_length: usize,
+            places: *mut u32,
+            places_length: usize,
+            numbers: *mut i32,
+            numbers_length: usize,
+            counts: *mut u32,
+            counts_length: usize,
+            ready: *mut u16,
+            ready_length: usize,
+            taken: *mut u16,
+            taken_length: usize,
+        ) -> u64;
+        pub fn occam_run_table_traced(
+            table: *const u8,
+            table_length: usize,
+            sheet: *const u8,
+            sheet_length: usize,
+            choices: *const u16,
+            choices_length: usize,
+            budget: u32,
+            cells: *mut i32,
+            cells_length: usize,
+            marks: *mut u8,
+            marks_length: usize,
+            states: *mut u8,
+            states_length: usize,
+            places: *mut u32,
+            places_length: usize,
+            numbers: *mut i32,
+            numbers_length: usize,
+            counts: *mut u32,
+            counts_length: usize,
+            ready: *mut u16,
+            ready_length: usize,
+            taken: *mut u16,
+            taken_length: usize,
         ) -> u64;
         pub fn occam_read_rows(
             table: *const u8,
@@ -134,6 +184,88 @@ pub fn run_table(table: &[u8], sheet: &[u8], choices: &[u16], budget: u32, lent:
             lent.numbers.len(),
             lent.counts.as_mut_ptr(),
             lent.counts.len(),
+        )
+    }
+}
+
+/// The packed answer to rows lent as numbers; a run leaves its state and each of its steps in
+/// what is lent.
+pub fn run_rows_traced(
+    rows: &[i32],
+    sheet: &[u8],
+    choices: &[u16],
+    budget: u32,
+    lent: Lent,
+    trace: LentTrace,
+) -> u64 {
+    // SAFETY: each pointer comes from a slice, with its length. The six slices of `lent` and the
+    // two of `trace` are borrowed alone, so none overlaps another or the three that are only read.
+    unsafe {
+        exported::occam_run_rows_traced(
+            rows.as_ptr(),
+            rows.len(),
+            sheet.as_ptr(),
+            sheet.len(),
+            choices.as_ptr(),
+            choices.len(),
+            budget,
+            lent.cells.as_mut_ptr(),
+            lent.cells.len(),
+            lent.marks.as_mut_ptr(),
+            lent.marks.len(),
+            lent.states.as_mut_ptr(),
+            lent.states.len(),
+            lent.places.as_mut_ptr(),
+            lent.places.len(),
+            lent.numbers.as_mut_ptr(),
+            lent.numbers.len(),
+            lent.counts.as_mut_ptr(),
+            lent.counts.len(),
+            trace.ready.as_mut_ptr(),
+            trace.ready.len(),
+            trace.taken.as_mut_ptr(),
+            trace.taken.len(),
+        )
+    }
+}
+
+/// The packed answer to a table's bytes; a run leaves its state and each of its steps in
+/// what is lent.
+pub fn run_table_traced(
+    table: &[u8],
+    sheet: &[u8],
+    choices: &[u16],
+    budget: u32,
+    lent: Lent,
+    trace: LentTrace,
+) -> u64 {
+    // SAFETY: each pointer comes from a slice, with its length. The six slices of `lent` and the
+    // two of `trace` are borrowed alone, so none overlaps another or the three that are only read.
+    unsafe {
+        exported::occam_run_table_traced(
+            table.as_ptr(),
+            table.len(),
+            sheet.as_ptr(),
+            sheet.len(),
+            choices.as_ptr(),
+            choices.len(),
+            budget,
+            lent.cells.as_mut_ptr(),
+            lent.cells.len(),
+            lent.marks.as_mut_ptr(),
+            lent.marks.len(),
+            lent.states.as_mut_ptr(),
+            lent.states.len(),
+            lent.places.as_mut_ptr(),
+            lent.places.len(),
+            lent.numbers.as_mut_ptr(),
+            lent.numbers.len(),
+            lent.counts.as_mut_ptr(),
+            lent.counts.len(),
+            trace.ready.as_mut_ptr(),
+            trace.ready.len(),
+            trace.taken.as_mut_ptr(),
+            trace.taken.len(),
         )
     }
 }

@@ -40,6 +40,11 @@
 //! assert_eq!(check_table(b"kind,a,b,c\n21,0,0,7\n"), Err(refusal));
 //! assert_eq!(refusal.to_string(), "refused,4,0,0");
 //! ```
+//!
+//! # Memory
+//!
+//! A call of the library uses no heap. It answers within [`STACK`] bytes of stack, the deepest
+//! tables included.
 
 mod answers;
 mod buffers;
@@ -51,15 +56,25 @@ pub mod calls;
 mod machine;
 mod run;
 mod sizes;
+mod traced;
 
 pub use answers::{Outcome, Reason, Refusal, RowState, Verdict};
-pub use buffers::{Buffers, Lent, BUDGET, CAPACITIES, CELLS, HOST_CHANNELS, ROWS};
+pub use buffers::{Buffers, Lent, LentTrace};
+pub use buffers::{BUDGET, CAPACITIES, CELLS, HOST_CHANNELS, ROWS, TRACE};
 pub use machine::{check_rows, check_table, read_rows, strip, Machine, Strip};
 pub use run::{Run, Snapshot};
+pub use traced::{Step, Traced};
 
 /// What to do where the proved library is missing.
 pub const MISSING: &str = "target/staticlib/liboccam_table.a is missing: \
     run `rt staticlib occam_table` at the project's root, then this again";
+
+/// A stack in bytes within which every call answers: 1 MiB, half of what a thread of the standard
+/// library has by default.
+///
+/// The tables that need most are tested in a thread with this stack. The least that was enough
+/// for them was 416 KiB (x86-64, built for release): 510 PARs in one another.
+pub const STACK: usize = 1 << 20;
 
 /// Whether the proved library is linked; without it every call fails with [`MISSING`].
 pub fn is_linked() -> bool {

@@ -1,10 +1,11 @@
 //! The machine: buffers owned once and lent to every run.
 
 use crate::answers::{self, Refusal, Verdict};
-use crate::buffers::{Buffers, HOST_CHANNELS, ROWS};
+use crate::buffers::{Buffers, Trace, HOST_CHANNELS, ROWS};
 use crate::calls;
 use crate::run::Run;
 use crate::sizes::Sizes;
+use crate::traced::Traced;
 
 /// The verdict on a table's bytes.
 ///
@@ -75,7 +76,8 @@ pub fn strip(rows: &[i32], channel: usize) -> Strip {
 }
 
 /// Runs tables. It owns the buffers that runs leave their state in, so that a run allocates
-/// nothing; a [`Run`] is a look at them until the next run.
+/// nothing; a [`Run`] is a look at them until the next run. The first traced run allocates the two
+/// lists of its steps, 256 KiB.
 ///
 /// ```
 /// use occam_table::{Machine, Outcome, BUDGET};
@@ -93,6 +95,7 @@ pub fn strip(rows: &[i32], channel: usize) -> Strip {
 /// ```
 pub struct Machine {
     held: Box<Held>,
+    trace: Option<Trace>,
 }
 
 /// What a machine owns.
@@ -117,6 +120,7 @@ impl Machine {
                 rows: [0; 4 * ROWS],
                 strips: [Strip::default(); HOST_CHANNELS],
             }),
+            trace: None,
         }
     }
 
@@ -133,10 +137,10 @@ impl Machine {
     ) -> Result<Run<'_>, Refusal> {
         let held = &mut *self.held;
         let packed = calls::run_table(table, sheet, choices, budget, held.buffers.lend());
-        let answer = answers::answer(packed)?;
+        let told = answers::answer(packed)?;
         let written = calls::read_rows(table, &mut held.rows) as usize;
         let sizes = note_strips(&held.rows[..written], &mut held.strips);
-        Ok(Run::new(answer, &held.buffers, sizes, &held.strips))
+        Ok(Run::new(told, &held.buffers, sizes, &held.strips))
     }
 
     /// Runs rows lent as numbers, four to each, on a sheet's bytes.
@@ -149,9 +153,46 @@ impl Machine {
     ) -> Result<Run<'_>, Refusal> {
         let held = &mut *self.held;
         let packed = calls::run_rows(rows, sheet, choices, budget, held.buffers.lend());
-        let answer = answers::answer(packed)?;
+        let told = answers::answer(packed)?;
         let sizes = note_strips(rows, &mut held.strips);
-        Ok(Run::new(answer, &held.buffers, sizes, &held.strips))
+        Ok(Run::new(told, &held.buffers, sizes, &held.strips))
+    }
+
+    /// Runs a table's bytes on a sheet's bytes, and keeps what each step shows.
+    pub fn run_table_traced(
+        &mut self,
+        table: &[u8],
+        sheet: &[u8],
+        choices: &[u16],
+        budget: u32,
+    ) -> Result<Traced<'_>, Refusal> {
+        let held = &mut *self.held;
+        let trace = self.trace.get_or_insert_default();
+        let (lent, lists) = (held.buffers.lend(), trace.lend());
+        let packed = calls::run_table_traced(table, sheet, choices, budget, lent, lists);
+        let told = answers::answer(packed)?;
+        let written = calls::read_rows(table, &mut held.rows) as usize;
+        let sizes = note_strips(&held.rows[..written], &mut held.strips);
+        let run = Run::new(told, &held.buffers, sizes, &held.strips);
+        Ok(Traced::new(run, trace))
+    }
+
+    /// Runs rows lent as numbers, four to each, and keeps what each step shows.
+    pub fn run_rows_traced(
+        &mut self,
+        rows: &[i32],
+        sheet: &[u8],
+        choices: &[u16],
+        budget: u32,
+    ) -> Result<Traced<'_>, Refusal> {
+        let held = &mut *self.held;
+        let trace = self.trace.get_or_insert_default();
+        let (lent, lists) = (held.buffers.lend(), trace.lend());
+        let packed = calls::run_rows_traced(rows, sheet, choices, budget, lent, lists);
+        let told = answers::answer(packed)?;
+        let sizes = note_strips(rows, &mut held.strips);
+        let run = Run::new(told, &held.buffers, sizes, &held.strips);
+        Ok(Traced::new(run, trace))
     }
 
     /// The buffers as the last run left them; a refused call changes nothing in them.

@@ -1,6 +1,6 @@
 //! What stands for the proved library where its archive is missing: every call fails.
 
-use crate::buffers::Lent;
+use crate::buffers::{Lent, LentTrace};
 use crate::MISSING;
 
 /// Whether the proved library is linked.
@@ -22,6 +22,8 @@ missing! {
     check_table(&[u8]) -> u64;
     run_rows(&[i32], &[u8], &[u16], u32, Lent) -> u64;
     run_table(&[u8], &[u8], &[u16], u32, Lent) -> u64;
+    run_rows_traced(&[i32], &[u8], &[u16], u32, Lent, LentTrace) -> u64;
+    run_table_traced(&[u8], &[u8], &[u16], u32, Lent, LentTrace) -> u64;
     read_rows(&[u8], &mut [i32]) -> u64;
     strip(&[i32], usize) -> u64;
 }

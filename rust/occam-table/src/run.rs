@@ -1,11 +1,28 @@
-//! A run: its outcome and steps, and the state that it left.
+//! A run: its outcome and steps, how many are ready after it, and the state that it left.
 
-use crate::answers::{Outcome, RowState};
+use crate::answers::{Outcome, RowState, Told};
 use crate::buffers::Buffers;
 use crate::machine::Strip;
 use crate::sizes::Sizes;
 
-/// A run: its outcome and steps, and a look at the state that it left in a machine's buffers.
+/// A run: its outcome and steps, how many are ready after it, and a look at the state that it
+/// left in a machine's buffers.
+///
+/// ```
+/// use occam_table::Machine;
+///
+/// // PAR of v[0] := 1 and v[1] := 2
+/// let rows = [
+///     [1, 2, 0, 0], [31, 2, 0, 0], [40, 4, 3, 0], [40, 7, -1, 0], [22, 0, 5, 6],
+///     [10, 0, 0, 0], [10, 1, 0, 0], [22, 0, 8, 9], [10, 1, 0, 0], [10, 2, 0, 0],
+/// ];
+/// let mut machine = Machine::new();
+/// for (budget, ready) in [(0, 2), (1, 1), (2, 0)] {
+///     let run = machine.run_rows(rows.as_flattened(), b"\n", &[], budget)?;
+///     assert_eq!(run.ready, ready);
+/// }
+/// # Ok::<(), occam_table::Refusal>(())
+/// ```
 ///
 /// Cells, rows, channels from the host and channels to the host are each counted from 0, in row
 /// order. A number past what the table declares is a caller's mistake and panics.
@@ -15,6 +32,8 @@ pub struct Run<'m> {
     pub outcome: Outcome,
     /// How many steps it took.
     pub steps: u32,
+    /// How many steps are ready in the state that it left: 0 at rest, above 0 when spent.
+    pub ready: u32,
     buffers: &'m Buffers,
     sizes: Sizes,
     strips: &'m [Strip],
@@ -23,14 +42,15 @@ pub struct Run<'m> {
 impl<'m> Run<'m> {
     /// The run of this answer, with the buffers that it left.
     pub(crate) fn new(
-        (outcome, steps): (Outcome, u32),
+        told: Told,
         buffers: &'m Buffers,
         sizes: Sizes,
         strips: &'m [Strip],
     ) -> Run<'m> {
         Run {
-            outcome,
-            steps,
+            outcome: told.outcome,
+            steps: told.steps,
+            ready: told.ready,
             buffers,
             sizes,
             strips: &strips[..sizes.outputs],
@@ -82,6 +102,7 @@ impl<'m> Run<'m> {
         Snapshot {
             outcome: self.outcome,
             steps: self.steps,
+            ready: self.ready,
             cells: self.cells().collect(),
             states: self.states().collect(),
             places: self.places().to_vec(),
@@ -111,6 +132,8 @@ pub struct Snapshot {
     pub outcome: Outcome,
     /// How many steps it took.
     pub steps: u32,
+    /// How many steps are ready in the state that it left.
+    pub ready: u32,
     /// Each cell: none if it is unset.
     pub cells: Vec<Option<i32>>,
     /// Each row's state.

@@ -1,11 +1,11 @@
-//! The stored cases of `cases/` through `occam-table run`: the printed lines, byte for byte.
+//! The stored cases of `cases/` through `occam-table`: the printed lines, byte for byte.
 
-use std::fs;
+use std::fs::{self, File};
 use std::path::{Path, PathBuf};
-use std::process::Command;
+use std::process::{Command, Output};
 
-/// The words that `run` does not have: these cases are for the separate program.
-const OTHER_WORDS: [&str; 4] = ["--lengths", "--numbers", "--check", "--full"];
+/// The words that neither `run` nor `ready` has: these cases are for the separate program.
+const OTHER_WORDS: [&str; 5] = ["--lengths", "--numbers", "--check", "--full", "--trace"];
 
 /// The table up to the first line `=`, and the readings after it.
 fn parted(input: &[u8]) -> (&[u8], &[u8]) {
@@ -25,7 +25,15 @@ fn words(case: &Path) -> Vec<String> {
     line.split_whitespace().map(str::to_string).collect()
 }
 
-/// What `run` prints for a case.
+/// What the program printed; its status tells a refusal.
+fn checked(case: &Path, output: Output) -> String {
+    let text = String::from_utf8(output.stdout).expect("text");
+    let status = if text.starts_with("refused") { 1 } else { 0 };
+    assert_eq!(output.status.code(), Some(status), "{}", case.display());
+    text
+}
+
+/// What `run` prints for the table and the sheet of a case in two files.
 fn printed(case: &Path, folder: &Path, words: &[String]) -> String {
     let input = fs::read(case).expect("bytes");
     let (table, sheet) = parted(&input);
@@ -38,15 +46,25 @@ fn printed(case: &Path, folder: &Path, words: &[String]) -> String {
         .args(words)
         .output()
         .expect("the program starts");
-    let text = String::from_utf8(output.stdout).expect("text");
-    let status = if text.starts_with("refused") { 1 } else { 0 };
-    assert_eq!(output.status.code(), Some(status), "{}", case.display());
-    text
+    checked(case, output)
+}
+
+/// What a command prints for a case on standard input with `--plain`: on standard output only.
+fn printed_plain(command: &str, case: &Path, words: &[String]) -> String {
+    let output = Command::new(env!("CARGO_BIN_EXE_occam-table"))
+        .args([command, "-", "--plain"])
+        .args(words)
+        .stdin(File::open(case).expect("it is there"))
+        .output()
+        .expect("the program starts");
+    assert!(output.stderr.is_empty(), "{}", case.display());
+    checked(case, output)
 }
 
 /// A folder for this test alone.
-fn own_folder() -> PathBuf {
-    let folder = std::env::temp_dir().join(format!("occam-table-cases-{}", std::process::id()));
+fn own_folder(name: &str) -> PathBuf {
+    let folder =
+        std::env::temp_dir().join(format!("occam-table-cases-{}-{name}", std::process::id()));
     fs::create_dir_all(&folder).expect("made");
     folder
 }
@@ -54,11 +72,15 @@ fn own_folder() -> PathBuf {
 #[test]
 fn stored_cases_print_what_is_stored() {
     let cases = Path::new(env!("CARGO_MANIFEST_DIR")).join("../../cases");
-    let folder = own_folder();
+    let folder = own_folder("runs");
     let mut count = 0;
     for file in fs::read_dir(cases).expect("the folder is there") {
         let case = file.expect("a file").path();
         let words = words(&case);
+        let (command, words) = match words.iter().position(|word| word == "--ready") {
+            Some(at) => ("ready", [&words[..at], &words[at + 1..]].concat()),
+            None => ("run", words),
+        };
         let other = words
             .iter()
             .any(|word| OTHER_WORDS.contains(&word.as_str()));
@@ -66,14 +88,35 @@ fn stored_cases_print_what_is_stored() {
             continue;
         }
         let stored = fs::read_to_string(case.with_extension("out")).expect("stored");
-        assert_eq!(
-            printed(&case, &folder, &words),
-            stored,
-            "{}",
-            case.display()
-        );
+        let name = case.display();
+        if command == "run" {
+            assert_eq!(printed(&case, &folder, &words), stored, "{name}");
+        }
+        assert_eq!(printed_plain(command, &case, &words), stored, "{name}");
         count += 1;
     }
     fs::remove_dir_all(&folder).expect("it is there");
     assert!(count > 400, "{count} cases");
+}
+
+#[test]
+fn stored_verdicts_are_those_of_check() {
+    let cases = Path::new(env!("CARGO_MANIFEST_DIR")).join("../../cases");
+    let folder = own_folder("verdicts");
+    let mut count = 0;
+    for file in fs::read_dir(cases).expect("the folder is there") {
+        let case = file.expect("a file").path();
+        if case.extension().is_none_or(|extension| extension != "in") || words(&case) != ["--check"]
+        {
+            continue;
+        }
+        let input = fs::read(&case).expect("bytes");
+        let table = folder.join("verdict.in");
+        fs::write(&table, parted(&input).0).expect("written");
+        let stored = fs::read_to_string(case.with_extension("out")).expect("stored");
+        assert_eq!(printed_plain("check", &table, &[]), stored);
+        count += 1;
+    }
+    fs::remove_dir_all(&folder).expect("it is there");
+    assert!(count > 4, "{count} verdicts");
 }

@@ -2,12 +2,12 @@
 //!
 //! A file `commands/NAME.txt` holds a command line after `$ `, what it prints on standard output,
 //! after `--- error` what it prints on standard error (if anything), and after `--- status` its
-//! exit status. It runs in the folder `commands`. `OCCAM_STORE=1` writes the files anew: read
-//! them before they are kept.
+//! exit status. It runs in the folder `commands`; ` < FILE` at its end is standard input, which is
+//! empty otherwise. `OCCAM_STORE=1` writes the files anew: read them before they are kept.
 
-use std::fs;
+use std::fs::{self, File};
 use std::path::{Path, PathBuf};
-use std::process::Command;
+use std::process::{Command, Stdio};
 
 /// The folder of the stored outputs.
 fn folder() -> PathBuf {
@@ -17,9 +17,17 @@ fn folder() -> PathBuf {
 /// What a command line prints, in the stored form.
 fn printed(line: &str) -> String {
     let words = line.strip_prefix("$ occam-table").expect("a command line");
+    let (words, input) = match words.split_once(" < ") {
+        Some((words, file)) => {
+            let file = File::open(folder().join(file)).expect("it is there");
+            (words, Stdio::from(file))
+        }
+        None => (words, Stdio::null()),
+    };
     let output = Command::new(env!("CARGO_BIN_EXE_occam-table"))
         .args(words.split_whitespace())
         .current_dir(folder())
+        .stdin(input)
         .output()
         .expect("the program starts");
     let text = |bytes: Vec<u8>| String::from_utf8(bytes).expect("text");
@@ -35,6 +43,7 @@ fn printed(line: &str) -> String {
 #[test]
 fn stored_outputs() {
     let store = std::env::var_os("OCCAM_STORE").is_some();
+    assert!(occam_table::is_linked(), "{}", occam_table::MISSING);
     let mut failed = Vec::new();
     let mut count = 0;
     for entry in fs::read_dir(folder()).expect("the folder is there") {

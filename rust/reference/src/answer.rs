@@ -3,9 +3,8 @@
 use crate::limits::{Layout, CAPACITIES, CELLS, HOST_CHANNELS};
 use crate::program::Program;
 use crate::refusal::Refusal;
-use crate::run::{run, Outcome};
+use crate::run::{run, End, Outcome, Taken};
 use crate::sheet::readings_of_bytes;
-use crate::state::State;
 use crate::table::{rows_of_bytes, rows_of_numbers, Row, ROWS};
 
 /// Greatest budget.
@@ -13,6 +12,9 @@ pub const BUDGET_LIMIT: u64 = 65_536;
 /// Least lengths of the six lent buffers: cells, marks, row states, places, output numbers, counts.
 pub const BUFFER_LENGTHS: [usize; 6] =
     [CELLS, CELLS, ROWS, HOST_CHANNELS, CAPACITIES, HOST_CHANNELS];
+/// Least length of each of the two further lists that a traced run is lent: how many steps were
+/// ready, and the rows taken. It is the greatest budget.
+pub const TRACE_LENGTH: usize = 65_536;
 
 /// A refusal with its place, or a result.
 #[derive(Clone, Debug)]
@@ -26,6 +28,8 @@ pub enum Answer {
 pub struct Ran {
     pub outcome: Outcome,
     pub steps: u64,
+    /// How many steps are ready after the run.
+    pub ready: usize,
     /// Each cell's value; 0 if it is unset or not declared.
     pub cells: [i32; CELLS],
     /// Each cell's set mark: 1 set, 0 unset.
@@ -44,6 +48,24 @@ pub struct Ran {
     pub layout: Layout,
 }
 
+/// The answer to a traced call: the answer, and what each step of the run shows.
+#[derive(Clone, Debug)]
+pub struct Traced {
+    pub answer: Answer,
+    /// One entry for each step; none if the call is refused.
+    pub steps: Vec<Taken>,
+}
+
+/// What a run is asked beside its table.
+#[derive(Clone, Copy)]
+struct Asked<'a> {
+    sheet: &'a [u8],
+    choices: &'a [u16],
+    budget: u64,
+    /// Whether each lent buffer is as long as its limit.
+    room: bool,
+}
+
 /// The answer to a table of bytes.
 pub fn answer_bytes(
     table: &[u8],
@@ -52,7 +74,13 @@ pub fn answer_bytes(
     budget: u64,
     lengths: [usize; 6],
 ) -> Answer {
-    answer(|| rows_of_bytes(table), sheet, choices, budget, lengths)
+    let asked = Asked {
+        sheet,
+        choices,
+        budget,
+        room: have_room(lengths),
+    };
+    answer(|| rows_of_bytes(table), asked, |_| {})
 }
 
 /// The answer to rows lent as numbers, four to each.
@@ -63,7 +91,49 @@ pub fn answer_rows(
     budget: u64,
     lengths: [usize; 6],
 ) -> Answer {
-    answer(|| rows_of_numbers(rows), sheet, choices, budget, lengths)
+    let asked = Asked {
+        sheet,
+        choices,
+        budget,
+        room: have_room(lengths),
+    };
+    answer(|| rows_of_numbers(rows), asked, |_| {})
+}
+
+/// The answer to a table of bytes with each step; `lists` are the lengths of the two further lists.
+pub fn traced_bytes(
+    table: &[u8],
+    sheet: &[u8],
+    choices: &[u16],
+    budget: u64,
+    lengths: [usize; 6],
+    lists: [usize; 2],
+) -> Traced {
+    let asked = Asked {
+        sheet,
+        choices,
+        budget,
+        room: have_room(lengths) && have_trace_room(lists),
+    };
+    traced(|| rows_of_bytes(table), asked)
+}
+
+/// The answer to rows lent as numbers with each step; `lists` as for bytes.
+pub fn traced_rows(
+    rows: &[i32],
+    sheet: &[u8],
+    choices: &[u16],
+    budget: u64,
+    lengths: [usize; 6],
+    lists: [usize; 2],
+) -> Traced {
+    let asked = Asked {
+        sheet,
+        choices,
+        budget,
+        room: have_room(lengths) && have_trace_room(lists),
+    };
+    traced(|| rows_of_numbers(rows), asked)
 }
 
 /// The verdict on a table of bytes: the program, or the first of refusals 2 to 9.
@@ -76,15 +146,31 @@ pub fn check_rows(rows: &[i32]) -> Result<Program, Refusal> {
     Program::check(rows_of_numbers(rows)?)
 }
 
-/// The first refusal in the paper's order, or the result of the run.
+/// Whether the six lent buffers are as long as their limits.
+fn have_room(lengths: [usize; 6]) -> bool {
+    let mut pairs = lengths.iter().zip(BUFFER_LENGTHS);
+    pairs.all(|(&lent, least)| lent >= least)
+}
+
+/// Whether the two further lists of a traced run are as long as their limit.
+fn have_trace_room(lists: [usize; 2]) -> bool {
+    lists.iter().all(|&lent| lent >= TRACE_LENGTH)
+}
+
+/// The answer, with each step of the run.
+fn traced(read: impl FnOnce() -> Result<Vec<Row>, Refusal>, asked: Asked) -> Traced {
+    let mut steps = Vec::new();
+    let answer = answer(read, asked, |taken| steps.push(taken));
+    Traced { answer, steps }
+}
+
+/// The first refusal in the paper's order, or the result of the run, whose steps are told.
 fn answer(
     read: impl FnOnce() -> Result<Vec<Row>, Refusal>,
-    sheet: &[u8],
-    choices: &[u16],
-    budget: u64,
-    lengths: [usize; 6],
+    asked: Asked,
+    tell: impl FnMut(Taken),
 ) -> Answer {
-    match result(read, sheet, choices, budget, lengths) {
+    match result(read, asked, tell) {
         Ok(ran) => Answer::Ran(Box::new(ran)),
         Err(refusal) => Answer::Refused(refusal),
     }
@@ -93,32 +179,28 @@ fn answer(
 /// The stages in the order of the refusals: buffers, table, readings, budget, then the run.
 fn result(
     read: impl FnOnce() -> Result<Vec<Row>, Refusal>,
-    sheet: &[u8],
-    choices: &[u16],
-    budget: u64,
-    lengths: [usize; 6],
+    asked: Asked,
+    tell: impl FnMut(Taken),
 ) -> Result<Ran, Refusal> {
-    if lengths
-        .iter()
-        .zip(BUFFER_LENGTHS)
-        .any(|(&lent, least)| lent < least)
-    {
+    if !asked.room {
         return Err(Refusal::new(1, 0));
     }
     let program = Program::check(read()?)?;
-    let readings = readings_of_bytes(sheet, &program.layout.readings)?;
-    if budget > BUDGET_LIMIT {
+    let readings = readings_of_bytes(asked.sheet, &program.layout.readings)?;
+    if asked.budget > BUDGET_LIMIT {
         return Err(Refusal::new(11, 0));
     }
-    let (outcome, steps, state) = run(&program, &readings, choices, budget);
-    Ok(what_a_run_leaves(program, outcome, steps, &state))
+    let end = run(&program, &readings, asked.choices, asked.budget, tell);
+    Ok(what_a_run_leaves(program, &end))
 }
 
 /// What a run leaves: unset cells and unused places hold 0.
-fn what_a_run_leaves(program: Program, outcome: Outcome, steps: u64, state: &State) -> Ran {
+fn what_a_run_leaves(program: Program, end: &End) -> Ran {
+    let state = &end.state;
     let mut ran = Ran {
-        outcome,
-        steps,
+        outcome: end.outcome,
+        steps: end.steps,
+        ready: end.ready,
         cells: [0; CELLS],
         marks: [0; CELLS],
         states: [0; ROWS],

@@ -30,6 +30,7 @@ pub mod explore;
 pub mod generate;
 
 pub use answer::{answer_bytes, answer_rows, check_bytes, check_rows, Answer, Ran};
-pub use answer::{BUDGET_LIMIT, BUFFER_LENGTHS};
+pub use answer::{traced_bytes, traced_rows, Traced};
+pub use answer::{BUDGET_LIMIT, BUFFER_LENGTHS, TRACE_LENGTH};
 pub use refusal::Refusal;
-pub use run::Outcome;
+pub use run::{Outcome, Taken};

@@ -1,9 +1,10 @@
 //! The sheet runner of "A run on paper", with flags for comparing programs.
 
 use reference::answer::{answer_bytes, answer_rows, check_bytes, check_rows};
+use reference::answer::{traced_bytes, traced_rows, Traced, TRACE_LENGTH};
 use reference::explore::explore;
 use reference::number::read_number;
-use reference::printing::{printed, split_input};
+use reference::printing::{printed, printed_ready, printed_trace, split_input};
 use reference::program::Program;
 use reference::refusal::Refusal;
 use reference::{Answer, BUDGET_LIMIT, BUFFER_LENGTHS};
@@ -28,6 +29,11 @@ With no flags it prints what the sheet runner of \"A run on paper\" prints.
                     each cell; state,ROW,0,S of each row; place,CH,0,N of each role 1
                     channel; strip,CH,I,V of each place of each role 2 channel's
                     capacity; count,CH,0,N of each role 2 channel
+  --ready           only how many steps are ready after the run: ready,N
+  --trace           for each step of the run step,NUMBER,READY,ROW (its number from 1, how
+                    many were ready, the row that orders the one taken), then ready,N
+  --lists R,T       with --trace the lengths of the two further lent lists, of how many were
+                    ready and of the rows taken (default 65536,65536)
   --check           the verdict alone: accepted,0,0,0 or refused,NUMBER,PLACE,0
                     (only the table is looked at)
   --explore MAX     looks at all orders of steps of any length, up to MAX points (a
@@ -52,6 +58,9 @@ struct Request {
     lengths: [usize; 6],
     numbers: bool,
     full: bool,
+    ready: bool,
+    trace: bool,
+    lists: [usize; 2],
     check: bool,
     explore: Option<usize>,
 }
@@ -99,6 +108,9 @@ fn requested(arguments: &[String]) -> Result<Request, String> {
         lengths: BUFFER_LENGTHS,
         numbers: false,
         full: false,
+        ready: false,
+        trace: false,
+        lists: [TRACE_LENGTH; 2],
         check: false,
         explore: None,
     };
@@ -116,9 +128,16 @@ fn requested(arguments: &[String]) -> Result<Request, String> {
                     .try_into()
                     .map_err(|_| format!("{flag} needs six numbers (see --help)"))?;
             }
+            "--lists" => {
+                request.lists = numbers(flag, operand()?)?
+                    .try_into()
+                    .map_err(|_| format!("{flag} needs two numbers (see --help)"))?;
+            }
             "--explore" => request.explore = Some(one_number(flag, operand()?)?),
             "--numbers" => request.numbers = true,
             "--full" => request.full = true,
+            "--ready" => request.ready = true,
+            "--trace" => request.trace = true,
             "--check" => request.check = true,
             _ => return Err(format!("unknown flag {flag:?} (see --help)")),
         }
@@ -141,52 +160,61 @@ fn numbers<N: FromStr>(flag: &str, text: &str) -> Result<Vec<N>, String> {
 /// The text that answers a request on this input.
 fn respond(request: &Request, input: &[u8]) -> Result<String, String> {
     let (table, sheet) = split_input(input);
+    let (choices, budget) = (&request.choices, request.budget);
+    let (lengths, lists) = (request.lengths, request.lists);
     if request.numbers {
         let rows = lent_numbers(table)?;
-        let answer = || {
-            answer_rows(
-                &rows,
-                sheet,
-                &request.choices,
-                request.budget,
-                request.lengths,
-            )
+        let calls = Calls {
+            check: || check_rows(&rows),
+            answer: || answer_rows(&rows, sheet, choices, budget, lengths),
+            traced: || traced_rows(&rows, sheet, choices, budget, lengths, lists),
         };
-        Ok(respond_with(request, sheet, || check_rows(&rows), answer))
+        Ok(calls.respond(request, sheet))
     } else {
-        let answer = || {
-            answer_bytes(
-                table,
-                sheet,
-                &request.choices,
-                request.budget,
-                request.lengths,
-            )
+        let calls = Calls {
+            check: || check_bytes(table),
+            answer: || answer_bytes(table, sheet, choices, budget, lengths),
+            traced: || traced_bytes(table, sheet, choices, budget, lengths, lists),
         };
-        Ok(respond_with(request, sheet, || check_bytes(table), answer))
+        Ok(calls.respond(request, sheet))
     }
 }
 
-/// The text of the verdict, of all orders, or of the answer.
-fn respond_with(
-    request: &Request,
-    sheet: &[u8],
-    check: impl FnOnce() -> Result<Program, Refusal>,
-    answer: impl FnOnce() -> Answer,
-) -> String {
-    if request.check {
-        return match check() {
-            Ok(_) => "accepted,0,0,0\n".to_string(),
-            Err(refusal) => format!("{refusal}\n"),
-        };
+/// The calls on one table and what is asked of it; one of them is made.
+struct Calls<C, A, T> {
+    check: C,
+    answer: A,
+    traced: T,
+}
+
+impl<C, A, T> Calls<C, A, T>
+where
+    C: FnOnce() -> Result<Program, Refusal>,
+    A: FnOnce() -> Answer,
+    T: FnOnce() -> Traced,
+{
+    /// The text of the verdict, of all orders, of the trace, or of the answer.
+    fn respond(self, request: &Request, sheet: &[u8]) -> String {
+        if request.check {
+            return match (self.check)() {
+                Ok(_) => "accepted,0,0,0\n".to_string(),
+                Err(refusal) => format!("{refusal}\n"),
+            };
+        }
+        if let Some(most_points) = request.explore {
+            return match (self.check)().and_then(|program| explore(&program, sheet, most_points)) {
+                Ok(finding) => format!("{finding}\n"),
+                Err(refusal) => format!("{refusal}\n"),
+            };
+        }
+        if request.trace {
+            return printed_trace(&(self.traced)());
+        }
+        match request.ready {
+            true => printed_ready(&(self.answer)()),
+            false => printed(&(self.answer)(), request.full),
+        }
     }
-    if let Some(most_points) = request.explore {
-        return match check().and_then(|program| explore(&program, sheet, most_points)) {
-            Ok(finding) => format!("{finding}\n"),
-            Err(refusal) => format!("{refusal}\n"),
-        };
-    }
-    printed(&answer(), request.full)
 }
 
 /// Rows lent as numbers: whole numbers parted by commas or line feeds.

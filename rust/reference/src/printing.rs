@@ -1,6 +1,6 @@
 //! The sheet runner's input and printing: "A run on paper".
 
-use crate::answer::{Answer, Ran};
+use crate::answer::{Answer, Ran, Traced};
 use crate::state::STOPPED;
 use std::fmt::{Result, Write};
 
@@ -28,6 +28,24 @@ pub fn printed(answer: &Answer, full: bool) -> String {
     };
     debug_assert!(written.is_ok());
     text
+}
+
+/// One line: how many steps are ready after the run, or a refusal.
+pub fn printed_ready(answer: &Answer) -> String {
+    match answer {
+        Answer::Refused(refusal) => format!("{refusal}\n"),
+        Answer::Ran(ran) => format!("ready,{}\n", ran.ready),
+    }
+}
+
+/// Each step (its number from 1, how many were ready, the row taken), then the line of the end.
+pub fn printed_trace(traced: &Traced) -> String {
+    let mut text = String::new();
+    for (number, taken) in (1..).zip(&traced.steps) {
+        let written = writeln!(text, "step,{number},{},{}", taken.ready, taken.row);
+        debug_assert!(written.is_ok());
+    }
+    text + &printed_ready(&traced.answer)
 }
 
 /// Prints a result: names, outcome and steps, cells, host outputs, stopped rows.

@@ -30,27 +30,56 @@ impl Outcome {
     }
 }
 
-/// Runs a program: the outcome, the steps and the state that the order left.
+/// The end of a run: how it came, after how many steps, how many are ready then, and the state.
+pub struct End {
+    pub outcome: Outcome,
+    pub steps: u64,
+    /// How many steps are ready in the state that is left: 0 at rest, above 0 when spent.
+    pub ready: usize,
+    pub state: State,
+}
+
+/// What the panel shows of one step.
+#[derive(Clone, Copy, Debug, PartialEq, Eq)]
+pub struct Taken {
+    /// How many steps were ready, this one included.
+    pub ready: usize,
+    /// The row that orders this one.
+    pub row: usize,
+}
+
+/// Runs a program and tells each step as it is taken.
 pub fn run(
     program: &Program,
     readings: &Readings,
     choices: &[u16],
     budget: u64,
-) -> (Outcome, u64, State) {
+    mut tell: impl FnMut(Taken),
+) -> End {
     let mut state = State::start(program);
     let mut ready = Vec::new();
     let mut remaining_choices = choices.iter();
     let mut steps = 0;
     loop {
         ready_steps(program, readings, &state, &mut ready);
-        if ready.is_empty() {
-            return (outcome_at_rest(program, &state), steps, state);
-        }
-        if steps == budget {
-            return (Outcome::Spent, steps, state);
+        let at_rest = ready.is_empty();
+        if at_rest || steps == budget {
+            return End {
+                outcome: match at_rest {
+                    true => outcome_at_rest(program, &state),
+                    false => Outcome::Spent,
+                },
+                steps,
+                ready: ready.len(),
+                state,
+            };
         }
         let choice = remaining_choices.next().copied().unwrap_or(0);
         let picked = ready[usize::from(choice) % ready.len()];
+        tell(Taken {
+            ready: ready.len(),
+            row: picked.row(),
+        });
         take_step(program, readings, &mut state, picked);
         steps += 1;
     }

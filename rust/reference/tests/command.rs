@@ -100,6 +100,26 @@ fn check() {
 }
 
 #[test]
+fn ready_and_trace() {
+    let input = format!("{TABLE}=\n\n");
+    assert_eq!(reference("--ready", &input).1, "ready,0\n");
+    assert_eq!(reference("--ready --budget 1", &input).1, "ready,1\n");
+    assert_eq!(reference("--ready", TABLE).1, "refused,10,1,0\n");
+    let trace = "step,1,1,5\nstep,2,1,6\nready,0\n";
+    assert_eq!(reference("--trace", &input).1, trace);
+    assert_eq!(
+        reference("--trace --budget 1", &input).1,
+        "step,1,1,5\nready,1\n"
+    );
+    assert_eq!(
+        reference("--trace --lists 65536,65535", &input).1,
+        "refused,1,0,0\n"
+    );
+    let skip = "21,0,0,0\n=\n\n";
+    assert_eq!(reference("--numbers --trace", skip).1, "ready,0\n");
+}
+
+#[test]
 fn explore() {
     assert_eq!(
         reference("--explore 99", &format!("{TABLE}=\n\n")).1,
@@ -134,6 +154,7 @@ fn bad_flags_and_help() {
         "--budget x",
         "--choices 65536",
         "--lengths 1,2",
+        "--lists 1",
         "x",
     ] {
         assert_eq!(reference(flags, ""), (2, String::new()), "{flags}");
@@ -146,6 +167,9 @@ fn bad_flags_and_help() {
         "--lengths",
         "--numbers",
         "--full",
+        "--ready",
+        "--trace",
+        "--lists",
         "--check",
         "--explore",
     ] {

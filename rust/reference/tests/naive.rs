@@ -8,11 +8,14 @@ use reference::kinds::{
 };
 use reference::printing::split_input;
 use reference::program::Program;
+use reference::run::run;
 use reference::sheet::{readings_of_bytes, Readings};
 use reference::state::State;
 use reference::steps::{ready_steps, take_step, Step};
 use reference::values::{is_true, number_named, value, Reason};
 use reference::{check_bytes, Outcome};
+use std::fs;
+use std::path::Path;
 
 /// All rows reachable from a row by references, the row itself excluded.
 fn beneath(program: &Program, row: usize) -> Vec<usize> {
@@ -240,44 +243,77 @@ fn states_after(program: &Program, state: &State, step: &Step) -> Vec<u8> {
     states
 }
 
-/// Follows one order with both machines; tells how many steps it took.
-fn follow(seed: u64, small: bool, most: usize) -> Option<usize> {
-    let input = generate(seed, small, Some(Aim::Accepted));
-    let (table, sheet) = split_input(&input.bytes);
+/// The choice for a step of the order that is followed.
+fn choice(seed: u64, taken: usize) -> u16 {
+    (taken * 31 + seed as usize) as u16
+}
+
+/// Follows one order of an input of the sheet runner with both machines, and runs it with every
+/// budget on the way; tells how many steps it took, none if the input is refused.
+fn follow(what: &str, seed: u64, input: &[u8], most: usize) -> Option<usize> {
+    let (table, sheet) = split_input(input);
     let program = check_bytes(table).ok()?;
     let readings = readings_of_bytes(sheet, &program.layout.readings).ok()?;
     let mut state = State::start(&program);
     let mut started = vec![0; program.rows.len()];
     started[program.root] = 1;
     settle(&program, &mut started);
-    assert_eq!(state.rows, started, "seed {seed}");
+    assert_eq!(state.rows, started, "{what}");
     let mut ready = Vec::new();
+    let choices: Vec<u16> = (0..most).map(|taken| choice(seed, taken)).collect();
     for taken in 0..most {
         ready_steps(&program, &readings, &state, &mut ready);
         let rows: Vec<usize> = ready.iter().map(Step::row).collect();
-        assert_eq!(rows, ready_rows(&program, &readings, &state), "seed {seed}");
-        assert!(rows.windows(2).all(|two| two[0] < two[1]), "seed {seed}");
+        assert_eq!(rows, ready_rows(&program, &readings, &state), "{what}");
+        let end = run(&program, &readings, &choices, taken as u64, |_| {});
+        assert_eq!(end.ready, rows.len(), "{what} after step {taken}");
+        assert!(rows.windows(2).all(|two| two[0] < two[1]), "{what}");
         if ready.is_empty() {
             let outcome = reference::run::outcome_at_rest(&program, &state);
             assert_ne!(outcome, Outcome::Spent);
             return Some(taken);
         }
-        let step = ready[(taken * 31 + seed as usize) % ready.len()];
+        let step = ready[usize::from(choices[taken]) % ready.len()];
         let states = states_after(&program, &state, &step);
         take_step(&program, &readings, &mut state, step);
-        assert_eq!(state.rows, states, "seed {seed} after step {taken}");
+        assert_eq!(state.rows, states, "{what} after step {taken}");
     }
     Some(most)
 }
 
+/// Follows an order of a generated input.
+fn follow_generated(seed: u64, small: bool, most: usize) -> Option<usize> {
+    let input = generate(seed, small, Some(Aim::Accepted)).bytes;
+    follow(&format!("seed {seed}"), seed, &input, most)
+}
+
 #[test]
 fn small_tables_step_as_the_slow_machine_does() {
-    let steps: usize = (0..1_500).filter_map(|seed| follow(seed, true, 60)).sum();
+    let steps = (0..1_500).filter_map(|seed| follow_generated(seed, true, 60));
+    let steps: usize = steps.sum();
     assert!(steps > 4_000, "{steps}");
 }
 
 #[test]
 fn larger_tables_step_as_the_slow_machine_does() {
-    let steps: usize = (0..250).filter_map(|seed| follow(seed, false, 60)).sum();
+    let steps = (0..250).filter_map(|seed| follow_generated(seed, false, 60));
+    let steps: usize = steps.sum();
+    assert!(steps > 1_500, "{steps}");
+}
+
+#[test]
+fn stored_cases_step_as_the_slow_machine_does() {
+    let folder = Path::new(env!("CARGO_MANIFEST_DIR")).join("../../cases");
+    let mut steps = 0;
+    for file in fs::read_dir(folder).expect("the folder is there") {
+        let path = file.expect("a file").path();
+        if path.extension().is_some_and(|extension| extension == "in") {
+            let input = fs::read(&path).expect("bytes");
+            for seed in [0, 1] {
+                let followed = follow(&path.display().to_string(), seed, &input, 51);
+                steps += followed.unwrap_or(0);
+            }
+        }
+    }
     assert!(steps > 1_500, "{steps}");
 }

@@ -2,7 +2,8 @@
 
 use crate::kinds::kind_name;
 use crate::program::Program;
-use occam_table::{RowState, Run};
+use crate::ready::ready_words;
+use occam_table::{Outcome, RowState, Run};
 
 /// Columns: each is as wide as its widest entry; numbers stand to the right, words to the left.
 struct Columns {
@@ -57,7 +58,11 @@ impl Columns {
 /// The page of a run; with `full` also row states and places in the readings.
 pub fn page(program: &Program, run: &Run, full: bool) -> String {
     let steps = if run.steps == 1 { "step" } else { "steps" };
-    let mut text = format!("{} after {} {steps}\n", run.outcome, run.steps);
+    let mut text = format!("{} after {} {steps}", run.outcome, run.steps);
+    if run.outcome == Outcome::Spent {
+        text += &format!("; {}", ready_words(run.ready));
+    }
+    text.push('\n');
     text += &cells(program, run);
     text += &outputs(program, run);
     text += &stops(program, run);

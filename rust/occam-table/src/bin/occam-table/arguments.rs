@@ -1,11 +1,11 @@
-//! The words of a command line: files, flags and their values.
+//! The words of a command line: flags, their values, and the others.
 
-use std::path::Path;
 use std::str::FromStr;
 
 /// The words of a command, parted.
 pub struct Arguments {
-    files: Vec<String>,
+    command: String,
+    words: Vec<String>,
     valued: Vec<(String, String)>,
     alone: Vec<String>,
 }
@@ -19,7 +19,8 @@ impl Arguments {
         alone: &[&str],
     ) -> Result<Arguments, String> {
         let mut arguments = Arguments {
-            files: Vec::new(),
+            command: command.to_string(),
+            words: Vec::new(),
             valued: Vec::new(),
             alone: Vec::new(),
         };
@@ -36,20 +37,41 @@ impl Arguments {
             } else if word.starts_with("--") {
                 return Err(format!("{command} has no flag {word} {see}"));
             } else {
-                arguments.files.push(word.clone());
+                arguments.words.push(word.clone());
             }
         }
         Ok(arguments)
     }
 
-    /// The words that are no flags: exactly as many as these names.
-    pub fn named<const N: usize>(&self, names: [&str; N]) -> Result<[&str; N], String> {
-        let words: Vec<&str> = self.files.iter().map(String::as_str).collect();
-        let count = words.len();
-        words.try_into().map_err(|_| {
-            let names = names.join(" and ");
-            format!("expected {names}, and {count} such words were given (see --help)")
-        })
+    /// The words that are no flags.
+    pub fn words(&self) -> Vec<&str> {
+        self.words.iter().map(String::as_str).collect()
+    }
+
+    /// The one word that is no flag, by its name in the help.
+    pub fn only(&self, name: &str) -> Result<&str, String> {
+        match self.words()[..] {
+            [word] => Ok(word),
+            _ => Err(self.wrong_words(name)),
+        }
+    }
+
+    /// What is wrong where other words are wanted than were given.
+    pub fn wrong_words(&self, wanted: &str) -> String {
+        let command = &self.command;
+        let given = match self.words.len() {
+            0 => "nothing was given".to_string(),
+            _ => format!("given: {}", self.words.join(" ")),
+        };
+        format!("{command} needs {wanted}; {given} (see `occam-table {command} --help`)")
+    }
+
+    /// That these two flags are not both there.
+    pub fn apart(&self, one: &str, other: &str) -> Result<(), String> {
+        match self.has(one) && self.has(other) {
+            true => Err(format!("{one} and {other} go apart: leave one out")),
+            false => Ok(()),
+        }
     }
 
     /// Whether a flag without value is there.
@@ -84,17 +106,6 @@ fn one_number<N: FromStr>(flag: &str, text: &str) -> Result<N, String> {
         .map_err(|_| format!("{flag} needs a whole number in range, not {text:?}"))
 }
 
-/// The bytes of a file; an error names it.
-pub fn read_file(name: &str) -> Result<Vec<u8>, String> {
-    std::fs::read(name).map_err(|error| format!("{name}: {error}"))
-}
-
-/// The last part of a file's name, for words about what is in it.
-pub fn short_name(name: &str) -> String {
-    let last = Path::new(name).file_name();
-    last.map_or(name.to_string(), |last| last.to_string_lossy().into_owned())
-}
-
 #[cfg(test)]
 mod tests {
     use super::*;
@@ -107,7 +118,7 @@ mod tests {
     #[test]
     fn files_and_flags() {
         let arguments = part("t.csv --budget 7 --full s.csv --choices 1,2").expect("parted");
-        assert_eq!(arguments.named(["TABLE", "SHEET"]), Ok(["t.csv", "s.csv"]));
+        assert_eq!(arguments.words(), ["t.csv", "s.csv"]);
         assert_eq!(arguments.number::<u64>("--budget"), Ok(Some(7)));
         assert_eq!(arguments.numbers::<u16>("--choices"), Ok(vec![1, 2]));
         assert!(arguments.has("--full"));
@@ -120,6 +131,8 @@ mod tests {
         let arguments = part("--budget x --choices 65536 t.csv").expect("parted");
         assert!(arguments.number::<u64>("--budget").is_err());
         assert!(arguments.numbers::<u16>("--choices").is_err());
-        assert!(arguments.named(["TABLE", "SHEET"]).is_err());
+        assert_eq!(arguments.only("TABLE"), Ok("t.csv"));
+        assert!(part("t.csv s.csv").expect("parted").only("TABLE").is_err());
+        assert!(part("").expect("parted").only("TABLE").is_err());
     }
 }

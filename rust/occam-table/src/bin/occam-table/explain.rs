@@ -11,6 +11,8 @@ pub struct Meaning {
     place: &'static str,
     /// What to look for.
     advice: &'static str,
+    /// What to do, in one line.
+    pub help: &'static str,
 }
 
 /// The meanings of the refusals 1 to 11.
@@ -20,6 +22,7 @@ const MEANINGS: [Meaning; 11] = [
         place: "0",
         advice: "Only a program that calls the library itself can see this; the six buffers must\n\
                  be at least 256, 256, 1024, 8, 1024 and 8 long.",
+        help: "lend buffers that are at least as long as these limits",
     },
     Meaning {
         summary: "the table's bytes are not as they should be",
@@ -28,12 +31,14 @@ const MEANINGS: [Meaning; 11] = [
                  commas: no spaces, no plus, no leading zeros, no -0, from -2147483648 to\n\
                  2147483647. Every line, the last too, ends with a line feed and no carriage\n\
                  return.",
+        help: "write that line as four whole numbers parted by commas, with a line feed at its end",
     },
     Meaning {
         summary: "there are more than 1024 rows",
         place: "1024; for rows lent as numbers the count of whole rows, at most 1024",
         advice: "Line 1026 of the table is one too many. Rows lent as numbers are also refused\n\
                  if they are not four numbers each.",
+        help: "take rows out until there are at most 1024",
     },
     Meaning {
         summary: "a row has a wrong kind, number, name or unused field",
@@ -42,6 +47,7 @@ const MEANINGS: [Meaning; 11] = [
                  operator, size, role or capacity is out of range; or a name is not the row of a\n\
                  declaration of the sort and role wanted; or a field that the kind does not use\n\
                  is not 0.",
+        help: "put into that field what is expected there",
     },
     Meaning {
         summary: "a reference is wrong, or a row is not referred to exactly once",
@@ -50,6 +56,7 @@ const MEANINGS: [Meaning; 11] = [
                  to 34. Every reference goes to a higher row of the kind named (-1 only for\n\
                  \"first\" and \"next\"). Every row after the root is referred to exactly once;\n\
                  wrong references are not counted.",
+        help: "let every row after the root be referred to once, by a lower row that wants its kind",
     },
     Meaning {
         summary: "a declaration passes a limit",
@@ -57,6 +64,7 @@ const MEANINGS: [Meaning; 11] = [
         advice:
             "At most 256 cells, 256 channel elements (host channels too), 8 channels from the\n\
                  host, 8 to the host, and capacities of 1024 together.",
+        help: "declare fewer or smaller ones, so that the sum stays within the limit",
     },
     Meaning {
         summary: "a cell changed in one member of a PAR is used in another",
@@ -65,17 +73,20 @@ const MEANINGS: [Meaning; 11] = [
             "A cell is changed by an assignment or as an input's target, and used wherever it\n\
                  stands, subscripts included. A literal subscript counts for that cell only; any\n\
                  other subscript counts for the whole array.",
+        help: "give each member cells of its own, pass the value on a channel, or put the members in a SEQ",
     },
     Meaning {
         summary: "two members of a PAR input from the same channel element",
         place: "the lowest PAR with such a clash",
         advice: "Inputs in the guards of an ALT count as inputs. A subscript that is no literal\n\
                  counts for every element of the channel.",
+        help: "let one member alone input from that element, or give each an element of its own",
     },
     Meaning {
         summary: "two members of a PAR output to the same channel element",
         place: "the lowest PAR with such a clash",
         advice: "A subscript that is no literal counts for every element of the channel.",
+        help: "let one member alone output to that element, or give each an element of its own",
     },
     Meaning {
         summary: "the readings are not as they should be",
@@ -85,11 +96,13 @@ const MEANINGS: [Meaning; 11] = [
                  come at most 128 lines, one value for each of these channels; an empty field is\n\
                  an absent reading. Without such a channel the sheet is one empty line. Every\n\
                  line ends with a line feed.",
+        help: "write that line as one number, or nothing where a reading is missing, for each channel",
     },
     Meaning {
         summary: "the budget is above 65536",
         place: "0",
         advice: "Ask for at most 65536 steps.",
+        help: "ask for at most 65536 steps with --budget",
     },
 ];
 
@@ -104,7 +117,7 @@ pub fn command(words: &[String]) -> Result<Report, String> {
     if words.is_empty() {
         return Ok(Report::accepted(all()));
     }
-    let [word] = arguments.named(["NUMBER"])?;
+    let word = arguments.only("NUMBER")?;
     match word.parse() {
         Ok(number @ 1..=11) => Ok(Report::accepted(one(number))),
         _ => Err(format!(
@@ -128,6 +141,7 @@ fn one(number: u8) -> String {
         summary,
         place,
         advice,
+        help,
     } = meaning(number);
-    format!("refusal {number}: {summary}\nplace: {place}\n\n{advice}\n")
+    format!("refusal {number}: {summary}\nplace: {place}\n\n{advice}\nhelp: {help}\n")
 }

@@ -6,45 +6,73 @@ occam-table: checks and runs small occam programs kept as tables of rows
   occam-table check TABLE                 is the table accepted, and if not, what is wrong where
   occam-table run TABLE SHEET             run it on a sheet of readings
   occam-table steps TABLE SHEET           the same step by step, for a desk trial
+  occam-table ready TABLE SHEET           how many steps are ready after a run
   occam-table orders TABLE SHEET          many random orders: do they agree?
   occam-table explain [NUMBER]            what a refusal means
   occam-table COMMAND --help              more about a command, with examples
 
+A `-` stands for standard input: for TABLE a table; alone in place of TABLE and SHEET a table, a
+line `=`, and readings, as the sheet runner takes them.
 Every answer comes from the proved library; the words around it are presentation.
 Exit status: 0 done, 1 the table, sheet or budget is refused, 2 wrong use or an unreadable file.
 ";
 
 const CHECK: &str = "\
-occam-table check TABLE
+occam-table check TABLE [--plain]
 
 Tells whether a table is accepted. If it is refused: the number and the place, which are the
 proved answer, and what is wrong there in plain words: the line or row as written, which field,
 what stands there, what was expected; for a clash in a PAR the two members and the cell or
-channel element.
+channel element; and what to do. A `-` for TABLE is a table on standard input.
+
+  --plain           one line alone: accepted,0,0,0 or refused,NUMBER,PLACE,0
 Exit status: 0 accepted, 1 refused, 2 wrong use or an unreadable file.
 
 Examples:
   occam-table check examples/kiln.csv
+  occam-table check - --plain < examples/kiln.csv
   occam-table check edited-on-site.csv && echo may be loaded
 ";
 
 const RUN: &str = "\
-occam-table run TABLE SHEET [--budget N] [--choices A,B,C] [--full] [--table]
+occam-table run TABLE SHEET [--budget N] [--choices A,B,C] [--full] [--table | --plain]
 
 Runs a table on a sheet of readings and prints the lines of the sheet runner: outcome and steps,
 each cell (nothing after the last comma if it is unset), each host output, each stopped row. A
-refusal is one line on standard output, and in plain words on standard error.
+refusal is one line on standard output, and in plain words on standard error. A `-` in place of
+TABLE and SHEET is standard input: a table, a line `=`, and readings; for one of the two it is
+that one.
 
   --budget N        at most N steps (default and greatest: 65536)
   --choices A,B,C   which ready step to take, in turn (default: always the first)
   --full            also each row's state and each channel's place in the readings
   --table           aligned columns to be read by people; an unset cell is shown empty
+  --plain           the sheet runner's lines alone, also for a refusal: refused,NUMBER,PLACE,0
 Exit status: 0 it ran (whatever the outcome), 1 refused, 2 wrong use or an unreadable file.
 
 Examples:
   occam-table run examples/kiln.csv examples/kiln.readings.csv
   occam-table run examples/kiln.csv examples/kiln.readings.csv --table --full
   occam-table run examples/intake.csv examples/intake.readings.csv --choices 1,0,1
+  occam-table run - --plain < cases/p-worked.in
+";
+
+const READY: &str = "\
+occam-table ready TABLE SHEET [--budget N] [--choices A,B,C] [--plain]
+
+Runs a table on a sheet of readings and tells how many steps are ready after the last one: none at
+rest, one or more when the budget is spent. A communication counts once, each option of an ALT that
+could be taken counts, and so does a stop. With --budget 0 it tells what is ready at the start. A
+`-` in place of TABLE and SHEET is standard input: a table, a line `=`, and readings.
+
+  --budget N        at most N steps (default and greatest: 65536)
+  --choices A,B,C   which ready step to take, in turn (default: always the first)
+  --plain           one line alone: ready,N or refused,NUMBER,PLACE,0
+Exit status: 0 it ran (whatever the outcome), 1 refused, 2 wrong use or an unreadable file.
+
+Examples:
+  occam-table ready examples/kiln.csv examples/kiln.readings.csv --budget 10
+  occam-table ready - --plain --budget 0 < cases/p-worked.in
 ";
 
 const STEPS: &str = "\
@@ -105,6 +133,7 @@ pub fn wanted(command: &str, rest: &[String]) -> Option<&'static str> {
     let text = match command {
         "check" => CHECK,
         "run" => RUN,
+        "ready" => READY,
         "steps" => STEPS,
         "orders" => ORDERS,
         "explain" => EXPLAIN,

@@ -1,4 +1,4 @@
-//! The command line over the proved library: check, run, steps, orders, explain.
+//! The command line over the proved library: check, run, ready, steps, orders, explain.
 //!
 //! Answers come from the library only; the words around them are presentation.
 
@@ -8,10 +8,12 @@ mod check;
 mod explain;
 mod faults;
 mod help;
+mod input;
 mod kinds;
 mod orders;
 mod program;
 mod random;
+mod ready;
 mod report;
 mod run;
 mod sheet_lines;
@@ -43,11 +45,12 @@ fn respond(words: &[String]) -> Result<Report, String> {
     }
     match command.as_str() {
         "explain" => explain::command(rest),
-        "check" | "run" | "steps" | "orders" if !occam_table::is_linked() => {
+        "check" | "run" | "ready" | "steps" | "orders" if !occam_table::is_linked() => {
             Err(occam_table::MISSING.to_string())
         }
         "check" => check::command(rest),
         "run" => run::command(rest),
+        "ready" => ready::command(rest),
         "steps" => steps::command(rest),
         "orders" => orders::command(rest),
         _ => Err(format!(

@@ -22,6 +22,15 @@ impl Report {
         }
     }
 
+    /// A report of a refusal as the sheet runner's line alone.
+    pub fn refused_line(refusal: Refusal) -> Report {
+        Report {
+            text: format!("{refusal}\n"),
+            aside: String::new(),
+            status: 1,
+        }
+    }
+
     /// A report of a refusal in plain words.
     pub fn refused(refusal: Refusal, names: &str, given: &Given) -> Report {
         Report {
@@ -32,11 +41,11 @@ impl Report {
     }
 }
 
-/// A refusal in plain words: the library's answer, then what was looked up in the files.
+/// A refusal in plain words: the library's answer, what was looked up in the files, what to do.
 pub fn refusal_words(refusal: Refusal, names: &str, given: &Given) -> String {
     let place = place_words(refusal, given);
-    let mut text = format!("refused: number {}{place}\n", refusal.number);
-    text += &format!("{}\n", meaning(refusal.number).summary);
+    let (number, meaning) = (refusal.number, meaning(refusal.number));
+    let mut text = format!("refused: number {number}{place}\n{}\n", meaning.summary);
     let found = details(refusal, given);
     if !found.is_empty() {
         text += &format!("\nlooked up in {names} (beside the proved answer):\n");
@@ -44,7 +53,39 @@ pub fn refusal_words(refusal: Refusal, names: &str, given: &Given) -> String {
             text += &format!("  {line}\n");
         }
     }
-    text
+    let help = help_words(refusal, given);
+    text + &format!("help: {help} (more: `occam-table explain {number}`)\n")
+}
+
+/// What to do about a refusal at its place.
+fn help_words(refusal: Refusal, given: &Given) -> &'static str {
+    match (refusal.number, refusal.place) {
+        (2, 0) => "shorten the table to at most 32768 bytes",
+        (2, 1) => "begin the table with the line kind,a,b,c and a line feed",
+        (2, place) if line_of(given.table, place) == Some(b"=") => {
+            "leave out the line `=` and the readings after it: a table alone is wanted here"
+        }
+        (5, place) if place as usize == row_count(given) => {
+            "add a root: the first row after the declarations, a process (kind 20 to 34)"
+        }
+        (10, 0) => "shorten the sheet to at most 16384 bytes",
+        (10, 1) if given.sheet.is_empty() => {
+            "add the readings (after a line `=` where `-` stands for both): first a line of the \
+             channels from the host, joined by commas, empty if there are none"
+        }
+        (10, 1) => {
+            "begin the sheet with the rows of the channels from the host, joined by commas; \
+             without such a channel it is one empty line"
+        }
+        (10, 130) => "leave out what comes after 128 lines of readings",
+        (number, _) => meaning(number).help,
+    }
+}
+
+/// A line of a file, counted from 1, without its line feed.
+fn line_of(bytes: &[u8], number: u32) -> Option<&[u8]> {
+    let mut lines = bytes.split(|&byte| byte == b'\n');
+    lines.nth(number as usize - 1)
 }
 
 /// The place of a refusal with the word for what it counts.

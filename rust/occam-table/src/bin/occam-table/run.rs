@@ -1,8 +1,9 @@
 //! `run`: a run of a table on a sheet, as the sheet runner prints it or aligned to be read.
 
 use crate::aligned;
-use crate::arguments::{read_file, short_name, Arguments};
+use crate::arguments::Arguments;
 use crate::faults::Given;
+use crate::input;
 use crate::program::Program;
 use crate::report::{refusal_words, Report};
 use crate::sheet_lines;
@@ -18,15 +19,17 @@ pub struct Asked {
 }
 
 impl Asked {
-    /// Reads the files and flags that `run`, `steps` and `orders` have in common.
+    /// Reads the files and flags that `run`, `ready`, `steps` and `orders` have in common.
     pub fn read(arguments: &Arguments, budget: u32) -> Result<Asked, String> {
-        let [table, sheet] = arguments.named(["TABLE", "SHEET"])?;
+        let choices = arguments.numbers("--choices")?;
+        let budget = arguments.number("--budget")?.unwrap_or(u64::from(budget));
+        let input = input::table_and_sheet(arguments)?;
         Ok(Asked {
-            table: read_file(table)?,
-            sheet: read_file(sheet)?,
-            names: format!("{} and {}", short_name(table), short_name(sheet)),
-            choices: arguments.numbers("--choices")?,
-            budget: arguments.number("--budget")?.unwrap_or(u64::from(budget)),
+            table: input.table,
+            sheet: input.sheet,
+            names: input.names,
+            choices,
+            budget,
         })
     }
 
@@ -64,14 +67,17 @@ impl Asked {
 /// The command.
 pub fn command(words: &[String]) -> Result<Report, String> {
     let valued = ["--budget", "--choices"];
-    let arguments = Arguments::part("run", words, &valued, &["--full", "--table"])?;
+    let alone = ["--full", "--table", "--plain"];
+    let arguments = Arguments::part("run", words, &valued, &alone)?;
+    arguments.apart("--plain", "--table")?;
     let asked = Asked::read(&arguments, BUDGET)?;
     let (full, table) = (arguments.has("--full"), arguments.has("--table"));
     let mut machine = Machine::new();
     let run = match asked.run_with(&mut machine, &asked.choices, asked.budget) {
         Ok(run) => run,
         Err(refusal) if table => return Ok(asked.refused(refusal)),
-        Err(refusal) => return Ok(refused_line(refusal, &asked)),
+        Err(refusal) if arguments.has("--plain") => return Ok(Report::refused_line(refusal)),
+        Err(refusal) => return Ok(refused_line_and_words(refusal, &asked)),
     };
     let program = asked.program();
     Ok(Report::accepted(if table {
@@ -82,10 +88,9 @@ pub fn command(words: &[String]) -> Result<Report, String> {
 }
 
 /// The sheet runner's line of a refusal; the plain words go beside it.
-fn refused_line(refusal: Refusal, asked: &Asked) -> Report {
+fn refused_line_and_words(refusal: Refusal, asked: &Asked) -> Report {
     Report {
-        text: format!("{refusal}\n"),
         aside: refusal_words(refusal, &asked.names, &asked.given()),
-        status: 1,
+        ..Report::refused_line(refusal)
     }
 }

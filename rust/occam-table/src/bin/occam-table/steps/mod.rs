@@ -8,6 +8,7 @@ mod words;
 
 use crate::arguments::Arguments;
 use crate::program::Program;
+use crate::ready::ready_words;
 use crate::report::Report;
 use crate::run::Asked;
 use occam_table::{Machine, Outcome, Refusal, Snapshot};
@@ -54,7 +55,10 @@ fn state_after(asked: &Asked, machine: &mut Machine, steps: u32) -> Result<Snaps
 fn end(program: &Program, state: &Snapshot) -> String {
     let steps = if state.steps == 1 { "step" } else { "steps" };
     let mut text = match state.outcome {
-        Outcome::Spent => format!("spent after {} {steps}: more is ready\n", state.steps),
+        Outcome::Spent => {
+            let ready = ready_words(state.ready);
+            format!("spent after {} {steps}: {ready}\n", state.steps)
+        }
         outcome => format!("at rest after {} {steps}: {outcome}\n", state.steps),
     };
     if state.outcome != Outcome::Spent {

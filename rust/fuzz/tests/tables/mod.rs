@@ -1,0 +1,195 @@
+//! Tables at the limits, deep and wide.
+
+/// A table's bytes.
+pub fn bytes(rows: &[[i32; 4]]) -> Vec<u8> {
+    let line = |row: &[i32; 4]| format!("{},{},{},{}\n", row[0], row[1], row[2], row[3]);
+    let lines: String = rows.iter().map(line).collect();
+    format!("kind,a,b,c\n{lines}").into_bytes()
+}
+
+/// Links of one kind, each around the next, 1,020 rows deep, with an assignment innermost.
+pub fn nested(outer: i32) -> Vec<[i32; 4]> {
+    let mut rows = vec![[1, 1, 0, 0]];
+    while rows.len() < 1_020 {
+        let next = rows.len() as i32 + 1;
+        rows.extend([[outer, next, 0, 0], [40, next + 1, -1, 0]]);
+    }
+    let last = rows.len() as i32;
+    rows.extend([[22, 0, last + 1, last + 2], [10, 0, 0, 0], [10, 7, 0, 0]]);
+    rows
+}
+
+/// An assignment of a NOT of a NOT of ..., 1,020 rows deep.
+pub fn deep_expression() -> Vec<[i32; 4]> {
+    let mut rows = vec![[1, 1, 0, 0], [22, 0, 2, 3], [10, 0, 0, 0]];
+    while rows.len() < 1_020 {
+        rows.push([12, 1, rows.len() as i32 + 1, 0]);
+    }
+    rows.push([10, 5, 0, 0]);
+    rows
+}
+
+/// A WHILE in a WHILE in ..., 1,020 rows deep, with an assignment innermost that never ends the innermost.
+pub fn deep_loops() -> Vec<[i32; 4]> {
+    let mut rows = vec![[1, 1, 0, 0]];
+    while rows.len() < 1_020 {
+        let next = rows.len() as i32 + 1;
+        rows.extend([[33, next, next + 1, 0], [10, 1, 0, 0]]);
+    }
+    let last = rows.len() as i32;
+    rows.extend([[22, 0, last + 1, last + 2], [10, 0, 0, 0], [10, 7, 0, 0]]);
+    rows
+}
+
+/// An assignment of 1 PLUS (1 PLUS ...), or of (... PLUS 1) PLUS 1, 1,020 rows deep.
+pub fn deep_sum(to_the_right: bool) -> Vec<[i32; 4]> {
+    let mut rows = vec![[1, 1, 0, 0], [22, 0, 2, 3], [10, 0, 0, 0]];
+    while rows.len() < 1_020 {
+        let row = rows.len() as i32;
+        let operands = if to_the_right { [1, 2] } else { [2, 1] };
+        rows.extend([[13, 5, row + operands[0], row + operands[1]], [10, 1, 0, 0]]);
+    }
+    rows.push([10, 1, 0, 0]);
+    rows
+}
+
+/// An assignment of v[v[v[...]]], 1,020 rows deep.
+pub fn deep_subscript() -> Vec<[i32; 4]> {
+    let mut rows = vec![[1, 1, 0, 0], [22, 0, 2, 3], [10, 0, 0, 0]];
+    while rows.len() < 1_020 {
+        rows.push([11, 0, rows.len() as i32 + 1, 0]);
+    }
+    rows.push([10, 0, 0, 0]);
+    rows
+}
+
+/// An IF in an IF in ..., 1,020 rows deep, with SKIP innermost.
+pub fn deep_ifs() -> Vec<[i32; 4]> {
+    let mut rows = Vec::new();
+    while rows.len() < 1_020 {
+        let row = rows.len() as i32;
+        rows.extend([
+            [32, row + 1, 0, 0],
+            [41, row + 3, -1, row + 2],
+            [10, 1, 0, 0],
+        ]);
+    }
+    rows.push([21, 0, 0, 0]);
+    rows
+}
+
+/// An ALT in an ALT in ..., 1,020 rows deep, with SKIP innermost.
+pub fn deep_alts() -> Vec<[i32; 4]> {
+    let mut rows = Vec::new();
+    while rows.len() < 1_020 {
+        let row = rows.len() as i32;
+        rows.extend([
+            [34, row + 1, 0, 0],
+            [42, row + 5, -1, row + 2],
+            [43, row + 3, row + 4, 0],
+            [10, 1, 0, 0],
+            [21, 0, 0, 0],
+        ]);
+    }
+    rows.push([21, 0, 0, 0]);
+    rows
+}
+
+/// A loop around PARs in one another, 1,020 rows deep, each with a SKIP beside the next.
+pub fn deep_pars_in_a_loop() -> Vec<[i32; 4]> {
+    let mut rows = vec![[33, 1, 2, 0], [10, 1, 0, 0]];
+    while rows.len() < 1_020 {
+        let row = rows.len() as i32;
+        rows.extend([
+            [31, row + 1, 0, 0],
+            [40, row + 2, row + 3, 0],
+            [21, 0, 0, 0],
+            [40, row + 4, -1, 0],
+        ]);
+    }
+    rows.push([21, 0, 0, 0]);
+    rows
+}
+
+/// A SEQ or PAR of as many SKIPs as a table can have, in a loop.
+pub fn wide_in_a_loop(outer: i32) -> Vec<[i32; 4]> {
+    let mut rows = vec![[33, 1, 2, 0], [10, 1, 0, 0], [outer, 3, 0, 0]];
+    while rows.len() < 1_023 {
+        let row = rows.len() as i32;
+        let next = if rows.len() + 2 < 1_023 { row + 2 } else { -1 };
+        rows.extend([[40, row + 1, next, 0], [21, 0, 0, 0]]);
+    }
+    rows
+}
+
+/// Puts a member of a PAR down: its link, then its rows. The links are tied together afterwards.
+fn member(
+    rows: &mut Vec<[i32; 4]>,
+    links: &mut Vec<usize>,
+    process: impl Fn(i32) -> Vec<[i32; 4]>,
+) {
+    let at = rows.len();
+    links.push(at);
+    rows.push([40, at as i32 + 1, -1, 0]);
+    rows.extend(process(at as i32 + 1));
+}
+
+/// 1,023 rows, 256 cells, 256 channel elements, 8 channels from the host and 8 to it, capacities of 1,024.
+pub fn largest() -> Vec<[i32; 4]> {
+    let mut rows: Vec<[i32; 4]> = (0..4).map(|_| [1, 64, 0, 0]).collect();
+    rows.extend([64, 64, 64, 48].map(|size| [2, size, 0, 0]));
+    rows.extend((0..8).map(|_| [2, 1, 1, 0]));
+    rows.extend((0..8).map(|_| [2, 1, 2, 128]));
+    rows.push([31, 25, 0, 0]);
+    let mut links = Vec::new();
+    for k in 0..8 {
+        member(&mut rows, &mut links, |r| {
+            let target = [11, 0, r + 3, 0];
+            vec![
+                [23, 8 + k, r + 1, r + 2],
+                [10, 0, 0, 0],
+                target,
+                [10, k, 0, 0],
+            ]
+        });
+        member(&mut rows, &mut links, |r| {
+            vec![
+                [24, 16 + k, r + 1, r + 2],
+                [10, 0, 0, 0],
+                [10, 100 + k, 0, 0],
+            ]
+        });
+    }
+    for k in 8..239 {
+        member(&mut rows, &mut links, |r| {
+            vec![
+                [22, k / 64, r + 1, r + 2],
+                [10, k % 64, 0, 0],
+                [10, k, 0, 0],
+            ]
+        });
+    }
+    member(&mut rows, &mut links, |_| vec![[21, 0, 0, 0]]);
+    for pair in links.windows(2) {
+        rows[pair[0]][2] = pair[1] as i32;
+    }
+    rows
+}
+
+/// 128 lines of readings for channels 8 to 15, some absent.
+pub fn readings() -> Vec<u8> {
+    let mut sheet = String::from("8,9,10,11,12,13,14,15\n");
+    for line in 0..128_i32 {
+        let field = |k: i32| {
+            if (line + k) % 5 == 4 {
+                String::new()
+            } else {
+                (line * 8 + k).to_string()
+            }
+        };
+        let fields: Vec<String> = (0..8).map(field).collect();
+        sheet.push_str(&fields.join(","));
+        sheet.push('\n');
+    }
+    sheet.into_bytes()
+}
