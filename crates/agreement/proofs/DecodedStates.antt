@@ -2,7 +2,7 @@
 use mathlib.Core.Path.{_≡_, refl, sym, ap, ap₂, _∙_}
 use mathlib.Core.Bool.{true}
 use mathlib.Core.Option.{some}
-use mathlib.Core.List.{List, [], _∷_, _++_, map}
+use mathlib.Core.List.{List, [], _∷_, _++_, map, map-append}
 use Prim.Native.Nat.{ℕ, zero, suc, _<_}
 use native.Mathlib.Omega.{arith}
 use native.Mathlib.Decide.{decLt}
@@ -21,7 +21,7 @@ use Rattle.meaning.proofs.LentLaws.{lent-whole}
 use Rattle.agreement.specs.BufferClaims.{IsNumber, DecodedState, EqualBuffers}
 use Rattle.agreement.proofs.AsDeclared.{reached-as-declared}
 use Rattle.agreement.proofs.GivenLists.{left-given}
-use Rattle.agreement.proofs.HostOutputs.{map-append, output-count}
+use Rattle.agreement.proofs.HostOutputs.{output-count}
 use Rattle.agreement.proofs.MissingMarks.{decoded-cells}
 use Rattle.agreement.proofs.TableLimits.{limited}
 

@@ -7,9 +7,8 @@ use mathlib.Core.List.{List, [], _∷_, _++_, map}
 use Prim.Native.Nat.{ℕ, zero, suc, _<_, _≤_}
 use native.Mathlib.Nat.{suc-inj, suc-ne-zero}
 use lib.IntN.{ℤ}
-use lib.ListN.{length, getD, take, drop, replicate, List·getD-map, length-map}
+use lib.ListN.{length, getD, take, replicate, List·getD-map, length-map}
 use lib.Dec.{eqb}
-use lib.Seq.{take-at}
 use Rattle.meaning.specs.Basics.{ifElse}
 use borrow.Author.Tests.{eqb-false}
 use Rattle.meaning.specs.Limits.{maxCells}
@@ -19,8 +18,8 @@ use Rattle.meaning.specs.Intent.{intent}
 use Rattle.meaning.specs.Ready.{ready, after}
 use Rattle.meaning.specs.Run.{go}
 use Rattle.meaning.specs.Buffers.{sized, lent, mark, numberIn, cellOf, decoded, encode}
+use Rattle.meaning.proofs.LentLaws.{lent-at, lent-front, lent-whole}
 use Rattle.agreement.specs.MissingClaims.{EncodedCells, EncodedDecodes, StoredZeroUnseen, stateWith, SameAnswers}
-use Rattle.meaning.proofs.LentLaws.{sized-length, lent-at, lent-whole}
 
 module _ {A B : Type 0} (f : A → B) (d : A) where
   -- a function of each element, of a list that is cut
@@ -31,9 +30,9 @@ module _ {A B : Type 0} (f : A → B) (d : A) where
   cut-map (suc n) k (x ∷ xs) = ap (λ (l : List B). f x ∷ l) (cut-map n k xs)
 
   -- the part of a lent buffer that a list fills: the list at that length
-  lent-front : (n : ℕ) (xs : List A) (old : List B) → take n (lent n (f d) (map f xs) old) ≡ map f (sized n d xs)
-  unfolding lent sized
-  lent-front n xs old = take-at (sized n (f d) (map f xs)) (drop n old) n (sized-length (f d) n (map f xs)) ∙ cut-map n n xs
+  front-map : (n : ℕ) (xs : List A) (old : List B) → take n (lent n (f d) (map f xs) old) ≡ map f (sized n d xs)
+  unfolding sized
+  front-map n xs old = lent-front (f d) n (map f xs) old ∙ cut-map n n xs
 
   -- an element of it, and the list
   lent-map-at : (n i : ℕ) (xs : List A) (old : List B) → i < n → getD (lent n (f d) (map f xs) old) i (f d) ≡ f (getD xs i d)
@@ -57,7 +56,7 @@ decoded-cells (some z ∷ l) = ap (λ (r : List Message). some z ∷ r) (decoded
 pub encoded-decodes : EncodedDecodes
 unfolding encode
 encoded-decodes rows s b = (
-  ap₂ decoded (lent-front numberIn none maxCells (s .store .cells) (b .cells)) (lent-front mark none maxCells (s .store .cells) (b .marks)) ∙ decoded-cells (sized maxCells none (s .store .cells)),
+  ap₂ decoded (front-map numberIn none maxCells (s .store .cells) (b .cells)) (front-map mark none maxCells (s .store .cells) (b .marks)) ∙ decoded-cells (sized maxCells none (s .store .cells)),
   λ h. ap₂ decoded (lent-map numberIn none maxCells (s .store .cells) (b .cells) h) (lent-map mark none maxCells (s .store .cells) (b .marks) h) ∙ decoded-cells (s .store .cells),
 )
 

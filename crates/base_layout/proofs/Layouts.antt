@@ -1,22 +1,20 @@
--- The layout of a table of at most 1,024 rows stands for what its rows declare.
+-- A list that holds the names of a table's declarations, and then zeros, stands for what its rows declare.
 use mathlib.Core.Path.{_≡_, refl, sym, ap, _∙_}
-use mathlib.Core.Bool.{Bool, true, false, _&&_, _||_, false≢true}
+use mathlib.Core.Bool.{Bool, true, false, _&&_, _||_, and-false, false≢true}
 use mathlib.Core.List.{List}
 use Prim.Native.Nat.{ℕ, zero, suc, _+_, _*_, _<_, _≤_}
-use native.Mathlib.Nat.{add-zero}
 use native.Mathlib.Omega.{arith}
 use lib.IntN.{ℤ}
-use lib.ListN.{length, getD}
+use lib.ListN.{length, getD, List·getD-eq-default}
 use lib.Dec.{ltb, eqb}
 use Rattle.meaning.specs.Basics.{ifElse}
-use borrow.Author.Tests.{lt-ltb, le-ltb, ltb-true, ltb-false, ne-eqb, eqb-true}
-use Rattle.meaning.specs.Rows.{rowCount, naturalAt, kindAt}
+use borrow.Author.Tests.{lt-ltb, ltb-true, ltb-false, ne-eqb, eqb-true}
+use Rattle.meaning.specs.Rows.{naturalAt, kindAt}
 use Rattle.meaning.specs.Declarations as declared
 use Rattle.meaning.specs.Declarations.{declarations, noVariable, noChannel, sumBelow, isVariable, isChannel, cellsAt, elementsAt, hostChannelsAt, capacityAt, variableAt, channelAt, sourceAt, sinkAt}
 use Rattle.base_layout.specs.declared.Name.{Name}
-use Rattle.base_layout.specs.Names.{variableName, innerName, sourceName, sinkName, nameAt, noName, namesOf, variableIn, channelIn, hostNumber, Named}
-use Rattle.base_rows.proofs.Leading.{declarations-at-most}
-use Rattle.base_layout.proofs.NameLists.{late-name, names-length, number-at}
+use Rattle.base_layout.specs.Names.{variableName, innerName, sourceName, sinkName, nameAt, noName, numbersOf, namesOf, variableIn, channelIn, hostNumber, Named}
+use Rattle.base_layout.proofs.NameLists.{Begins, late-name, names-length, number-at}
 
 -- the variable and the channel that a name stands for
 abbrev pub namedVariable : Name → declared.Variable
@@ -30,32 +28,37 @@ namedChannel sort n =
     let inner : declared.Channel = record { first = n .first; size = n .size; host = false; number = 0; capacity = 0 } in
     ifElse (eqb (n .sort) sort) host (ifElse (eqb (n .sort) 2) inner noChannel)
 
-module _ (rows : List ℤ) (a : ℕ) where
-  abbrev names : List ℕ
-  names = namesOf rows 1024
+module _ (rows : List ℤ) (names : List ℕ) (room : 5 * declarations rows ≤ length names) (begins : Begins names (namesOf rows (declarations rows))) (a : ℕ) where
+  -- the numbers of a declaration
+  number-is : (j : ℕ) → a < declarations rows → j < 5 → getD names (5 * a + j) 0 ≡ getD (numbersOf (nameAt rows a)) j 0
+  number-is j h k = begins (5 * a + j) ∙ number-at rows (declarations rows) a j h k
 
-  first-number : getD names (5 * a) 0 ≡ getD names (5 * a + 0) 0
-  first-number = rw add-zero
+  first-number : a < declarations rows → getD names (5 * a) 0 ≡ nameAt rows a .sort
+  first-number h = let e : 5 * a ≡ 5 * a + 0 = omega arith in ap (λ (i : ℕ). getD names i 0) e ∙ number-is 0 h (omega arith)
 
-  variable-inside : a < 1024 → variableIn names a ≡ namedVariable (nameAt rows a)
+  variable-inside : a < declarations rows → variableIn names a ≡ namedVariable (nameAt rows a)
   unfolding variableIn
   variable-inside h =
-      simp (lt-ltb (5 * a + 4) (length names) (omega (arith, names-length rows 1024)), first-number, number-at rows 1024 a 0 h (omega arith), number-at rows 1024 a 1 h (omega arith), number-at rows 1024 a 2 h (omega arith))
+      simp (lt-ltb (5 * a + 4) (length names) (omega arith), first-number h, number-is 1 h (omega arith), number-is 2 h (omega arith))
 
-  channel-inside : (sort : ℕ) → a < 1024 → channelIn names sort a ≡ namedChannel sort (nameAt rows a)
+  channel-inside : (sort : ℕ) → a < declarations rows → channelIn names sort a ≡ namedChannel sort (nameAt rows a)
   unfolding channelIn
   channel-inside sort h =
-      simp (lt-ltb (5 * a + 4) (length names) (omega (arith, names-length rows 1024)), first-number, number-at rows 1024 a 0 h (omega arith), number-at rows 1024 a 1 h (omega arith), number-at rows 1024 a 2 h (omega arith), number-at rows 1024 a 3 h (omega arith), number-at rows 1024 a 4 h (omega arith))
+      simp (lt-ltb (5 * a + 4) (length names) (omega arith), first-number h, number-is 1 h (omega arith), number-is 2 h (omega arith), number-is 3 h (omega arith), number-is 4 h (omega arith))
 
-  -- past the layout there is nothing
-  variable-past : 1024 ≤ a → variableIn names a ≡ noVariable
+  -- past the declarations there is nothing
+  no-sort : declarations rows ≤ a → getD names (5 * a) 0 ≡ 0
+  no-sort h = begins (5 * a) ∙ List·getD-eq-default (namesOf rows (declarations rows)) 0 (omega (arith, names-length rows (declarations rows)))
+
+  variable-past : declarations rows ≤ a → variableIn names a ≡ noVariable
   unfolding variableIn
-  variable-past h = simp (le-ltb (5 * a + 4) (length names) (omega (arith, names-length rows 1024)))
+  variable-past h = simp (no-sort h, and-false)
 
-  channel-past : (sort : ℕ) → 1024 ≤ a → channelIn names sort a ≡ noChannel
+  channel-past : (sort : ℕ) → 0 < sort → declarations rows ≤ a → channelIn names sort a ≡ noChannel
   unfolding channelIn
-  channel-past sort h = simp (le-ltb (5 * a + 4) (length names) (omega (arith, names-length rows 1024)))
+  channel-past sort g h = simp (no-sort h, and-false, ne-eqb 0 sort (λ e. omega arith))
 
+module _ (rows : List ℤ) (a : ℕ) where
   -- what a row names, by whether it declares a variable, whether a channel, and the role
   abbrev nameBy : Bool → Bool → ℕ → Name
   nameBy v t role = ifElse v (variableName rows a) (ifElse (t && eqb role 0) (innerName rows a) (ifElse (t && eqb role 1) (sourceName rows a) (ifElse (t && eqb role 2) (sinkName rows a) noName)))
@@ -118,23 +121,20 @@ module _ (rows : List ℤ) (a : ℕ) where
       go false true (suc (suc zero)) x y = refl
       go false true (suc (suc (suc k))) x y = simp (ne-eqb (suc (suc (suc k))) 0 (λ e. omega arith), ne-eqb (suc (suc (suc k))) 1 (λ e. omega arith), ne-eqb (suc (suc (suc k))) 2 (λ e. omega arith))
 
-  -- no row past 1,024 declares anything, where there are no more rows
-  module _ (n : rowCount rows ≤ 1024) (h : 1024 ≤ a) where
-    undeclared : nameAt rows a ≡ noName
-    undeclared = late-name rows a (omega (arith, declarations-at-most rows))
-
--- the layout of a table of at most 1,024 rows
-pub named : (rows : List ℤ) → rowCount rows ≤ 1024 → Named rows (namesOf rows 1024)
-named rows n = record { variables = λ a. v a (ltb a 1024) refl; sources = λ a. s a (ltb a 1024) refl; sinks = λ a. k a (ltb a 1024) refl }
+pub named : (rows : List ℤ) (names : List ℕ) → 5 * declarations rows ≤ length names → Begins names (namesOf rows (declarations rows)) → Named rows names
+named rows names room begins = record { variables = λ a. v a (ltb a n) refl; sources = λ a. s a (ltb a n) refl; sinks = λ a. k a (ltb a n) refl }
   where
-    v : (a : ℕ) (t : Bool) → ltb a 1024 ≡ t → variableIn (namesOf rows 1024) a ≡ variableAt rows a
-    v a true e = variable-inside rows a (ltb-true a 1024 e) ∙ variable-declared rows a
-    v a false e = let h = ltb-false a 1024 e in variable-past rows a h ∙ ap namedVariable (sym (undeclared rows a n h)) ∙ variable-declared rows a
+    n : ℕ
+    n = declarations rows
 
-    s : (a : ℕ) (t : Bool) → ltb a 1024 ≡ t → channelIn (namesOf rows 1024) 3 a ≡ hostNumber (sourceAt rows a)
-    s a true e = channel-inside rows a 3 (ltb-true a 1024 e) ∙ source-declared rows a
-    s a false e = let h = ltb-false a 1024 e in channel-past rows a 3 h ∙ ap (namedChannel 3) (sym (undeclared rows a n h)) ∙ source-declared rows a
+    v : (a : ℕ) (t : Bool) → ltb a n ≡ t → variableIn names a ≡ variableAt rows a
+    v a true e = variable-inside rows names room begins a (ltb-true a n e) ∙ variable-declared rows a
+    v a false e = let h = ltb-false a n e in variable-past rows names room begins a h ∙ ap namedVariable (sym (late-name rows a h)) ∙ variable-declared rows a
 
-    k : (a : ℕ) (t : Bool) → ltb a 1024 ≡ t → channelIn (namesOf rows 1024) 4 a ≡ hostNumber (sinkAt rows a)
-    k a true e = channel-inside rows a 4 (ltb-true a 1024 e) ∙ sink-declared rows a
-    k a false e = let h = ltb-false a 1024 e in channel-past rows a 4 h ∙ ap (namedChannel 4) (sym (undeclared rows a n h)) ∙ sink-declared rows a
+    s : (a : ℕ) (t : Bool) → ltb a n ≡ t → channelIn names 3 a ≡ hostNumber (sourceAt rows a)
+    s a true e = channel-inside rows names room begins a 3 (ltb-true a n e) ∙ source-declared rows a
+    s a false e = let h = ltb-false a n e in channel-past rows names room begins a 3 (omega arith) h ∙ ap (namedChannel 3) (sym (late-name rows a h)) ∙ source-declared rows a
+
+    k : (a : ℕ) (t : Bool) → ltb a n ≡ t → channelIn names 4 a ≡ hostNumber (sinkAt rows a)
+    k a true e = channel-inside rows names room begins a 4 (ltb-true a n e) ∙ sink-declared rows a
+    k a false e = let h = ltb-false a n e in channel-past rows names room begins a 4 (omega arith) h ∙ ap (namedChannel 4) (sym (late-name rows a h)) ∙ sink-declared rows a

@@ -1,15 +1,17 @@
--- The layout as a list: five numbers put in after those of the rows before, and zeros after the last declaration.
+-- The layout as a list: five numbers put in after those of the rows before, and zeros after the last.
 use mathlib.Core.Path.{_≡_, refl, sym, ap, _∙_}
 use mathlib.Core.Bool.{Bool, true, false}
 use mathlib.Core.List.{List, [], _∷_, _++_, append-assoc}
-use Prim.Native.Nat.{ℕ, zero, suc, _+_, _-_, _*_, _<_, _≤_}
+use Prim.Native.Nat.{ℕ, zero, suc, _+_, _*_, _<_, _≤_}
 use native.Mathlib.Numerals.{add-one}
 use native.Mathlib.Omega.{arith}
 use lib.IntN.{ℤ}
-use lib.ListN.{length, getD, set, replicate, length-append, length-set, List·getD-eq-default, List·getD-append}
+use lib.ListN.{length, getD, set, length-append, length-set, List·getD-eq-default, List·getD-append}
 use lib.Seq.{getD-set-same, getD-set-other, getD-append-seam, getD-append-add, ext-getD}
 use lib.Dec.{ltb, eqb}
 use Rattle.meaning.specs.Declarations.{declarations}
+use Rattle.meaning.specs.Buffers.{sized}
+use Rattle.meaning.proofs.LentLaws.{sized-length, sized-at}
 use borrow.Author.Tests.{le-ltb, ltb-true, ltb-false, eqb-true, eqb-false}
 use Rattle.base_layout.specs.declared.Name.{Name}
 use Rattle.base_layout.specs.Names.{nameAt, noName, numbersOf, namesOf}
@@ -65,17 +67,9 @@ put-five l xs a b c d e n p h begins i =
     let q : x4 ++ (e ∷ []) ≡ xs ++ (a ∷ b ∷ c ∷ d ∷ e ∷ []) = simp append-assoc in
     b5 i ∙ ap (λ (xs : List ℕ). getD xs i 0) q
 
--- zeros at the end change nothing
-zeros-after : (xs : List ℕ) (k i : ℕ) → getD (xs ++ replicate k 0) i 0 ≡ getD xs i 0
-zeros-after [] zero i = refl
-zeros-after [] (suc k) zero = refl
-zeros-after [] (suc k) (suc i) = zeros-after [] k i
-zeros-after (x ∷ xs) k zero = refl
-zeros-after (x ∷ xs) k (suc i) = zeros-after xs k i
-
-pub begins-empty : (rows : List ℤ) (k : ℕ) → Begins (replicate k 0) (namesOf rows 0)
-unfolding namesOf
-begins-empty rows k i = zeros-after [] k i
+-- such a list is what it holds, filled up with zeros
+pub begins-sized : (l xs : List ℕ) (n : ℕ) → length l ≡ n → Begins l xs → l ≡ sized n 0 xs
+begins-sized l xs n e b = ext-getD 0 l (sized n 0 xs) (e ∙ sym (sized-length 0 n xs)) (λ i h. b i ∙ sym (sized-at 0 n i xs (omega arith)))
 
 -- the numbers of one more row
 pub next-row : (rows : List ℤ) (r : ℕ) (n : Name) → n ≡ nameAt rows r → namesOf rows r ++ numbersOf n ≡ namesOf rows (r + 1)
@@ -92,23 +86,6 @@ module _ (rows : List ℤ) where
   unfolding namesOf
   names-length zero = refl
   names-length (suc n) = omega (arith, names-length n, length-append (namesOf rows n) (numbersOf (nameAt rows n)))
-
-  names-after : (d k i : ℕ) → declarations rows ≤ d → getD (namesOf rows d) i 0 ≡ getD (namesOf rows (k + d)) i 0
-  unfolding namesOf
-  names-after d zero i h = let e : 0 + d ≡ d = omega arith in ap (λ (n : ℕ). getD (namesOf rows n) i 0) (sym e)
-  names-after d (suc k) i h =
-      let e : suc k + d ≡ suc (k + d) = omega arith in
-      names-after d k i h
-      ∙ sym (zeros-after (namesOf rows (k + d)) 5 i)
-      ∙ sym (ap (λ (n : Name). getD (namesOf rows (k + d) ++ numbersOf n) i 0) (late-name rows (k + d) (omega arith)))
-      ∙ sym (ap (λ (n : ℕ). getD (namesOf rows n) i 0) e)
-
-  -- the numbers of all declarations, and then zeros: the layout
-  pub whole-layout : (l : List ℕ) (d : ℕ) → declarations rows ≡ d → d ≤ 1024 → length l ≡ 5120 → Begins l (namesOf rows d) → l ≡ namesOf rows 1024
-  whole-layout l d e h n b =
-      let m : (1024 - d) + d ≡ 1024 = omega arith in
-      ext-getD 0 l (namesOf rows 1024) (omega (arith, names-length 1024))
-      (λ i q. b i ∙ names-after d (1024 - d) i (omega arith) ∙ ap (λ (n : ℕ). getD (namesOf rows n) i 0) m)
 
   -- number j of row a
   pub number-at : (n a j : ℕ) → a < n → j < 5 → getD (namesOf rows n) (5 * a + j) 0 ≡ getD (numbersOf (nameAt rows a)) j 0

@@ -1,21 +1,15 @@
 // The layout of a table: what each row names, prepared once and read from then on.
 ghost use mathlib.Core.Path.{_≡_};
-ghost use Prim.Native.Nat.{ℕ, suc, _<_, _≤_};
+ghost use Prim.Native.Nat.{ℕ, suc, _*_, _<_, _≤_};
 ghost use lib.ListN.{length, getD};
-ghost use Rattle.meaning.specs.Rows.{rowCount};
-ghost use Rattle.meaning.specs.Declarations as table;
-ghost use Rattle.meaning.specs.Declarations.{noChannel};
+ghost use Rattle.meaning.specs.Buffers.{sized};
+ghost use Rattle.meaning.specs.Declarations.{declarations, noChannel};
 ghost use Rattle.meaning.specs.Faults.{WithinLimits};
 ghost use Rattle.base_layout.specs.Names.{DeclarationReached, Named, nameAt, namesOf, sumsBelow, extentOf, variableIn, channelOf, channelIn};
 
 pub mod nodes; // nodes.rt: the numbers of a row, and the rows that it refers to
 
 use nodes::natural;
-
-// Five numbers for each of 1,024 rows: its sort, first, size, host channel number and capacity.
-pub struct Layout {
-    pub names: [u16; 5120],
-}
 
 // The sort of what a row names: 0 nothing, 1 a variable, 2 an inner channel, 3 one from the host, 4 one to the host; its
 // first cell or element, and how many; of a host channel its number among those of its role, and its capacity.
@@ -36,7 +30,7 @@ pub struct Sums {
 }
 
 // The sums with those of row r.
-fn with_row(rows: &[i32], r: usize, s: Sums) -> Sums
+pub fn with_row(rows: &[i32], r: usize, s: Sums) -> Sums
     requires { ⌜ DeclarationReached (now rows) r s ⌝ }
     ensures { λ t. ⌜ t ≡ sumsBelow (now (rows .entry)) (suc r) ⌝ }
 {
@@ -73,7 +67,7 @@ fn with_row(rows: &[i32], r: usize, s: Sums) -> Sums
 }
 
 // What row r names, from the sums of the rows before it.
-fn name_of(rows: &[i32], r: usize, s: Sums) -> Name
+pub fn name_of(rows: &[i32], r: usize, s: Sums) -> Name
     requires { ⌜ DeclarationReached (now rows) r s ⌝ }
     ensures { λ n. ⌜ n ≡ nameAt (now (rows .entry)) r ⌝ }
 {
@@ -119,14 +113,14 @@ fn name_of(rows: &[i32], r: usize, s: Sums) -> Name
     }
 }
 
-// The layout of a table within the limits.
-pub fn layout_of(rows: &[i32]) -> Layout
-    requires { ⌜ (rowCount (now rows) ≤ 1024) × ((r : ℕ) → r < table.declarations (now rows) → WithinLimits (now rows) r) ⌝ }
-    ensures numbers { λ l. ⌜ l .names ≡ namesOf (now (rows .entry)) 1024 ⌝ }
-    ensures meaning { λ l. ⌜ Named (now (rows .entry)) (l .names) ⌝ }
+// Notes what each declaration of a table within the limits names, five numbers each, in a list of zeros with room for them.
+pub fn note_names(rows: &[i32], names: &mut [u16])
+    requires limits { ⌜ ((r : ℕ) → r < declarations (now rows) → WithinLimits (now rows) r) ⌝ }
+    requires room { ⌜ (5 * declarations (now rows) ≤ length (now names)) × ((i : ℕ) → getD (now names) i 0 ≡ 0) ⌝ }
+    ensures numbers { λ _. ⌜ now (names .exit) ≡ sized (length (now (names .entry))) 0 (namesOf (now (rows .entry)) (declarations (now (rows .entry)))) ⌝ }
+    ensures meaning { λ _. ⌜ Named (now (rows .entry)) (now (names .exit)) ⌝ }
 {
     let n = base_rows::declarations(rows);
-    let mut names = [0u16; 5120];
     let mut s = Sums {
         cells: 0,
         elements: 0,
@@ -145,7 +139,6 @@ pub fn layout_of(rows: &[i32]) -> Layout
         s = with_row(rows, r, s);
         r += 1;
     }
-    Layout { names }
 }
 
 // Number i of the layout.

@@ -11,6 +11,7 @@ use lib.Pow.{pow-pos}
 use lib.Bits.{bitOr, or-lt, or-zero-l}
 use borrow.Author.Tests.{ltb-true, ltb-false, eq-eqb, ne-eqb, eqb-true, eqb-false}
 use Rattle.meaning.specs.Basics.{ifElse, anyPasses, among}
+use Rattle.meaning.proofs.LentLaws.{defaults-at}
 use Rattle.base_sets.specs.Sets.{withOne, withAll, setUnion, noNumbers}
 use Rattle.base_sets.proofs.Bools.{or-assoc, or-comm, or-front}
 use Rattle.base_sets.proofs.Words.{on, or-on, power-on, zero-on, power-below}
@@ -81,13 +82,8 @@ all-holds ws (n ∷ l) t y h ht hy =
     ∙ or-front (among (4 * y + t) l) (eqb (4 * y + t) n) (holds ws t y)
     ∙ sym (or-assoc (eqb (4 * y + t) n) (among (4 * y + t) l) (holds ws t y))
 
-zero-at : (n j : ℕ) → _≡_ {A = ℕ} (getD (replicate n 0) j 0) 0
-zero-at zero j = refl
-zero-at (suc n) zero = refl
-zero-at (suc n) (suc j) = zero-at n j
-
 pub none-holds : (t y : ℕ) → holds noNumbers t y ≡ false
-none-holds t y = ap (λ (w : ℕ). on w (y % 64)) (zero-at 16 (4 * t + y / 64)) ∙ zero-on (y % 64)
+none-holds t y = ap (λ (w : ℕ). on w (y % 64)) (defaults-at 0 16 (4 * t + y / 64)) ∙ zero-on (y % 64)
 
 -- Two joined ----------------------------------------------------------------------------------------------------------------------
 

@@ -19,13 +19,14 @@ use Rattle.meaning.specs.Buffers.{capacities}
 use Rattle.meaning.specs.Answers.{check}
 use Rattle.meaning.specs.PrintedForms.{each-none, each-more}
 use Rattle.meaning.specs.Run.{run}
+use Rattle.meaning.proofs.LentLaws.{defaults-at}
 use Rattle.agreement.proofs.KnownStates.{set-keeps}
 use Rattle.agreement.proofs.RunTakesOrder.{run-takes-order}
 use Rattle.machine.proofs.Declared.{capacities-length, capacities-sum, room}
 use Rattle.machine.proofs.NamesInRange.{SinkIn, ActionIn, names-in}
 use Rattle.machine.proofs.StateSizes.{lengths}
 use Rattle.write_lines.proofs.Encoded.{Numbers, Within, within-none, within-more, Held}
-use Rattle.call_runner.proofs.Lists.{all-the-same, each-both}
+use Rattle.call_runner.proofs.Lists.{each-both}
 
 -- a list of numbers that is within a capacity
 abbrev Fits : ℕ → List Message → Type 0
@@ -45,7 +46,7 @@ module _ (rows : List ℤ) where
 
   begins-fits : (s : State) → Begins (program rows) s → ListsFit (s .store)
   unfolding program
-  begins-fits s b p = rw (b .unwritten, all-the-same {A = List Message} (hostChannels 2 rows) p []) (omega arith, each-none)
+  begins-fits s b p = rw (b .unwritten, defaults-at {A = List Message} [] (hostChannels 2 rows) p) (omega arith, each-none)
 
   sink-in : (s : State) (r : ℕ) (c : Channel) (e f : Expr) → Live (program rows) s r (output c e f) → SinkIn rows c
   sink-in s r c e f (live p z i) = subst (λ (q : Process). ActionIn rows (actionOf q)) p (names-in rows r)

@@ -30,10 +30,11 @@ use Rattle.meaning.specs.Order.{Begins, Order, halt, next-step, OrderOf}
 use Rattle.meaning.specs.PrintedForms.{Each, each-none, each-more, In32, IsReading}
 use Rattle.agreement.proofs.KnownStates.{set-keeps}
 use Rattle.meaning.specs.ContentClaims.{higherContent}
+use Rattle.meaning.proofs.LentLaws.{defaults-at}
 use Rattle.agreement.proofs.TableTree.{process-is, Known, every-row}
 use Rattle.base_numbers.proofs.Ranges.{in-range}
 use Rattle.base_numbers.proofs.Turning.{turned-up-fits, turned-down-fits, remainder-small}
-use Rattle.call_runner.proofs.Lists.{all-the-same, each-at, each-both}
+use Rattle.call_runner.proofs.Lists.{each-at, each-both}
 
 -- Values ------------------------------------------------------------------------------------------------------------------------
 
@@ -258,8 +259,8 @@ module _ (rows : List ℤ) (numbers : Each In32 rows) where
   unfolding program
   begins-in s b =
       record {
-        cells = λ i. rw (b .unset, all-the-same {A = Message} (totalCells rows) i none) tt;
-        outputs = λ p. rw (b .unwritten, all-the-same {A = List Message} (hostChannels 2 rows) p []) each-none;
+        cells = λ i. rw (b .unset, defaults-at {A = Message} none (totalCells rows) i) tt;
+        outputs = λ p. rw (b .unwritten, defaults-at {A = List Message} [] (hostChannels 2 rows) p) each-none;
       }
 
   -- a cell is written

@@ -1,16 +1,8 @@
--- Laws of lists: each of a list, of parts of it, at a place; lists of one thing.
-use mathlib.Core.Path.{_≡_, refl}
+-- Laws of lists: each of a list, of parts of it, at a place.
 use mathlib.Core.List.{List, [], _∷_, _++_}
 use Prim.Native.Nat.{ℕ, zero, suc}
-use lib.ListN.{getD, take, drop, replicate}
+use lib.ListN.{getD, take, drop}
 use Rattle.meaning.specs.PrintedForms.{Each, each-none, each-more}
-
-module _ {A : Type 0} where
-  -- what is asked for past the end is what stands everywhere
-  pub all-the-same : (n i : ℕ) (d : A) → getD (replicate n d) i d ≡ d
-  all-the-same zero i d = refl
-  all-the-same (suc n) zero d = refl
-  all-the-same (suc n) (suc i) d = all-the-same n i d
 
 module _ {A : Type 0} {P : A → Type 0} where
   pub each-at : (d : A) → P d → {l : List A} → Each P l → (i : ℕ) → P (getD l i d)

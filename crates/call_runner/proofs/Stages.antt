@@ -23,13 +23,13 @@ use Rattle.meaning.specs.Runner.{printedResult, runner}
 use Rattle.meaning.specs.Buffers.{Buffers}
 use Rattle.meaning.specs.PrintedForms.{Each, In32}
 use Rattle.meaning.proofs.AnswerLaws.{accepted, result-stages}
+use Rattle.meaning.proofs.LentLaws.{blank-at}
 use Rattle.agreement.proofs.VerdictStages.{whole-passes}
 use Rattle.machine.specs.Held.{blank}
 use Rattle.machine.proofs.HeldLaws.{states-are}
-use Rattle.machine.proofs.LentLists.{lent-at}
 use Rattle.write_buffers.specs.declared.Done.{Done}
 use Rattle.write_buffers.specs.Replies.{replyIn}
-use Rattle.call_table.proofs.Stages.{task-run}
+use Rattle.call_tasks.proofs.Stages.{task-run}
 use Rattle.write_lines.specs.declared.Parts.{Parts}
 use Rattle.write_lines.specs.Decoding.{tableRows, stateIn}
 use Rattle.write_lines.specs.Splitting.{Splits}
@@ -96,7 +96,7 @@ module _ (rows : List ℤ) (sheet : List ℕ) (d : Done) (e : replyIn d ≡ repl
     states-bytes b =
         let few : length (ending .state .states) ≤ maxRows = (let a = held .states-all in let c = held .rows-few in omega arith) in
         let is = states-are rows (ending .state) (replyIn d .buffers) (ap (λ (r : Reply). r .buffers) (e ∙ ap (replyOf rows blank) runs)) in
-        each-of 0 (ending .state .states) (λ i. subst (λ (n : ℕ). n < 256) (ap (λ (l : List ℕ). getD l i 0) is ∙ lent-at maxRows i 0 (ending .state .states) few) (b i))
+        each-of 0 (ending .state .states) (λ i. subst (λ (n : ℕ). n < 256) (ap (λ (l : List ℕ). getD l i 0) is ∙ blank-at 0 maxRows i (ending .state .states) few) (b i))
 
     -- so its printed text is short
     run-fits : Each In32 rows → ((i : ℕ) → getD (d .states) i 0 < 256) → length printed ≤ maxPrintedText

@@ -14,7 +14,7 @@ ghost use Rattle.meaning.specs.PrintedForms.{Each, In32};
 ghost use Rattle.write_bytes.specs.Writing.{printedIn};
 ghost use Rattle.call_runner.specs.PrintedTexts.{taskOf, maxPrintedText, printedBytes};
 use meaning::Answer;
-use meaning::Verdict;
+use read_table::TableRead;
 use write_buffers::Done;
 
 // What is printed: its bytes at the start of a buffer that holds every printed text, zeros after them, and how many they are.
@@ -46,7 +46,7 @@ fn task_done(rows: &[i32], sheet: &[u8]) -> Done
     let choices = [0u16; 0];
     let mut readied = [0u16; 1];
     let mut taken = [0u16; 1];
-    call_table::tasks::do_rows(rows, sheet, &choices, 65536, &mut readied, &mut taken)
+    call_tasks::do_rows(rows, sheet, &choices, 65536, &mut readied, &mut taken)
 }
 
 // The printed text of rows and a sheet.
@@ -79,20 +79,16 @@ fn rows_printed_text(rows: &[i32], sheet: &[u8], out: &mut [u8]) -> usize
     }
 }
 
-// The printed text of a table's bytes and a sheet: the table is read first.
+// The printed text of a table's bytes and a sheet: the table is read first, into room for every table.
 fn table_printed_text(table: &[u8], sheet: &[u8], out: &mut [u8]) -> usize
     ensures { λ n. ⌜ (n, now (out .exit)) ≡ printedIn (printedResult (rowsOf (now (table .entry))) (resultOfBytes (now (table .entry)) (now (sheet .entry)) [] maxBudget)) (now (out .entry)) ⌝ }
     ensures { λ n. ⌜ length (printedResult (rowsOf (now (table .entry))) (resultOfBytes (now (table .entry)) (now (sheet .entry)) [] maxBudget)) ≤ maxPrintedText ⌝ }
 {
-    let read = read_table::read_table(table);
-    let verdict = read.verdict;
-    match verdict {
-        Verdict::Rejected(number, place) => refusal_printed_text(number, place, out),
-        Verdict::Accepted => {
-            let n = 4 * read.count;
-            let rows = read.rows;
-            rows_printed_text(&rows[..n], sheet, out)
-        }
+    let mut rows = [0i32; 4096];
+    match read_table::read_table(table, &mut rows) {
+        TableRead::Refused(number, place) => refusal_printed_text(number, place, out),
+        TableRead::Rows(n) => rows_printed_text(&rows[..4 * n], sheet, out),
+        TableRead::Full => refusal_printed_text(3, 1024, out),
     }
 }
 

@@ -15,7 +15,7 @@ use Rattle.write_buffers.specs.Replies.{putReply, anyShort}
 use Rattle.write_buffers.proofs.RepliesPut.{shortIn, rows-short, rows-long, bytes-short, bytes-long}
 use Rattle.run_trace.proofs.Shown.{lists-left, lists-left-by-bytes}
 use Rattle.run_trace.proofs.Replies.{rows-traced, bytes-traced}
-use Rattle.call_table.specs.Tasks.{taskDone, tableDone}
+use Rattle.call_tasks.specs.Tasks.{taskDone, tableDone}
 
 module _ (b : Buffers) (l : TraceLists) (shown : List Shown) (q : Result) where
   lists-untouched : shortIn b ≡ true → l ≡ listsAfter (unless (bufferFault b) q) shown l

@@ -2,9 +2,6 @@
 ghost use mathlib.Core.Path.{_≡_};
 ghost use Rattle.meaning.specs.Answers.{reply, replyToBytes};
 ghost use Rattle.meaning.specs.Trace.{replyTraced, replyToBytesTraced};
-
-pub mod tasks; // tasks.rt: the stages of a call in their order, then the run
-
 use meaning::Answer;
 
 // A run of rows lent as numbers.
@@ -34,7 +31,7 @@ pub fn run_rows(
     }
     let mut readied = [0u16; 1];
     let mut taken = [0u16; 1];
-    let done = tasks::do_rows(rows, sheet, choices, budget, &mut readied, &mut taken);
+    let done = call_tasks::do_rows(rows, sheet, choices, budget, &mut readied, &mut taken);
     write_buffers::put_done(done, cells, marks, states, places, numbers, counts)
 }
 
@@ -65,7 +62,7 @@ pub fn run_table(
     }
     let mut readied = [0u16; 1];
     let mut taken = [0u16; 1];
-    let done = tasks::do_table(table, sheet, choices, budget, &mut readied, &mut taken);
+    let done = call_tasks::do_table(table, sheet, choices, budget, &mut readied, &mut taken);
     write_buffers::put_done(done, cells, marks, states, places, numbers, counts)
 }
 
@@ -99,7 +96,7 @@ pub fn run_rows_traced(
     ) {
         return Answer::Refused(1, 0);
     }
-    let done = tasks::do_rows(rows, sheet, choices, budget, readied, taken);
+    let done = call_tasks::do_rows(rows, sheet, choices, budget, readied, taken);
     write_buffers::put_done(done, cells, marks, states, places, numbers, counts)
 }
 
@@ -133,6 +130,6 @@ pub fn run_table_traced(
     ) {
         return Answer::Refused(1, 0);
     }
-    let done = tasks::do_table(table, sheet, choices, budget, readied, taken);
+    let done = call_tasks::do_table(table, sheet, choices, budget, readied, taken);
     write_buffers::put_done(done, cells, marks, states, places, numbers, counts)
 }

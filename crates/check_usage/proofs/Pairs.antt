@@ -1,7 +1,7 @@
 -- Components compared each with all before it are the components compared two by two.
 use mathlib.Core.Path.{_≡_, refl, sym, ap, ap₂, _∙_}
 use mathlib.Core.Bool.{Bool, false, _||_}
-use mathlib.Core.List.{List, [], _∷_, _++_, map}
+use mathlib.Core.List.{List, [], _∷_, _++_, map, map-append}
 use Prim.Native.Nat.{ℕ}
 use Rattle.meaning.specs.Basics.{anyPasses, among, common}
 use Rattle.meaning.specs.Tree.{Action, Process, Processes, empty, also}
@@ -113,10 +113,6 @@ module _ (test : Usage → Usage → Bool) where
     abbrev comparison : Pair → Comparison
     comparison q = record { number = number; row = r; pair = q }
 
-    map-append : (l m : List Pair) → map comparison (l ++ m) ≡ map comparison l ++ map comparison m
-    map-append [] m = refl
-    map-append (q ∷ l) m = ap (λ (k : List Comparison). comparison q ∷ k) (map-append l m)
-
     pairs-with : (p : Process) (ms : Processes) → anyPasses clashes (map comparison (pairsWith p ms)) ≡ anyWith (gather p) ms
     unfolding anyPasses
     pairs-with p empty = refl
@@ -126,6 +122,6 @@ module _ (test : Usage → Usage → Bool) where
     unfolding anyPasses
     pairs-any empty = refl
     pairs-any (also p ms) =
-        ap (anyPasses clashes) (map-append (pairsWith p ms) (pairs ms))
+        ap (anyPasses clashes) (map-append comparison (pairsWith p ms) (pairs ms))
         ∙ any-append clashes (map comparison (pairsWith p ms)) (map comparison (pairs ms))
         ∙ ap₂ (λ (a b : Bool). a || b) (pairs-with p ms) (pairs-any ms)

@@ -11,7 +11,7 @@ ghost use Rattle.check_usage.specs.Clashes.{earliest};
 
 mod clash; // clash.rt: clashes of the members of a PAR
 
-use base_layout::layout_of;
+use base_layout::note_names;
 use clash::clash_at;
 use meaning::Verdict;
 
@@ -54,11 +54,17 @@ fn usage_fault_with<'a>(rows: &'a [i32], names: &'a [u16]) -> Verdict
     Verdict::Accepted
 }
 
-// The refusal of a table within the limits.
+// The refusal of a table within the limits. A table of at most 200 rows has room in a shorter list of names.
 pub fn usage_fault(rows: &[i32]) -> Verdict
     requires { ⌜ (rowCount (now rows) ≤ 1024) × (limitFault (now rows) ≡ none) ⌝ }
     ensures { λ v. ⌜ v ≡ verdictOf (usageFault (now (rows .entry))) ⌝ }
 {
-    let l = layout_of(rows);
-    usage_fault_with(rows, &l.names)
+    if rows.len() <= 800 {
+        let mut names = [0u16; 1000];
+        note_names(rows, &mut names);
+        return usage_fault_with(rows, &names);
+    }
+    let mut names = [0u16; 5120];
+    note_names(rows, &mut names);
+    usage_fault_with(rows, &names)
 }

@@ -2,6 +2,7 @@
 ghost use mathlib.Core.Path.{_≡_};
 ghost use Rattle.meaning.specs.Answers.{check, checkBytes, verdictOf};
 use meaning::Verdict;
+use read_table::TableRead;
 
 // The verdict on rows lent as numbers: the stages 3 to 9, in their order.
 pub fn check_rows(rows: &[i32]) -> Verdict
@@ -18,14 +19,22 @@ pub fn check_rows(rows: &[i32]) -> Verdict
 pub fn check_table(table: &[u8]) -> Verdict
     ensures { λ v. ⌜ v ≡ verdictOf (checkBytes (now (table .entry))) ⌝ }
 {
-    let read = read_table::read_table(table);
-    let verdict = read.verdict;
-    match verdict {
-        Verdict::Rejected(number, place) => Verdict::Rejected(number, place),
-        Verdict::Accepted => {
-            let n = 4 * read.count;
-            let rows = read.rows;
-            check_rows(&rows[..n])
-        }
+    let mut small = [0i32; 512];
+    match read_table::read_table(table, &mut small) {
+        TableRead::Refused(number, place) => Verdict::Rejected(number, place),
+        TableRead::Rows(n) => check_rows(&small[..4 * n]),
+        TableRead::Full => check_large(table),
+    }
+}
+
+// The same for a table of more than 128 rows; there is room for every table.
+fn check_large(table: &[u8]) -> Verdict
+    ensures { λ v. ⌜ v ≡ verdictOf (checkBytes (now (table .entry))) ⌝ }
+{
+    let mut large = [0i32; 4096];
+    match read_table::read_table(table, &mut large) {
+        TableRead::Refused(number, place) => Verdict::Rejected(number, place),
+        TableRead::Rows(n) => check_rows(&large[..4 * n]),
+        TableRead::Full => Verdict::Rejected(3, 1024),
     }
 }

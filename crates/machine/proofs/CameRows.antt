@@ -20,6 +20,7 @@ use Rattle.meaning.specs.Ready.{isLive, intentAt, after, effectOf}
 use Rattle.meaning.specs.Order.{OrderOf, halt}
 use Rattle.meaning.specs.Buffers.{Buffers}
 use Rattle.meaning.specs.Answers.{check}
+use Rattle.meaning.proofs.LentLaws.{defaults-at, blank-at, blank-length}
 use Rattle.agreement.specs.RowsOfSteps.{RowOf}
 use Rattle.agreement.proofs.Again.{Out}
 use Rattle.agreement.proofs.Reach.{sub-in}
@@ -31,7 +32,6 @@ use Rattle.agreement.proofs.OrdersSettle.{start-begins}
 use Rattle.machine.specs.Held.{HoldsState, ChangesBelow}
 use Rattle.machine.specs.Counts.{Kept, keptOf, Counted, startRow, changesUpCounted, forgotten}
 use Rattle.machine.specs.Came.{firstRows, listedRows, Distinct}
-use Rattle.machine.proofs.LentLists.{lent-at, lent-length}
 use Rattle.machine.proofs.Declared.{room}
 use Rattle.machine.proofs.HeldLaws.{states-are}
 use Rattle.machine.proofs.HeldSteps.{row-below, start-states}
@@ -40,7 +40,7 @@ use Rattle.machine.proofs.MachineSteps.{changes-below}
 use Rattle.machine.proofs.LiveRows.{intent-is}
 use Rattle.machine.proofs.Unmoved.{live-row-works, order-after}
 use Rattle.machine.proofs.Upwards.{Same, same-set, settle-same, sound-more}
-use Rattle.machine.proofs.CountedSteps.{zero-at, start-counted, step-counted}
+use Rattle.machine.proofs.CountedSteps.{start-counted, step-counted}
 use Rattle.machine.proofs.ComeToWork.{startsWork}
 use Rattle.machine.proofs.CameLists.{Lists, listed-length, forgotten-number}
 use Rattle.machine.proofs.CameLevel.{start-came}
@@ -136,7 +136,7 @@ module _ (rows : List ℤ) (ok : check rows ≡ none) (sheet : Sheet) where
       let z = states-are rows s b h in
       let all = table-inv rows sheet (fit rows ok) l s o .size in
       let rooms = room rows ok .states in
-      step-gathers l s o (keptOf (b .states) lf (forgotten ca)) (rw (z, lent-length maxRows 0 (s .states)) rooms) (λ r. ap (λ (u : List ℕ). getD u r 0) z ∙ lent-at maxRows r 0 (s .states) (omega arith)) few C
+      step-gathers l s o (keptOf (b .states) lf (forgotten ca)) (rw (z, blank-length 0 maxRows (s .states)) rooms) (λ r. ap (λ (u : List ℕ). getD u r 0) z ∙ blank-at 0 maxRows r (s .states) (omega arith)) few C
       (forgotten-number ca size) (rw (length-set ca 0 0) size) (active (intentAt P sheet s) x e q)
 
   -- ---- the start
@@ -152,9 +152,9 @@ module _ (rows : List ℤ) (ok : check rows ≡ none) (sheet : Sheet) where
       let all = table-inv rows sheet (fit rows ok) [] (start P) o .size in
       let most = all-rows rows ok in
       let same : (r : ℕ) → getD (j .states) r 0 ≡ getD (start P .states) r 0
-      = λ r. ap (λ (t : List ℕ). getD t r 0) (S .states-are ∙ sym (start-states rows ok)) ∙ lent-at maxRows r 0 (start P .states) (omega arith) in
-      let K = start-came 0 (replicate maxRows 0) ca maxRows lf (length-replicate {A = ℕ} maxRows 0) few (whole P) (sound-more (whole P) (rowCount rows) maxRows rooms (fit rows ok .sound)) (λ y q. zero-at maxRows y)
+      = λ r. ap (λ (t : List ℕ). getD t r 0) (S .states-are ∙ sym (start-states rows ok)) ∙ blank-at 0 maxRows r (start P .states) (omega arith) in
+      let K = start-came 0 (replicate maxRows 0) ca maxRows lf (length-replicate {A = ℕ} maxRows 0) few (whole P) (sound-more (whole P) (rowCount rows) maxRows rooms (fit rows ok .sound)) (λ y q. defaults-at 0 maxRows y)
       (omega arith, size) in
       gathered [] (start P) o j same (startsWork (whole P)) (listed-are nil (K .lists)) (omega (arith, K .short)) (omega (arith, K .lists .size, size)) (K .once) (λ y m. let A = K .comes y m .at in (A .action, (A .members, (A .place, A .runs, A .idle))))
       (λ r. Unit {0})
-      (λ r h W. ⊎-elim (λ m. m) (λ z. absurd (omega (arith, z .1, zero-at maxRows r))) (K .listed (W .action) r (W .listed) (W .sub) (W .by-step) (same r ∙ W .runs) (λ b m. same b ∙ W .idle b m))) (λ r m. tt)
+      (λ r h W. ⊎-elim (λ m. m) (λ z. absurd (omega (arith, z .1, defaults-at {A = ℕ} 0 maxRows r))) (K .listed (W .action) r (W .listed) (W .sub) (W .by-step) (same r ∙ W .runs) (λ b m. same b ∙ W .idle b m))) (λ r m. tt)

@@ -23,7 +23,7 @@ use Rattle.meaning.specs.Answers.{check}
 use Rattle.meaning.proofs.AnswerLaws.{accepted}
 use Rattle.agreement.proofs.TableFit.{rows-limit}
 use Rattle.machine.specs.Held.{sumOf, stripStart, Room}
-use Rattle.machine.proofs.LentLists.{take-map}
+use Rattle.machine.proofs.Lists.{take-map}
 use Rattle.machine.proofs.Numbered.{sum-past, sum-bound, below-count, below-sum, below-first, below-place}
 
 and-true : (s t : Bool) → (s && t) ≡ true → (s ≡ true) × (t ≡ true)

@@ -13,8 +13,9 @@ use Rattle.meaning.specs.Values.{Message}
 use Rattle.meaning.specs.State.{State, program, writeCell, writePlace, writeOutput}
 use Rattle.meaning.specs.Settle.{start}
 use Rattle.meaning.specs.Buffers.{Buffers, lent, mark, numberIn, capacities, strips, encode, cellOf}
+use Rattle.meaning.proofs.LentLaws.{lent-set, blank-at, blank-length, blank-defaults}
 use Rattle.machine.specs.Held.{blank, HoldsState, sumOf, stripStart, withWrite, withState, putCell, putPlace, putState, putOutput, Lengths, Room}
-use Rattle.machine.proofs.LentLists.{lent-at, lent-length, lent-set, lent-defaults, map-set, map-replicate}
+use Rattle.machine.proofs.Lists.{map-set, map-replicate}
 use Rattle.machine.proofs.Strips.{strip-within, strips-length, strips-more, strips-empty}
 use Rattle.machine.proofs.Declared.{capacities-length}
 
@@ -54,10 +55,10 @@ module _ (rows : List ℤ) (s : State) (b : Buffers) (h : HoldsState rows s b) w
   numbers-are = ap (λ (c : Buffers). c .numbers) h
 
   pub marks-long : length (b .marks) ≡ maxCells
-  marks-long = rw marks-are (lent-length maxCells 0 (map mark (s .store .cells)))
+  marks-long = rw marks-are (blank-length 0 maxCells (map mark (s .store .cells)))
 
   pub states-long : length (b .states) ≡ maxRows
-  states-long = rw states-are (lent-length maxRows 0 (s .states))
+  states-long = rw states-are (blank-length 0 maxRows (s .states))
 
 module _ (rows : List ℤ) (R : Room rows) (s : State) (L : Lengths rows s) (b : Buffers) (h : HoldsState rows s b) where
   cells-fit : length (map numberIn (s .store .cells)) ≤ maxCells
@@ -84,29 +85,29 @@ module _ (rows : List ℤ) (R : Room rows) (s : State) (L : Lengths rows s) (b :
   pub read-cell : (i : ℕ) → getD (s .store .cells) i none ≡ cellOf (getD (b .cells) i (pos 0)) (getD (b .marks) i 0)
   read-cell i =
       let x : getD (b .cells) i (pos 0) ≡ numberIn (getD (s .store .cells) i none) =
-      ap (λ (l : List ℤ). getD l i (pos 0)) (cells-are rows s b h) ∙ lent-at maxCells i (pos 0) (map numberIn (s .store .cells)) cells-fit ∙ List·getD-map numberIn (s .store .cells) i none in
+      ap (λ (l : List ℤ). getD l i (pos 0)) (cells-are rows s b h) ∙ blank-at (pos 0) maxCells i (map numberIn (s .store .cells)) cells-fit ∙ List·getD-map numberIn (s .store .cells) i none in
       let m : getD (b .marks) i 0 ≡ mark (getD (s .store .cells) i none) =
-      ap (λ (l : List ℕ). getD l i 0) (marks-are rows s b h) ∙ lent-at maxCells i 0 (map mark (s .store .cells)) marks-fit ∙ List·getD-map mark (s .store .cells) i none in
+      ap (λ (l : List ℕ). getD l i 0) (marks-are rows s b h) ∙ blank-at 0 maxCells i (map mark (s .store .cells)) marks-fit ∙ List·getD-map mark (s .store .cells) i none in
       sym (ap₂ cellOf x m ∙ cell-back (getD (s .store .cells) i none))
 
   -- the state of a row
   pub read-state : (r : ℕ) → getD (s .states) r 0 ≡ getD (b .states) r 0
-  read-state r = sym (ap (λ (l : List ℕ). getD l r 0) (states-are rows s b h) ∙ lent-at maxRows r 0 (s .states) states-fit)
+  read-state r = sym (ap (λ (l : List ℕ). getD l r 0) (states-are rows s b h) ∙ blank-at 0 maxRows r (s .states) states-fit)
 
   -- the place of a channel from the host
   pub read-place : (p : ℕ) → getD (s .store .places) p 0 ≡ getD (b .places) p 0
-  read-place p = sym (ap (λ (l : List ℕ). getD l p 0) (places-are rows s b h) ∙ lent-at maxHostChannels p 0 (s .store .places) places-fit)
+  read-place p = sym (ap (λ (l : List ℕ). getD l p 0) (places-are rows s b h) ∙ blank-at 0 maxHostChannels p (s .store .places) places-fit)
 
   -- how many messages a channel to the host has been given
   pub read-count : (p : ℕ) → length (getD (s .store .outputs) p []) ≡ getD (b .counts) p 0
   read-count p =
-      sym (ap (λ (l : List ℕ). getD l p 0) (counts-are rows s b h) ∙ lent-at maxHostChannels p 0 (map (λ (l : List Message). length l) (s .store .outputs)) counts-fit ∙ List·getD-map (λ (l : List Message). length l) (s .store .outputs) p [])
+      sym (ap (λ (l : List ℕ). getD l p 0) (counts-are rows s b h) ∙ blank-at 0 maxHostChannels p (map (λ (l : List Message). length l) (s .store .outputs)) counts-fit ∙ List·getD-map (λ (l : List Message). length l) (s .store .outputs) p [])
 
   -- ---- writing
 
   -- a field after a change of one element
   changed : {A : Type 0} (n i : ℕ) (d a : A) (xs : List A) (l old : List A) → l ≡ lent n d xs old → i < length xs → length xs ≤ n → set l i a ≡ lent n d (set xs i a) old
-  changed n i d a xs l old e k f = ap (λ (m : List _). set m i a) e ∙ lent-set n i d a xs old k f
+  changed n i d a xs l old e k f = ap (λ (m : List _). set m i a) e ∙ lent-set d n i a xs old k f
 
   -- a cell
   pub hold-cell : (a : ℕ) (m : Message) → a < totalCells rows → HoldsState rows (withWrite (writeCell a m) s) (putCell a m b)
@@ -169,9 +170,9 @@ unfolding encode blank start program
 hold-start rows =
     let (q, e) = strips-empty (capacities rows) (hostChannels 2 rows) in
     buffers-path _ (encode rows (start (program rows)) blank)
-    (sym (ap (λ (l : List ℤ). lent maxCells (pos 0) l (replicate maxCells (pos 0))) (map-replicate numberIn (totalCells rows) none) ∙ lent-defaults maxCells (totalCells rows) (pos 0)))
-    (sym (ap (λ (l : List ℕ). lent maxCells 0 l (replicate maxCells 0)) (map-replicate mark (totalCells rows) none) ∙ lent-defaults maxCells (totalCells rows) 0))
+    (sym (ap (λ (l : List ℤ). lent maxCells (pos 0) l (replicate maxCells (pos 0))) (map-replicate numberIn (totalCells rows) none) ∙ blank-defaults (pos 0) maxCells (totalCells rows)))
+    (sym (ap (λ (l : List ℕ). lent maxCells 0 l (replicate maxCells 0)) (map-replicate mark (totalCells rows) none) ∙ blank-defaults 0 maxCells (totalCells rows)))
     refl
-    (sym (lent-defaults maxHostChannels (hostChannels 1 rows) 0))
-    (sym (ap (λ (l : List ℤ). lent maxCapacity (pos 0) l (replicate maxCapacity (pos 0))) e ∙ lent-defaults maxCapacity q (pos 0)))
-    (sym (ap (λ (l : List ℕ). lent maxHostChannels 0 l (replicate maxHostChannels 0)) (map-replicate (λ (x : List Message). length x) (hostChannels 2 rows) []) ∙ lent-defaults maxHostChannels (hostChannels 2 rows) 0))
+    (sym (blank-defaults 0 maxHostChannels (hostChannels 1 rows)))
+    (sym (ap (λ (l : List ℤ). lent maxCapacity (pos 0) l (replicate maxCapacity (pos 0))) e ∙ blank-defaults (pos 0) maxCapacity q))
+    (sym (ap (λ (l : List ℕ). lent maxHostChannels 0 l (replicate maxHostChannels 0)) (map-replicate (λ (x : List Message). length x) (hostChannels 2 rows) []) ∙ blank-defaults 0 maxHostChannels (hostChannels 2 rows)))

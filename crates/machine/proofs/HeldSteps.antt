@@ -17,12 +17,12 @@ use Rattle.meaning.specs.Settle.{settle, start, settled}
 use Rattle.meaning.specs.State.{State, program, whole, Write, writeCell, writePlace, writeOutput, writeAll, StateChange, changeStates, Effect}
 use Rattle.meaning.specs.Buffers.{Buffers, lent, encode}
 use Rattle.meaning.specs.Answers.{check}
+use Rattle.meaning.proofs.LentLaws.{lent-set, blank-at, blank-defaults}
 use Rattle.agreement.proofs.Again.{Sound, SoundM}
 use Rattle.agreement.proofs.Frame.{see-local}
 use Rattle.agreement.proofs.Separate.{processes-length}
 use Rattle.agreement.proofs.TableFit.{fit}
 use Rattle.machine.specs.Held.{blank, HoldsState, withWrite, withState, withSettled, putWrite, putWrites, putChanges, putSettled, putEffect, InRange, AllInRange, ChangesBelow, Lengths, Room}
-use Rattle.machine.proofs.LentLists.{lent-at, lent-set, lent-defaults}
 use Rattle.machine.proofs.Declared.{room}
 use Rattle.machine.proofs.HeldLaws.{buffers-path, read-count, hold-cell, hold-place, hold-state, hold-output, states-are}
 
@@ -41,8 +41,8 @@ mutual
 pub settle-lent : (p : Process) (n size : ℕ) → Sound p n → n ≤ size → (t : Bool) (s : List ℕ) → length s ≡ n → settle p t (lent size 0 s (replicate size 0)) ≡ lent size 0 (settle p t s) (replicate size 0)
 settle-lent p n size d f t s l =
     see-local p t .keeps (λ u v. (v ≡ lent size 0 u (replicate size 0)) × (length u ≡ n)) (record {
-      look = λ {s = u} x m e. rw (e .0) (sym (lent-at size x 0 u (omega (arith, e .1))));
-      put = λ {s = u} x w m e. (rw (e .0) (lent-set size x 0 w u (replicate size 0) (rw (e .1) (row-below p n x d m)) (omega (arith, e .1))), length-set u x w ∙ e .1);
+      look = λ {s = u} x m e. rw (e .0) (sym (blank-at 0 size x u (omega (arith, e .1))));
+      put = λ {s = u} x w m e. (rw (e .0) (lent-set 0 size x w u (replicate size 0) (rw (e .1) (row-below p n x d m)) (omega (arith, e .1))), length-set u x w ∙ e .1);
     }) s (lent size 0 s (replicate size 0)) (refl, l) .0
 
 module _ (rows : List ℤ) (ok : check rows ≡ none) where
@@ -115,5 +115,5 @@ module _ (rows : List ℤ) (ok : check rows ≡ none) where
   unfolding start
   start-states =
       let l = program rows .processes in
-      sym (ap (settle (whole (program rows)) true) (sym (ap (λ (s : List ℕ). lent maxRows 0 s (replicate maxRows 0)) (zeros l) ∙ lent-defaults maxRows (length l) 0))
+      sym (ap (settle (whole (program rows)) true) (sym (ap (λ (s : List ℕ). lent maxRows 0 s (replicate maxRows 0)) (zeros l) ∙ blank-defaults 0 maxRows (length l)))
       ∙ settle-lent (whole (program rows)) (rowCount rows) maxRows (fit rows ok .sound) (R .states) true (map {B = ℕ} (λ (p : Process). 0) l) (length-map {B = ℕ} l (λ (p : Process). 0) ∙ processes-length rows))

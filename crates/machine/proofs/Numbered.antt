@@ -1,7 +1,7 @@
 -- The numbers below n that pass a test, as a list: how many, which is at a place, and sums over them.
 use mathlib.Core.Path.{_≡_, refl, sym, ap, ap₂, subst, _∙_}
 use mathlib.Core.Bool.{Bool, true, false}
-use mathlib.Core.List.{List, [], _∷_, _++_, map}
+use mathlib.Core.List.{List, [], _∷_, _++_, map, map-append}
 use Prim.Native.Nat.{ℕ, zero, suc, _+_, _<_, _≤_}
 use native.Mathlib.Omega.{arith}
 use native.Mathlib.Decide.{decLt}
@@ -10,7 +10,6 @@ use lib.Seq.{take-append-le, getD-append-seam, take-length}
 use Rattle.meaning.specs.Basics.{ifElse, allBelow}
 use Rattle.meaning.specs.Declarations.{sumBelow}
 use Rattle.machine.specs.Held.{sumOf}
-use Rattle.machine.proofs.LentLists.{map-append}
 
 -- a sum up to a higher row has the lower row's number in it
 pub sum-past : (f : ℕ → ℕ) (i a : ℕ) → i < a → sumBelow f i + f i ≤ sumBelow f a

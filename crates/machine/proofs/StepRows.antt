@@ -1,7 +1,7 @@
 -- Steps by row as a list: as many as the rows that order one, and the k-th is that of the k-th such row.
 use mathlib.Core.Path.{_≡_, refl, sym, ap, ap₂, _∙_}
 use mathlib.Core.Option.{Option, none, some}
-use mathlib.Core.List.{List, [], _∷_, _++_, map, append-nil, append-assoc, flatten}
+use mathlib.Core.List.{List, [], _∷_, _++_, map, map-append, append-nil, append-assoc, flatten}
 use Prim.Native.Nat.{ℕ, zero, suc, _+_, _<_}
 use native.Mathlib.Omega.{arith}
 use lib.ListN.{length, getD, length-map, List·getD-map}
@@ -9,7 +9,6 @@ use Rattle.meaning.specs.Basics.{ifElse, isSome, allBelow}
 use Rattle.meaning.specs.Usage.{numbersFrom}
 use Rattle.meaning.specs.Labels.{Label}
 use Rattle.machine.specs.RowSteps.{listOf}
-use Rattle.machine.proofs.LentLists.{map-append}
 
 -- in range the default doesn't matter
 pub any-default : {A : Type 0} (l : List A) (k : ℕ) (a b : A) → k < length l → getD l k a ≡ getD l k b

@@ -1,17 +1,20 @@
 -- What the machine's arrays hold: a state as the lent buffers would show it, over arrays of zeros that are exactly as long as the limits.
 use mathlib.Core.Path.{_≡_}
-use mathlib.Core.Option.{none}
+use mathlib.Core.Option.{none, some}
 use mathlib.Core.Bool.{Bool, false}
 use mathlib.Core.List.{List, [], _∷_, _++_}
-use Prim.Native.Nat.{ℕ, suc, _+_, _<_, _≤_}
+use Prim.Native.Nat.{ℕ, suc, _+_, _*_, _<_, _≤_}
 use lib.IntN.{ℤ, pos}
-use lib.ListN.{length, getD, set, replicate, take}
+use lib.ListN.{length, getD, getElem?, set, replicate, take}
+use lib.Dec.{ltb}
 use Rattle.meaning.specs.Limits.{maxRows, maxCells, maxHostChannels, maxCapacity}
+use Rattle.meaning.specs.Basics.{isSome}
 use Rattle.meaning.specs.Rows.{rowCount}
 use Rattle.meaning.specs.Declarations.{totalCells, hostChannels}
 use Rattle.meaning.specs.Values.{Message}
 use Rattle.meaning.specs.Settle.{settle}
 use Rattle.meaning.specs.State.{Store, State, program, whole, Write, writeCell, writePlace, writeOutput, write, StateChange, Effect}
+use Rattle.meaning.specs.Readings.{Sheet}
 use Rattle.meaning.specs.Buffers.{Buffers, mark, numberIn, capacities, encode}
 
 -- arrays of zeros
@@ -131,3 +134,11 @@ pub record Room (rows : List ℤ) : Type 0 where
   pub outputs : hostChannels 2 rows ≤ maxHostChannels
   pub states : rowCount rows ≤ maxRows
   pub numbers : sumOf (capacities rows) ≤ maxCapacity
+
+-- the lists hold the readings of a table's role 1 channels: each channel has 128 places in both; a reading is left below the number of lines, and its number and mark (0 where it is absent) are kept at port * 128 + line
+pub record KeptReadings (rows : List ℤ) (sheet : Sheet) (readings : List ℤ) (given : List ℕ) (lines : ℕ) : Type 0 where
+  pub numbers-fit : 128 * hostChannels 1 rows ≤ length readings
+  pub marks-fit : 128 * hostChannels 1 rows ≤ length given
+  pub left : (p n : ℕ) → p < hostChannels 1 rows → isSome (getElem? (getD sheet p []) n) ≡ ltb n lines
+  pub number : (p n : ℕ) → p < hostChannels 1 rows → (m : Message) → getElem? (getD sheet p []) n ≡ some m → getD readings (p * 128 + n) (pos 0) ≡ numberIn m
+  pub marked : (p n : ℕ) → p < hostChannels 1 rows → (m : Message) → getElem? (getD sheet p []) n ≡ some m → getD given (p * 128 + n) 0 ≡ mark m

@@ -1,11 +1,12 @@
--- A list in a lent buffer: what stands at each position, below the limit and past it, and the buffer's length.
+-- A list in a lent buffer: what stands at each position, below the limit and past it, the buffer's length, and what a change of one element changes.
 use mathlib.Core.Path.{_≡_, refl, sym, ap, _∙_}
 use mathlib.Core.Option.{some, Option·none-ne-some, Option·some-injective}
-use mathlib.Core.List.{List, [], _∷_, _++_}
-use Prim.Native.Nat.{ℕ, zero, suc, _+_, _<_, _≤_}
+use mathlib.Core.List.{List, [], _∷_, _++_, append-nil}
+use Prim.Native.Nat.{ℕ, zero, suc, _+_, _-_, _<_, _≤_}
 use native.Mathlib.Omega.{arith}
-use lib.ListN.{length, getD, take, drop, replicate, length-append, length-drop, length-replicate, take-append-drop, List·getD-append, getElem?}
-use lib.Seq.{length-take-le, take-append-le, drop-append-le, take-take, take-append-seam, getD-take}
+use native.Mathlib.Decide.{decLt}
+use lib.ListN.{length, getD, set, take, drop, replicate, length-append, length-drop, length-replicate, replicate-append-replicate, take-append-drop, drop-of-length-le, List·getD-append, List·getD-eq-default, getElem?}
+use lib.Seq.{length-take-le, take-append-le, take-append-add, drop-append-le, take-take, take-append-seam, take-at, getD-take, take-set-lt, set-append-left, set-append-seam, append-snoc}
 use Rattle.meaning.specs.Buffers.{sized, lent}
 
 module _ {A : Type 0} where
@@ -38,6 +39,10 @@ module _ {A : Type 0} (d : A) where
   filled n zero (x ∷ xs) = refl
   filled n (suc i) (x ∷ xs) = filled n i xs
 
+  -- a list of one element holds it everywhere: a list of zeros holds 0
+  pub defaults-at : (n i : ℕ) → getD (replicate n d) i d ≡ d
+  defaults-at n i = filled n i []
+
   pub sized-length : (n : ℕ) (xs : List A) → length (sized n d xs) ≡ n
   unfolding sized
   sized-length n xs = length-take-le n (xs ++ replicate n d) (omega (arith, length-append xs (replicate n d), length-replicate n d))
@@ -47,10 +52,43 @@ module _ {A : Type 0} (d : A) where
   unfolding sized
   sized-at n i xs h = getD-take n (xs ++ replicate n d) i d h ∙ filled n i xs
 
+  -- at a length that it does not pass, a list has its own elements at every place
+  sized-holds : (n i : ℕ) (xs : List A) → length xs ≤ n → getD (sized n d xs) i d ≡ getD xs i d
+  sized-holds n i xs h = go (decLt i n)
+    where
+      go : Dec (i < n) → getD (sized n d xs) i d ≡ getD xs i d
+      go (yes l) = sized-at n i xs l
+      go (no l) = List·getD-eq-default (sized n d xs) d (omega (arith, sized-length n xs)) ∙ sym (List·getD-eq-default xs d (omega arith))
+
   -- a list at a length that it does not pass, up to its own
   pub sized-front : (n : ℕ) (xs : List A) → length xs ≤ n → take (length xs) (sized n d xs) ≡ xs
   unfolding sized
   sized-front n xs h = take-take (length xs) n (xs ++ replicate n d) h ∙ take-append-seam xs (replicate n d)
+
+  take-defaults : (n k : ℕ) → n ≤ k → take n (replicate k d) ≡ replicate n d
+  take-defaults zero k h = refl
+  take-defaults (suc n) zero h = absurd (omega arith)
+  take-defaults (suc n) (suc k) h = ap (λ (l : List A). d ∷ l) (take-defaults n k (omega arith))
+
+  pub sized-defaults : (n k : ℕ) → sized n d (replicate k d) ≡ replicate n d
+  unfolding sized
+  sized-defaults n k = ap (take n) (replicate-append-replicate k n d) ∙ take-defaults n (k + n) (omega arith)
+
+  -- a list that fits, filled up
+  pub sized-is : (n : ℕ) (xs : List A) → length xs ≤ n → sized n d xs ≡ xs ++ replicate (n - length xs) d
+  unfolding sized
+  sized-is n xs h =
+      let e : n ≡ length xs + (n - length xs) = omega arith in
+      ap (λ (k : ℕ). take k (xs ++ replicate n d)) e ∙ take-append-add xs (replicate n d) (n - length xs) ∙ ap (λ (l : List A). xs ++ l) (take-defaults (n - length xs) n (omega arith))
+
+  -- one more element takes the place of the first default
+  pub sized-more : (n : ℕ) (a : A) (xs : List A) → length xs < n → sized n d (xs ++ (a ∷ [])) ≡ set (sized n d xs) (length xs) a
+  sized-more n a xs h =
+      let k = length-append xs (a ∷ []) in
+      let e : n - length xs ≡ suc (n - suc (length xs)) = omega arith in
+      let f : n - length (xs ++ (a ∷ [])) ≡ n - suc (length xs) = omega arith in
+      sized-is n (xs ++ (a ∷ [])) (omega arith) ∙ ap (λ (m : ℕ). xs ++ (a ∷ []) ++ replicate m d) f ∙ append-snoc xs a (replicate (n - suc (length xs)) d)
+      ∙ sym (ap (λ (l : List A). set l (length xs) a) (sized-is n xs (omega arith) ∙ ap (λ (m : ℕ). xs ++ replicate m d) e) ∙ set-append-seam xs d (replicate (n - suc (length xs)) d) a)
 
   -- an element of a lent buffer
   pub lent-at : (n i : ℕ) (xs old : List A) → i < n → getD (lent n d xs old) i d ≡ getD xs i d
@@ -73,6 +111,11 @@ module _ {A : Type 0} (d : A) where
   unfolding lent
   lent-length n xs old h = omega (arith, length-append (sized n d xs) (drop n old), sized-length n xs, length-drop n old)
 
+  -- what stands in the buffer up to its limit
+  pub lent-front : (n : ℕ) (xs old : List A) → take n (lent n d xs old) ≡ sized n d xs
+  unfolding lent
+  lent-front n xs old = take-at (sized n d xs) (drop n old) n (sized-length n xs)
+
   -- a list of k that fits stands at the front
   pub lent-whole : (limit k : ℕ) (xs old : List A) → length xs ≡ k → k ≤ limit → take k (lent limit d xs old) ≡ xs
   unfolding lent
@@ -93,3 +136,26 @@ module _ {A : Type 0} (d : A) where
       front off n (sized m d xs) (drop m old) (omega arith)
       ∙ sym (front off n (sized m d xs) (drop m (xs ++ replicate m d)) (omega arith))
       ∙ ap (λ (l : List A). take n (drop off l)) (take-append-drop m (xs ++ replicate m d))
+
+  -- a change of one element, within the list and the limit
+  pub lent-set : (n i : ℕ) (a : A) (xs old : List A) → i < length xs → length xs ≤ n → set (lent n d xs old) i a ≡ lent n d (set xs i a) old
+  unfolding lent sized
+  lent-set n i a xs old l h =
+      set-append-left (sized n d xs) (drop n old) i a (omega (arith, sized-length n xs))
+      ∙ ap (λ (zs : List A). zs ++ drop n old) (sym (take-set-lt n (xs ++ replicate n d) i a (omega arith)) ∙ ap (take n) (set-append-left xs (replicate n d) i a l))
+
+  -- in a buffer of defaults at the limit nothing is past it
+  pub lent-blank : (n : ℕ) (xs : List A) → lent n d xs (replicate n d) ≡ sized n d xs
+  unfolding lent
+  lent-blank n xs = rw (drop-of-length-le (replicate n d) {i = n} (omega (arith, length-replicate n d))) (append-nil (sized n d xs))
+
+  -- there every place holds what the list has there
+  pub blank-at : (n i : ℕ) (xs : List A) → length xs ≤ n → getD (lent n d xs (replicate n d)) i d ≡ getD xs i d
+  blank-at n i xs h = ap (λ (l : List A). getD l i d) (lent-blank n xs) ∙ sized-holds n i xs h
+
+  pub blank-length : (n : ℕ) (xs : List A) → length (lent n d xs (replicate n d)) ≡ n
+  blank-length n xs = ap (λ (l : List A). length l) (lent-blank n xs) ∙ sized-length n xs
+
+  -- a list of defaults leaves it as it is
+  pub blank-defaults : (n k : ℕ) → lent n d (replicate k d) (replicate n d) ≡ replicate n d
+  blank-defaults n k = lent-blank n (replicate k d) ∙ sized-defaults n k

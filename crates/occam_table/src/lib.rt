@@ -9,7 +9,7 @@ ghost use Rattle.occam_table.specs.RowsLent.{rowsLent};
 
 mod packing; // packing.rt: answers as one number
 
-use meaning::Verdict;
+use read_table::TableRead;
 
 // The public entries of Rattle callers: the verdict, the run, untraced and traced, the strip of a host channel.
 pub use call_table::run_rows;
@@ -174,16 +174,15 @@ pub extern "C" fn occam_read_rows(table: &[u8], rows: &mut [i32]) -> u64
     if rows.len() < 4096 {
         return 0;
     }
-    let read = read_table::read_table(table);
-    let verdict = read.verdict;
-    match verdict {
-        Verdict::Rejected(_, _) => 0,
-        Verdict::Accepted => {
-            let n = 4 * read.count;
-            let held = read.rows;
+    let mut held = [0i32; 4096];
+    match read_table::read_table(table, &mut held) {
+        TableRead::Refused(_, _) => 0,
+        TableRead::Rows(count) => {
+            let n = 4 * count;
             write_buffers::copying::copy_numbers(&held[..n], rows);
             n as u64
         }
+        TableRead::Full => 0,
     }
 }
 

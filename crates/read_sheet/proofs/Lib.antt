@@ -1,10 +1,10 @@
 pub mod DecimalSteps
 pub mod FieldSteps
-pub mod Grids
 pub mod RightFields
 pub mod LineSteps
 pub mod HeaderSteps
 pub mod HeaderLaws
 pub mod LinesRead
+pub mod PutLines
 pub mod SheetSteps
 pub mod KeptReadings

@@ -7,8 +7,6 @@ use Prim.Native.Nat.{ℕ, zero, suc, _+_, _-_, _*_, _≤_, _<_}
 use native.Mathlib.Omega.{arith}
 use lib.IntN.{ℤ}
 use lib.ListN.{length, take, drop, set, length-append, length-set}
-use lib.Dec.{ltb}
-use borrow.Author.Tests.{lt-ltb, le-ltb}
 use Rattle.meaning.specs.Basics.{ifElse, withFirst}
 use Rattle.meaning.specs.Lines.{lineSize}
 use Rattle.meaning.specs.Sheet.{reading, valuesOf}
@@ -16,7 +14,7 @@ use Rattle.read_table.specs.Fields.{fieldSize, firstLine, opens, stopOf}
 use Rattle.read_sheet.specs.declared.fields.Field.{Field}
 use Rattle.read_sheet.specs.declared.lines.Line.the-variants.{Right, Wrong}
 use Rattle.read_sheet.specs.Fields.{valueOf, readingMark, wrongField, fieldAs, readingField}
-use Rattle.read_sheet.specs.Lines.{putReading, putReadings, lineAs, rightFields, lineRead}
+use Rattle.read_sheet.specs.Lines.{putReadings, lineAs, rightFields, lineRead}
 use Rattle.read_table.proofs.ReadFields.{left, leftSize, line-left, left-none, size-left, none-left, no-line-of-none, field-not-ended, field-not-read, field-first}
 use Rattle.read_sheet.proofs.RightFields.{none-unended, none-unread, first-read, right-line}
 
@@ -70,35 +68,18 @@ module _ (sheet : List ℕ) (at m : ℕ) where
 
 -- Putting in place ----------------------------------------------------------------------------------------------------------------
 
-module _ {A : Type 0} where
-  pub put-kept : (line j : ℕ) (a : A) (l : List A) → j < 8 → set l (j * 128 + line) a ≡ putReading line j a l
-  unfolding putReading
-  put-kept line j a l h = ap (λ (t : Bool). ifElse t (set l (j * 128 + line) a) l) (sym (lt-ltb j 8 h))
-
-  pub put-dropped : (line j : ℕ) (a : A) (l : List A) → 8 ≤ j → l ≡ putReading line j a l
-  unfolding putReading
-  put-dropped line j a l h = ap (λ (t : Bool). ifElse t (set l (j * 128 + line) a) l) (sym (le-ltb j 8 h))
-
-  pub put-length : (line j : ℕ) (a : A) (l : List A) → length (putReading line j a l) ≡ length l
-  unfolding putReading
-  put-length line j a l = go (ltb j 8)
-    where
-      go : (t : Bool) → length (ifElse t (set l (j * 128 + line) a) l) ≡ length l
-      go true = length-set l (j * 128 + line) a
-      go false = refl
-
 module _ {A : Type 0} (kept : Option ℤ → A) where
-  put-last : (line j : ℕ) (vs : List (Option ℤ)) (v : Option ℤ) (l : List A) → putReading line (j + length vs) (kept v) (putReadings kept line j vs l) ≡ putReadings kept line j (vs ++ (v ∷ [])) l
+  put-last : (line j : ℕ) (vs : List (Option ℤ)) (v : Option ℤ) (l : List A) → set (putReadings kept line j vs l) ((j + length vs) * 128 + line) (kept v) ≡ putReadings kept line j (vs ++ (v ∷ [])) l
   unfolding putReadings
-  put-last line j [] v l = let e : j + 0 ≡ j = omega arith in ap (λ (i : ℕ). putReading line i (kept v) l) e
+  put-last line j [] v l = let e : j + 0 ≡ j = omega arith in ap (λ (i : ℕ). set l (i * 128 + line) (kept v)) e
   put-last line j (u ∷ vs) v l =
       let e : j + suc (length vs) ≡ suc j + length vs = omega arith in
-      ap (λ (i : ℕ). putReading line i (kept v) (putReadings kept line (suc j) vs (putReading line j (kept u) l))) e ∙ put-last line (suc j) vs v (putReading line j (kept u) l)
+      ap (λ (i : ℕ). set (putReadings kept line (suc j) vs (set l (j * 128 + line) (kept u))) (i * 128 + line) (kept v)) e ∙ put-last line (suc j) vs v (set l (j * 128 + line) (kept u))
 
   pub all-length : (line j : ℕ) (vs : List (Option ℤ)) (l : List A) → length (putReadings kept line j vs l) ≡ length l
   unfolding putReadings
   all-length line j [] l = refl
-  all-length line j (v ∷ vs) l = all-length line (suc j) vs (putReading line j (kept v) l) ∙ put-length line j (kept v) l
+  all-length line j (v ∷ vs) l = all-length line (suc j) vs (set l (j * 128 + line) (kept v)) ∙ length-set l (j * 128 + line) (kept v)
 
 -- The loop ----------------------------------------------------------------------------------------------------------------------
 
@@ -201,7 +182,7 @@ module _ (sheet : List ℕ) (from count line : ℕ) (values₀ : List ℤ) (mark
           (h .marks-kept)
 
       -- a field that is right is put in place
-      pub passed : f .right ≡ true → (values′ : List ℤ) (marks′ : List ℕ) (value : ℤ) → value ≡ f .value → values′ ≡ putReading line j value values → marks′ ≡ putReading line j (f .mark) marks
+      pub passed : f .right ≡ true → (values′ : List ℤ) (marks′ : List ℕ) (value : ℤ) → value ≡ f .value → values′ ≡ set values (j * 128 + line) value → marks′ ≡ set marks (j * 128 + line) (f .mark)
           → Halfway values′ marks′ (f .next) (j + 1)
       passed r values′ marks′ value u v w =
           let q : FieldRead sheet at m f = subst (FieldRead sheet at m) (sym e) (field-right sheet at m (sym (ap (λ (g : Field). g .right) e) ∙ r)) in
@@ -231,11 +212,11 @@ module _ (sheet : List ℕ) (from count line : ℕ) (values₀ : List ℤ) (mark
           }
         where
           kept-more : {A : Type 0} (kept : Option ℤ → A) (now then : List A) (a : A) (v : Option ℤ) → a ≡ kept v → now ≡ putReadings kept line 0 (h .so-far) then
-              → putReading line j a now ≡ putReadings kept line 0 (h .so-far ++ (v ∷ [])) then
+              → set now (j * 128 + line) a ≡ putReadings kept line 0 (h .so-far ++ (v ∷ [])) then
           kept-more kept now then a v i k =
               let n : j ≡ 0 + length (h .so-far) = omega (arith, h .so-many) in
-              ap₂ (λ (b : _) (l : List _). putReading line j b l) i k
-              ∙ ap (λ (q : ℕ). putReading line q (kept v) (putReadings kept line 0 (h .so-far) then)) n
+              ap₂ (λ (b : _) (l : List _). set l (j * 128 + line) b) i k
+              ∙ ap (λ (q : ℕ). set (putReadings kept line 0 (h .so-far) then) (q * 128 + line) (kept v)) n
               ∙ put-last kept line 0 (h .so-far) v then
 
     -- after the last field the line is read

@@ -1,8 +1,8 @@
 -- Lines of which the first are read: what they are read as, and that the sheet goes on with the others.
-use mathlib.Core.Path.{_≡_, refl, sym, ap, ap₂, _∙_}
+use mathlib.Core.Path.{_≡_, sym, ap, ap₂, _∙_}
 use mathlib.Core.Bool.{Bool, true, false}
 use mathlib.Core.List.{List, [], _∷_, _++_, append-assoc, map, map-append}
-use mathlib.Core.Option.{Option, none, some, Option·getD, Option·none-ne-some, Option·some-injective}
+use mathlib.Core.Option.{Option, none, some, Option·none-ne-some, Option·some-injective}
 use Prim.Native.Nat.{ℕ, zero, suc, _+_, _<_}
 use native.Mathlib.Omega.{arith}
 use lib.IntN.{ℤ}
@@ -69,11 +69,3 @@ module _ {B : Type 0} (f : List ℕ → Option (List B)) where
       ∙ ap (λ (o : Option (List B)). map some done ++ (o ∷ map f rest)) i
       ∙ sym (append-assoc (map some done) (some v ∷ []) (map f rest))
       ∙ ap (λ (os : List (Option (List B))). os ++ map f rest) (sym (map-append some done (v ∷ [])))
-
-  -- all are read
-  pub split-all : (ls : List (List ℕ)) (done : List (List B)) → Split ls done [] → map (λ l. Option·getD (f l) []) ls ≡ done
-  split-all [] [] e = refl
-  split-all [] (v ∷ done) e = absurd (let q : _≡_ {A = ℕ} 0 (suc (length (map some done ++ []))) = ap length e in omega arith)
-  split-all (l ∷ ls) [] e = absurd (let q : _≡_ {A = ℕ} (suc (length (map f ls))) 0 = ap length e in omega arith)
-  split-all (l ∷ ls) (v ∷ done) e =
-      ap₂ (λ (o : Option (List B)) (vs : List (List B)). Option·getD o [] ∷ vs) (ap (λ (os : List (Option (List B))). getD os 0 none) e) (split-all ls done (ap (drop 1) e))

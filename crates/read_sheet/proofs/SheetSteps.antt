@@ -1,40 +1,38 @@
 -- What a sheet gives, by the first line at fault or by all its lines.
 use mathlib.Core.Path.{_≡_, refl, sym, ap, ap₂, _∙_}
 use mathlib.Core.Bool.{Bool, true, false, not, _&&_, _||_}
-use mathlib.Core.List.{List, [], _∷_, _++_, map, tail}
-use mathlib.Core.Option.{Option, none, some, Option·map, Option·getD}
-use Prim.Native.Nat.{ℕ, zero, suc, _+_, _≤_, _<_}
+use mathlib.Core.List.{List, [], _∷_, _++_, append-nil, append-assoc, map, tail}
+use mathlib.Core.Option.{Option, none, some, Option·map}
+use Prim.Native.Nat.{ℕ, zero, suc, _+_, _-_, _/_, _≤_, _<_}
 use native.Mathlib.Omega.{arith}
-use lib.IntN.{ℤ, pos}
-use lib.ListN.{length, getD, drop, replicate, length-append, drop-of-length-le, List·getD-eq-default}
+use lib.IntN.{ℤ}
+use lib.ListN.{length, getD, drop, length-append, drop-of-length-le}
 use lib.Dec.{leb, ltb, eqb}
-use borrow.Author.Tests.{lt-ltb, le-ltb, le-leb, lt-leb, ltb-true, ltb-false, eqb-true, eqb-false}
-use Rattle.meaning.specs.declared.Verdict.the-variants.{Accepted, Rejected}
+use borrow.Author.Tests.{lt-ltb, le-ltb, le-leb, lt-leb, eqb-true, eqb-false}
 use Rattle.meaning.specs.Limits.{maxSheet, maxLines}
-use Rattle.meaning.specs.Basics.{isSome}
+use Rattle.meaning.specs.Basics.{ifElse, isSome}
 use Rattle.meaning.specs.Refusals.{Refusal}
 use Rattle.meaning.specs.Lines.{lines, lineSize}
 use Rattle.meaning.specs.Declarations.{channels}
-use Rattle.meaning.specs.Sheet.{sheetHeader, valuesOf, sheetLineWrong, sheetFault, columns, readings}
+use Rattle.meaning.specs.Sheet.{sheetHeader, valuesOf, sheetLineWrong, sheetFault}
 use Rattle.meaning.proofs.NoFault.{none-lowest, and-none, or-none, same-refl}
 use Rattle.base_rows.proofs.LowestFound.{lowest-some}
 use Rattle.read_table.specs.Fields.{firstLine}
 use Rattle.read_table.proofs.Reading.{lines-at}
+use Rattle.read_sheet.specs.declared.SheetRead.{SheetRead}
+use Rattle.read_sheet.specs.declared.SheetRead.the-variants.{Lines, Full, Refused}
+use Rattle.read_sheet.specs.declared.header.Header.{Header}
 use Rattle.read_sheet.specs.declared.header.Header.the-variants.{Channels, Wrong}
 use Rattle.read_sheet.specs.declared.lines.Line.{Line}
 use Rattle.read_sheet.specs.declared.lines.Line.the-variants as line-variants
 use Rattle.read_sheet.specs.Fields.{valueOf, readingMark}
 use Rattle.read_sheet.specs.Header.{headerRead}
-use Rattle.read_sheet.specs.Lines.{putReadings, lineAs, lineRead}
-use Rattle.read_sheet.specs.SheetRead.{tabulated, readingAt, keptAs, readingsUnlessRefused, refusedAt, sheetRead}
-use Rattle.read_sheet.proofs.Grids.{tabulated-same, tabulated-equal, gridAt, grid, grid-length, grid-empty, put-line, grid-columns}
+use Rattle.read_sheet.specs.Lines.{putReadings, rightFields, lineAs, lineRead}
+use Rattle.read_sheet.specs.SheetRead.{answerOf, ifRight, rightLines, putLines, headerOf, isFull, linesAfter, sheetRead}
 use Rattle.read_sheet.proofs.HeaderLaws.{wrong-header, right-header}
 use Rattle.read_sheet.proofs.RightFields.{right-line}
-use Rattle.read_sheet.proofs.LinesRead.{values-count, line-size-at, Split, split-count, split-before, split-here, split-more, split-all}
-
-pub refused-is : (L : ℕ) → record { verdict = Rejected 10 L; values = replicate 1024 (pos 0); marks = replicate 1024 0; lines = 0 } ≡ refusedAt L
-unfolding refusedAt keptAs
-refused-is L = ap₂ (λ (v : List ℤ) (m : List ℕ). record { verdict = Rejected 10 L; values = v; marks = m; lines = 0 }) (sym (tabulated-same (pos 0) 1024)) (sym (tabulated-same 0 1024))
+use Rattle.read_sheet.proofs.LinesRead.{line-size-at, Split, split-count, split-before, split-here, split-more}
+use Rattle.read_sheet.proofs.PutLines.{one-more-line, lines-length, no-more-lines, line-and-more}
 
 -- tests
 or-true : (s : Bool) → (s || true) ≡ true
@@ -57,69 +55,116 @@ module _ (rows : List ℤ) (sheet : List ℕ) where
   abbrev at-fault : ℕ → Bool
   at-fault = sheetLineWrong (ltb maxSheet (length sheet)) cs (lines sheet)
 
+  -- the header is looked at where the sheet is not too long
+  pub header-of : length sheet ≤ maxSheet → headerOf rows sheet ≡ headerRead rows sheet
+  header-of h = ap (λ (t : Bool). ifElse t (headerRead rows sheet) Wrong) (le-leb (length sheet) maxSheet h)
+
   -- the first line at fault
-  refused-by : (L : ℕ) → L < 2 + length (lines sheet) → ((i : ℕ) → i < L → at-fault i ≡ false) → at-fault L ≡ true → refusedAt L ≡ sheetRead rows sheet
-  unfolding sheetRead sheetFault refusedAt
-  refused-by L l f t =
-      ap (λ (o : Option ℕ). readingsUnlessRefused (Option·map (λ L. (10, L)) o) (readings rows sheet) (length (tail (lines sheet)))) (sym (lowest-some at-fault (2 + length (lines sheet)) L l f t))
+  refused-by : (L : ℕ) → L < 2 + length (lines sheet) → ((i : ℕ) → i < L → at-fault i ≡ false) → at-fault L ≡ true → sheetFault rows sheet ≡ some (10, L)
+  unfolding sheetFault
+  refused-by L l f t = ap (Option·map (λ L. (10, L))) (lowest-some at-fault (2 + length (lines sheet)) L l f t)
 
-  pub too-long : maxSheet < length sheet → refusedAt 0 ≡ sheetRead rows sheet
-  too-long h = refused-by 0 (omega arith) (λ i l. absurd (omega arith)) (lt-ltb maxSheet (length sheet) h)
+  module _ (values : List ℤ) (marks : List ℕ) where
+    -- what is given, by the header, by whether there is no room, and by the answer
+    pub read-is : (header : Header) → headerOf rows sheet ≡ header → isFull header (length values) (length marks) ≡ false → (answer : SheetRead) → answerOf (sheetFault rows sheet) (length (tail (lines sheet))) ≡ answer
+        → (vss : List (List (Option ℤ))) → linesAfter header sheet ≡ vss → (answer, putLines valueOf 0 vss values, putLines readingMark 0 vss marks) ≡ sheetRead rows sheet values marks
+    unfolding sheetRead
+    read-is header e f answer a vss v = rw (e, f, a, v) refl
 
-  module _ (short : length sheet ≤ maxSheet) where
-    in-size : at-fault 0 ≡ false
-    in-size = le-ltb maxSheet (length sheet) short
+    -- without a header nothing is put
+    unread : (L : ℕ) → headerOf rows sheet ≡ Wrong → sheetFault rows sheet ≡ some (10, L) → (Refused L, values, marks) ≡ sheetRead rows sheet values marks
+    unfolding putLines
+    unread L e f = read-is Wrong e refl (Refused L) (ap (λ (o : Option Refusal). answerOf o (length (tail (lines sheet)))) f) [] refl
 
-    pub header-at-fault : headerRead rows sheet ≡ Wrong → refusedAt 1 ≡ sheetRead rows sheet
-    header-at-fault e = refused-by 1 (omega arith) before (ap not (wrong-header rows sheet e))
-      where
-        before : (i : ℕ) → i < 1 → at-fault i ≡ false
-        before zero l = in-size
-        before (suc i) l = absurd (omega arith)
+    pub too-long : maxSheet < length sheet → (Refused 0, values, marks) ≡ sheetRead rows sheet values marks
+    too-long h =
+        unread 0 (ap (λ (t : Bool). ifElse t (headerRead rows sheet) Wrong) (lt-leb (length sheet) maxSheet h))
+        (refused-by 0 (omega arith) (λ i l. absurd (omega arith)) (lt-ltb maxSheet (length sheet) h))
+
+    module _ (short : length sheet ≤ maxSheet) where
+      in-size : at-fault 0 ≡ false
+      in-size = le-ltb maxSheet (length sheet) short
+
+      pub header-at-fault : headerRead rows sheet ≡ Wrong → (Refused 1, values, marks) ≡ sheetRead rows sheet values marks
+      header-at-fault e = unread 1 (header-of short ∙ e) (refused-by 1 (omega arith) before (ap not (wrong-header rows sheet e)))
+        where
+          before : (i : ℕ) → i < 1 → at-fault i ≡ false
+          before zero l = in-size
+          before (suc i) l = absurd (omega arith)
+
+      -- no room for the channels of the header
+      no-room : (count first : ℕ) → headerRead rows sheet ≡ Channels count first → isFull (Channels count first) (length values) (length marks) ≡ true → (Full, values, marks) ≡ sheetRead rows sheet values marks
+      unfolding sheetRead
+      no-room count first e f = let h = header-of short ∙ e in rw (h, f) refl
+
+      pub values-full : (count first : ℕ) → headerRead rows sheet ≡ Channels count first → length values / 128 < count → (Full, values, marks) ≡ sheetRead rows sheet values marks
+      values-full count first e h = no-room count first e (ap (λ (t : Bool). not (t && leb count (length marks / 128))) (lt-leb count (length values / 128) h))
+
+      pub marks-full : (count first : ℕ) → headerRead rows sheet ≡ Channels count first → count ≤ length values / 128 → length marks / 128 < count → (Full, values, marks) ≡ sheetRead rows sheet values marks
+      marks-full count first e g h =
+          no-room count first e (ap₂ (λ (s t : Bool). not (s && t)) (le-leb count (length values / 128) g) (lt-leb count (length marks / 128) h))
 
 -- The loop ----------------------------------------------------------------------------------------------------------------------
 
-module _ (rows : List ℤ) (sheet : List ℕ) (count : ℕ) where
+module _ (rows : List ℤ) (sheet : List ℕ) (values₀ : List ℤ) (marks₀ : List ℕ) (count first : ℕ) where
   -- `line` lines of values are read and kept, and the next begins at `at`
   pub record Passed (values : List ℤ) (marks : List ℕ) (line at : ℕ) : Type 0 where
     pub short : length sheet ≤ maxSheet
-    pub so-wide : count ≡ length (channels rows 1)
-    pub after-header : List (List ℕ)
-    pub header-first : lines sheet ≡ sheetHeader (channels rows 1) ∷ after-header
+    pub header-is : headerRead rows sheet ≡ Channels count first
+    pub values-room : count ≤ length values₀ / 128
+    pub marks-room : count ≤ length marks₀ / 128
     pub done : List (List (Option ℤ))
     pub so-many : length done ≡ line
     pub few : line ≤ maxLines
-    pub lines-left : Split (valuesOf count) after-header done (lines (drop at sheet))
-    pub values-kept : values ≡ grid valueOf done
-    pub marks-kept : marks ≡ grid readingMark done
+    pub lines-left : Split (valuesOf count) (lines (drop first sheet)) done (lines (drop at sheet))
+    pub right-left : rightLines count maxLines (drop first sheet) ≡ done ++ rightLines count (maxLines - line) (drop at sheet)
+    pub values-kept : values ≡ putLines valueOf 0 done values₀
+    pub marks-kept : marks ≡ putLines readingMark 0 done marks₀
 
-  pub nothing-passed : length sheet ≤ maxSheet → (first : ℕ) → headerRead rows sheet ≡ Channels count first → Passed (replicate 1024 (pos 0)) (replicate 1024 0) 0 first
-  nothing-passed h first e =
+  pub nothing-passed : length sheet ≤ maxSheet → headerRead rows sheet ≡ Channels count first → count ≤ length values₀ / 128 → count ≤ length marks₀ / 128 → Passed values₀ marks₀ 0 first
+  unfolding putLines
+  nothing-passed h e v m =
       record {
         short = h;
-        so-wide = right-header rows sheet count first e .0;
-        after-header = lines (drop first sheet);
-        header-first = right-header rows sheet count first e .1;
+        header-is = e;
+        values-room = v;
+        marks-room = m;
         done = [];
         so-many = refl;
         few = omega arith;
         lines-left = refl;
-        values-kept = sym (grid-empty valueOf);
-        marks-kept = sym (grid-empty readingMark);
+        right-left = refl;
+        values-kept = refl;
+        marks-kept = refl;
       }
 
   module _ (values : List ℤ) (marks : List ℕ) (line at : ℕ) (h : Passed values marks line at) where
     abbrev ls : List (List ℕ)
-    ls = h .after-header
+    ls = lines (drop first sheet)
 
-    pub values-size : length values ≡ 1024
-    values-size = ap length (h .values-kept) ∙ grid-length valueOf (h .done)
+    so-wide : count ≡ length (channels rows 1)
+    so-wide = right-header rows sheet count first (h .header-is) .0
 
-    pub marks-size : length marks ≡ 1024
-    marks-size = ap length (h .marks-kept) ∙ grid-length readingMark (h .done)
+    header-first : lines sheet ≡ sheetHeader (channels rows 1) ∷ ls
+    header-first = right-header rows sheet count first (h .header-is) .1
+
+    pub values-length : length values ≡ length values₀
+    values-length = ap length (h .values-kept) ∙ lines-length valueOf 0 (h .done) values₀
+
+    pub marks-length : length marks ≡ length marks₀
+    marks-length = ap length (h .marks-kept) ∙ lines-length readingMark 0 (h .done) marks₀
+
+    -- what is given in the end, if these lines are put
+    given : (answer : SheetRead) → answerOf (sheetFault rows sheet) (length (tail (lines sheet))) ≡ answer → (vss : List (List (Option ℤ))) → rightLines count maxLines (drop first sheet) ≡ vss
+        → (values′ : List ℤ) (marks′ : List ℕ) → values′ ≡ putLines valueOf 0 vss values₀ → marks′ ≡ putLines readingMark 0 vss marks₀ → (answer, values′, marks′) ≡ sheetRead rows sheet values₀ marks₀
+    given answer a vss v values′ marks′ i j =
+        ap₂ (λ (x : List ℤ) (y : List ℕ). (answer, x, y)) i j
+        ∙ read-is rows sheet values₀ marks₀ (Channels count first) (header-of rows sheet (h .short) ∙ h .header-is)
+        (ap₂ (λ (s t : Bool). not (s && t)) (le-leb count (length values₀ / 128) (h .values-room)) (le-leb count (length marks₀ / 128) (h .marks-room)))
+        answer a vss v
 
     by-lines : (L : ℕ) → sheetLineWrong (ltb maxSheet (length sheet)) (channels rows 1) (lines sheet) L ≡ sheetLineWrong (ltb maxSheet (length sheet)) (channels rows 1) (sheetHeader (channels rows 1) ∷ ls) L
-    by-lines L = ap (λ (l : List (List ℕ)). sheetLineWrong (ltb maxSheet (length sheet)) (channels rows 1) l L) (h .header-first)
+    by-lines L = ap (λ (l : List (List ℕ)). sheetLineWrong (ltb maxSheet (length sheet)) (channels rows 1) l L) header-first
 
     -- no line so far is at fault
     right-so-far : (L : ℕ) → L < suc (suc line) → sheetLineWrong (ltb maxSheet (length sheet)) (channels rows 1) (lines sheet) L ≡ false
@@ -129,7 +174,7 @@ module _ (rows : List ℤ) (sheet : List ℕ) (count : ℕ) where
         read i l =
             let m = h .so-many in
             ap (λ (o : Option (List (Option ℤ))). not (isSome o))
-            (ap (λ (k : ℕ). valuesOf k (getD ls i [])) (sym (h .so-wide)) ∙ split-before (valuesOf count) ls (lines (drop at sheet)) (h .done) (h .lines-left) i (omega arith))
+            (ap (λ (k : ℕ). valuesOf k (getD ls i [])) (sym so-wide) ∙ split-before (valuesOf count) ls (lines (drop at sheet)) (h .done) (h .lines-left) i (omega arith))
 
         go : (L : ℕ) → L < suc (suc line) → sheetLineWrong (ltb maxSheet (length sheet)) (channels rows 1) (sheetHeader (channels rows 1) ∷ ls) L ≡ false
         go zero l = le-ltb maxSheet (length sheet) (h .short)
@@ -149,35 +194,69 @@ module _ (rows : List ℤ) (sheet : List ℕ) (count : ℕ) where
       more : line < length ls
       more = let n = split-count (valuesOf count) ls (here ∷ lines (drop (at + lineSize (drop at sheet)) sheet)) (h .done) left in let m = h .so-many in omega arith
 
-      fault-here : (leb maxLines line || not (isSome (valuesOf (length (channels rows 1)) (getD ls line [])))) ≡ true → refusedAt (line + 2) ≡ sheetRead rows sheet
+      fault-here : (leb maxLines line || not (isSome (valuesOf (length (channels rows 1)) (getD ls line [])))) ≡ true → answerOf (sheetFault rows sheet) (length (tail (lines sheet))) ≡ Refused (line + 2)
       fault-here e =
-          let two : line + 2 ≡ suc (suc line) = omega arith in
-          let size : length (lines sheet) ≡ suc (length ls) = ap length (h .header-first) in
-          ap refusedAt two
-          ∙ refused-by rows sheet (suc (suc line)) (omega (arith, more)) right-so-far
-          (by-lines (suc (suc line)) ∙ ap₂ (λ (s t : Bool). s && t) (le-leb (suc (suc line)) (suc (length ls)) (omega (arith, more))) e)
+          let two : suc (suc line) ≡ line + 2 = omega arith in
+          let size : length (lines sheet) ≡ suc (length ls) = ap length header-first in
+          ap (λ (o : Option Refusal). answerOf o (length (tail (lines sheet))))
+          (refused-by rows sheet (suc (suc line)) (omega (arith, more)) right-so-far
+          (by-lines (suc (suc line)) ∙ ap₂ (λ (s t : Bool). s && t) (le-leb (suc (suc line)) (suc (length ls)) (omega (arith, more))) e))
+          ∙ ap Refused two
 
       -- "line 130 at fault if it exists"
-      pub one-line-too-many : line ≡ 128 → refusedAt 130 ≡ sheetRead rows sheet
+      pub one-line-too-many : line ≡ 128 → (Refused 130, values, marks) ≡ sheetRead rows sheet values₀ marks₀
+      unfolding rightLines
       one-line-too-many e =
-          let n : 130 ≡ line + 2 = omega arith in
-          ap refusedAt n ∙ fault-here (ap (λ (t : Bool). t || not (isSome (valuesOf (length (channels rows 1)) (getD ls line [])))) (le-leb maxLines line (omega arith)))
+          let n : line + 2 ≡ 130 = omega arith in
+          let none-left : maxLines - line ≡ 0 = omega arith in
+          given (Refused 130)
+          (fault-here (ap (λ (t : Bool). t || not (isSome (valuesOf (length (channels rows 1)) (getD ls line [])))) (le-leb maxLines line (omega arith))) ∙ ap Refused n)
+          (h .done)
+          (h .right-left ∙ ap (λ (k : ℕ). h .done ++ rightLines count k (drop at sheet)) none-left ∙ append-nil (h .done))
+          values marks (h .values-kept) (h .marks-kept)
 
-      module _ (answer : Line) (values′ : List ℤ) (marks′ : List ℕ) (r : (answer, values′, marks′) ≡ lineRead count line at (drop at sheet) values marks) where
+      module _ (answer : Line) (values′ : List ℤ) (marks′ : List ℕ) (r : (answer, values′, marks′) ≡ lineRead count line at (drop at sheet) values marks) (fit : line ≡ 128 → ⊥) where
         answered : answer ≡ lineAs (valuesOf count here) (at + lineSize (drop at sheet))
         answered = ap (λ (w : Line × List ℤ × List ℕ). w .0) r
 
-        pub line-at-fault : answer ≡ line-variants.Wrong → refusedAt (line + 2) ≡ sheetRead rows sheet
+        -- the line is put, and the others after it if it is right
+        right-here : rightLines count maxLines (drop first sheet) ≡ h .done ++ (rightFields count (drop at sheet) ∷ ifRight (valuesOf count here) (rightLines count (maxLines - (line + 1)) (drop (at + lineSize (drop at sheet)) sheet)))
+        right-here =
+            let few = h .few in
+            let m : maxLines - line ≡ suc (maxLines - (line + 1)) = omega (arith, fit) in
+            h .right-left
+            ∙ ap (λ (k : ℕ). h .done ++ rightLines count k (drop at sheet)) m
+            ∙ ap {B = List (List (Option ℤ))} (λ vss. h .done ++ vss) (line-and-more count (maxLines - (line + 1)) sheet at l)
+
+        line-put : {A : Type 0} (kept : Option ℤ → A) (now then now′ : List A) → now ≡ putLines kept 0 (h .done) then → now′ ≡ putReadings kept line 0 (rightFields count (drop at sheet)) now
+            → now′ ≡ putLines kept 0 (h .done ++ (rightFields count (drop at sheet) ∷ [])) then
+        line-put kept now then now′ i j =
+            let n : line ≡ 0 + length (h .done) = omega (arith, h .so-many) in
+            j
+            ∙ ap₂ (λ (k : ℕ) (l : List _). putReadings kept k 0 (rightFields count (drop at sheet)) l) n i
+            ∙ one-more-line kept 0 (h .done) (rightFields count (drop at sheet)) then
+
+        values-put : values′ ≡ putLines valueOf 0 (h .done ++ (rightFields count (drop at sheet) ∷ [])) values₀
+        values-put = line-put valueOf values values₀ values′ (h .values-kept) (ap (λ (w : Line × List ℤ × List ℕ). w .1) r)
+
+        marks-put : marks′ ≡ putLines readingMark 0 (h .done ++ (rightFields count (drop at sheet) ∷ [])) marks₀
+        marks-put = line-put readingMark marks marks₀ marks′ (h .marks-kept) (ap (λ (w : Line × List ℤ × List ℕ). w .2) r)
+
+        pub line-at-fault : answer ≡ line-variants.Wrong → (Refused (line + 2), values′, marks′) ≡ sheetRead rows sheet values₀ marks₀
         line-at-fault e =
             let o : valuesOf count here ≡ none = line-none (valuesOf count here) (at + lineSize (drop at sheet)) (sym e ∙ answered) in
             let q : valuesOf (length (channels rows 1)) (getD ls line []) ≡ none =
-            ap₂ (λ (k i : ℕ). valuesOf k (getD ls i [])) (sym (h .so-wide)) (sym (h .so-many))
+            ap₂ (λ (k i : ℕ). valuesOf k (getD ls i [])) (sym so-wide) (sym (h .so-many))
             ∙ split-here (valuesOf count) ls (lines (drop (at + lineSize (drop at sheet)) sheet)) here (h .done) left
             ∙ o
             in
-            fault-here (ap (λ (o : Option (List (Option ℤ))). leb maxLines line || not (isSome o)) q ∙ or-true (leb maxLines line))
+            given (Refused (line + 2))
+            (fault-here (ap (λ (o : Option (List (Option ℤ))). leb maxLines line || not (isSome o)) q ∙ or-true (leb maxLines line)))
+            (h .done ++ (rightFields count (drop at sheet) ∷ []))
+            (right-here ∙ ap (λ (o : Option (List (Option ℤ))). h .done ++ (rightFields count (drop at sheet) ∷ ifRight o (rightLines count (maxLines - (line + 1)) (drop (at + lineSize (drop at sheet)) sheet)))) o)
+            values′ marks′ values-put marks-put
 
-        module _ (next : ℕ) (e : answer ≡ line-variants.Right next) (fit : line ≡ 128 → ⊥) where
+        module _ (next : ℕ) (e : answer ≡ line-variants.Right next) where
           it : (v : List (Option ℤ)) × (valuesOf count here ≡ some v) × (next ≡ at + lineSize (drop at sheet))
           it = line-some (valuesOf count here) (at + lineSize (drop at sheet)) next (sym e ∙ answered)
 
@@ -188,28 +267,25 @@ module _ (rows : List ℤ) (sheet : List ℕ) (count : ℕ) where
           line-passed =
               let v = it .0 in
               let few = h .few in
-              let room : length (h .done) < 128 = omega (arith, h .so-many, fit) in
+              let right = right-line count (drop at sheet) v (it .1) in
               record {
                 short = h .short;
-                so-wide = h .so-wide;
-                after-header = ls;
-                header-first = h .header-first;
+                header-is = h .header-is;
+                values-room = h .values-room;
+                marks-room = h .marks-room;
                 done = h .done ++ (v ∷ []);
                 so-many = length-append (h .done) (v ∷ []) ∙ ap (λ (n : ℕ). n + 1) (h .so-many);
                 few = omega (arith, fit);
                 lines-left =
                     split-more (valuesOf count) ls (lines (drop (at + lineSize (drop at sheet)) sheet)) here (h .done) v left (it .1)
                     ∙ ap (λ (n : ℕ). map some (h .done ++ (v ∷ [])) ++ map (valuesOf count) (lines (drop n sheet))) (sym (it .2));
-                values-kept =
-                    ap (λ (w : Line × List ℤ × List ℕ). w .1) r
-                    ∙ ap (λ (vs : List (Option ℤ)). putReadings valueOf line 0 vs values) (right-line count (drop at sheet) v (it .1))
-                    ∙ ap₂ (λ (n : ℕ) (l : List ℤ). putReadings valueOf n 0 v l) (sym (h .so-many)) (h .values-kept)
-                    ∙ put-line valueOf (h .done) room v;
-                marks-kept =
-                    ap (λ (w : Line × List ℤ × List ℕ). w .2) r
-                    ∙ ap (λ (vs : List (Option ℤ)). putReadings readingMark line 0 vs marks) (right-line count (drop at sheet) v (it .1))
-                    ∙ ap₂ (λ (n : ℕ) (l : List ℕ). putReadings readingMark n 0 v l) (sym (h .so-many)) (h .marks-kept)
-                    ∙ put-line readingMark (h .done) room v;
+                right-left =
+                    right-here
+                    ∙ ap₂ (λ (vs : List (Option ℤ)) (o : Option (List (Option ℤ))). h .done ++ (vs ∷ ifRight o (rightLines count (maxLines - (line + 1)) (drop (at + lineSize (drop at sheet)) sheet)))) right (it .1)
+                    ∙ sym (append-assoc (h .done) (v ∷ []) (rightLines count (maxLines - (line + 1)) (drop (at + lineSize (drop at sheet)) sheet)))
+                    ∙ ap (λ (n : ℕ). (h .done ++ (v ∷ [])) ++ rightLines count (maxLines - (line + 1)) (drop n sheet)) (sym (it .2));
+                values-kept = values-put ∙ ap (λ (vs : List (Option ℤ)). putLines valueOf 0 (h .done ++ (vs ∷ [])) values₀) right;
+                marks-kept = marks-put ∙ ap (λ (vs : List (Option ℤ)). putLines readingMark 0 (h .done ++ (vs ∷ [])) marks₀) right;
               }
 
     -- after the last line
@@ -226,7 +302,7 @@ module _ (rows : List ℤ) (sheet : List ℕ) (count : ℕ) where
       no-fault =
           ap (Option·map (λ L. (10, L)))
           (none-lowest (sheetLineWrong (ltb maxSheet (length sheet)) (channels rows 1) (lines sheet)) (2 + length (lines sheet))
-          (λ L m. let size : length (lines sheet) ≡ suc (length ls) = ap length (h .header-first) in go L (omega (arith, count-lines)) (eqb L (suc (suc line))) refl))
+          (λ L m. let size : length (lines sheet) ≡ suc (length ls) = ap length header-first in go L (omega (arith, count-lines)) (eqb L (suc (suc line))) refl))
         where
           -- past the last line there is none to be at fault
           past : leb (suc (suc line)) (suc (length ls)) ≡ false
@@ -239,30 +315,13 @@ module _ (rows : List ℤ) (sheet : List ℕ) (count : ℕ) where
               ∙ ap (λ (t : Bool). t && (leb maxLines line || not (isSome (valuesOf (length (channels rows 1)) (getD ls line []))))) past
           go L m false e = let n = eqb-false L (suc (suc line)) e in right-so-far L (omega (arith, n))
 
-      columns-are : readings rows sheet ≡ columns (h .done) count
-      unfolding readings
-      columns-are =
-          ap₂ (λ (k : ℕ) (m : List (List ℕ)). columns (map (λ l. Option·getD (valuesOf k l) []) (tail m)) k) (sym (h .so-wide)) (h .header-first)
-          ∙ ap (λ (vs : List (List (Option ℤ))). columns vs count) (split-all (valuesOf count) ls (h .done) all)
-
-      narrow : (q : ℕ) → length (getD (h .done) q []) ≤ count
-      narrow q = go (ltb q (length (h .done))) refl
-        where
-          go : (t : Bool) → ltb q (length (h .done)) ≡ t → length (getD (h .done) q []) ≤ count
-          go true e =
-              let v = values-count count (getD ls q []) (getD (h .done) q []) (split-before (valuesOf count) ls [] (h .done) all q (ltb-true q (length (h .done)) e)) in
-              omega arith
-          go false e =
-              let z : getD (h .done) q [] ≡ [] = List·getD-eq-default (h .done) [] (ltb-false q (length (h .done)) e) in
-              let n = ap length z in
-              omega arith
-
-      in-place : {A : Type 0} (kept : Option ℤ → A) → grid kept (h .done) ≡ tabulated (λ i. kept (readingAt (columns (h .done) count) i)) 1024
-      in-place kept = tabulated-equal (λ i. kept (gridAt (h .done) i)) (λ i. kept (readingAt (columns (h .done) count) i)) 1024 (λ i m. ap kept (grid-columns (h .done) count narrow i))
-
-      pub all-passed : record { verdict = Accepted; values = values; marks = marks; lines = line } ≡ sheetRead rows sheet
-      unfolding sheetRead keptAs
+      pub all-passed : (Lines line, values, marks) ≡ sheetRead rows sheet values₀ marks₀
       all-passed =
-          ap₂ (λ (v : List ℤ) (m : List ℕ). record { verdict = Accepted; values = v; marks = m; lines = line }) (h .values-kept ∙ in-place valueOf) (h .marks-kept ∙ in-place readingMark)
-          ∙ ap₂ (λ (c : List (List (Option ℤ))) (n : ℕ). keptAs none c n) (sym columns-are) (sym (ap (λ (m : List (List ℕ)). length (tail m)) (h .header-first) ∙ count-lines))
-          ∙ ap (λ (f : Option Refusal). readingsUnlessRefused f (readings rows sheet) (length (tail (lines sheet)))) (sym no-fault)
+          given (Lines line)
+          (ap₂ (λ (o : Option Refusal) (n : ℕ). answerOf o n) no-fault (ap (λ (m : List (List ℕ)). length (tail m)) header-first ∙ count-lines))
+          (h .done)
+          (h .right-left
+          ∙ ap (λ (s : List ℕ). h .done ++ rightLines count (maxLines - line) s) (drop-of-length-le sheet l)
+          ∙ ap {B = List (List (Option ℤ))} (λ vss. h .done ++ vss) (no-more-lines count (maxLines - line))
+          ∙ append-nil (h .done))
+          values marks (h .values-kept) (h .marks-kept)

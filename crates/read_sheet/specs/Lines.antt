@@ -4,7 +4,6 @@ use mathlib.Core.Option.{Option, none, some}
 use Prim.Native.Nat.{ℕ, zero, suc, _+_, _*_}
 use lib.IntN.{ℤ}
 use lib.ListN.{take, drop, set}
-use lib.Dec.{ltb}
 use Rattle.meaning.specs.Basics.{ifElse}
 use Rattle.meaning.specs.Lines.{lineSize}
 use Rattle.meaning.specs.Values.{Message}
@@ -15,14 +14,10 @@ use Rattle.read_sheet.specs.declared.lines.Line.the-variants.{Right, Wro
 use Rattle.read_sheet.specs.Fields.{valueOf, readingMark}
 
 module _ {A : Type 0} where
-  -- what is kept of channel j at a line, put in its place; only 8 channels are kept
-  unfoldable pub putReading : ℕ → ℕ → A → List A → List A
-  putReading line j a l = ifElse (ltb j 8) (set l (j * 128 + line) a) l
-
-  -- what is kept of the readings of a line, from channel j on
+  -- what is kept of the readings of a line, from channel j on, put in place
   unfoldable pub putReadings : (Message → A) → ℕ → ℕ → List Message → List A → List A
   putReadings kept line j [] l = l
-  putReadings kept line j (v ∷ vs) l = putReadings kept line (suc j) vs (putReading line j (kept v) l)
+  putReadings kept line j (v ∷ vs) l = putReadings kept line (suc j) vs (set l (j * 128 + line) (kept v))
 
 -- a line is right if it has readings
 abbrev pub lineAs : Option (List Message) → ℕ → Line

@@ -1,9 +1,9 @@
 // A line's readings, put where each channel's readings are kept.
 ghost use mathlib.Core.Path.{_≡_};
-ghost use Prim.Native.Nat.{_<_};
+ghost use Prim.Native.Nat.{_*_, _≤_, _<_};
 ghost use lib.ListN.{length, drop};
 ghost use Rattle.read_table.specs.Fields.{stopOf};
-ghost use Rattle.read_sheet.specs.Lines.{putReading, lineRead};
+ghost use Rattle.read_sheet.specs.Lines.{lineRead};
 use crate::fields;
 
 // Where the next line begins, or that the line is not right.
@@ -19,25 +19,6 @@ fn stop_of(after: usize) -> u8
     if after == 0 { 10 } else { 44 }
 }
 
-// A reading of channel j, put into the values; its mark, put into the marks. Only 8 channels are kept.
-fn put_value(values: &mut [i32], line: usize, j: usize, value: i32)
-    requires { ⌜ (line < 128) × (length (now values) ≡ 1024) ⌝ }
-    ensures { λ _. ⌜ now (values .exit) ≡ putReading line j value (now (values .entry)) ⌝ }
-{
-    if j < 8 {
-        values[j * 128 + line] = value;
-    }
-}
-
-fn put_mark(marks: &mut [u8], line: usize, j: usize, mark: u8)
-    requires { ⌜ (line < 128) × (length (now marks) ≡ 1024) ⌝ }
-    ensures { λ _. ⌜ now (marks .exit) ≡ putReading line j mark (now (marks .entry)) ⌝ }
-{
-    if j < 8 {
-        marks[j * 128 + line] = mark;
-    }
-}
-
 // The line of so many readings that begins at a place, put into the values and the marks; of a wrong line, those before the first wrong field.
 pub fn read_line(
     sheet: &[u8],
@@ -47,7 +28,7 @@ pub fn read_line(
     values: &mut [i32],
     marks: &mut [u8],
 ) -> Line
-    requires { ⌜ (line < 128) × (length (now values) ≡ 1024) × (length (now marks) ≡ 1024) ⌝ }
+    requires { ⌜ (line < 128) × (128 * count ≤ length (now values)) × (128 * count ≤ length (now marks)) ⌝ }
     ensures { λ r. ⌜ (r, now (values .exit), now (marks .exit)) ≡ lineRead count line from (drop from (now (sheet .entry))) (now (values .entry)) (now (marks .entry)) ⌝ }
 {
     if count == 0 {
@@ -61,8 +42,9 @@ pub fn read_line(
         if !field.right {
             return Line::Wrong;
         }
-        put_value(values, line, j, field.value);
-        put_mark(marks, line, j, field.mark);
+        let value = field.value;
+        values[j * 128 + line] = value;
+        marks[j * 128 + line] = field.mark;
         at = field.next;
         j += 1;
     }

@@ -4,6 +4,7 @@ pub mod ReadFields
 pub mod FieldLaws
 pub mod FieldSteps
 pub mod RowSteps
-pub mod Padding
+pub mod LineRow
+pub mod RowStored
 pub mod Reading
-pub mod AcceptedRows
+pub mod RowsRead

@@ -1,32 +1,35 @@
--- What reading a table's bytes gives: the verdict of 2 and 3, and the rows where there is no refusal.
-use mathlib.Core.List.{List, [], _++_}
+-- What reading a table's bytes into lent rows comes to, and what the lent rows hold after it.
+use mathlib.Core.List.{List, _++_}
 use mathlib.Core.Option.{Option, none, some}
-use Prim.Native.Nat.{ℕ, _-_}
-use lib.IntN.{ℤ, pos}
-use lib.ListN.{length, replicate}
+use Prim.Native.Nat.{ℕ, _-_, _*_, _/_, min}
+use lib.IntN.{ℤ}
+use lib.ListN.{length, take, drop}
+use lib.Dec.{ltb, eqb}
+use Rattle.meaning.specs.Basics.{ifElse}
 use Rattle.meaning.specs.Refusals.{Refusal}
 use Rattle.meaning.specs.Rows.{rowCount}
 use Rattle.meaning.specs.TableBytes.{bytesFault, rowsOf}
-use Rattle.meaning.specs.Answers.{verdictOf}
 use Rattle.read_table.specs.declared.TableRead.{TableRead}
+use Rattle.read_table.specs.declared.TableRead.the-variants.{Rows, Full, Refused}
 
--- no rows if there is a refusal
-abbrev pub rowsUnlessRefused : Option Refusal → List ℤ → List ℤ
-rowsUnlessRefused none zs = zs
-rowsUnlessRefused (some f) zs = []
+-- how many rows there are to read: those before the line at fault, which is the place of 2, or all
+abbrev pub rowsToRead : Option Refusal → List ℤ → ℕ
+rowsToRead none rows = rowCount rows
+rowsToRead (some (number, place)) rows = ifElse (eqb number 2) (place - 2) place
 
--- numbers with zeros behind them, as many as 1,024 rows have
-unfoldable pub padded : List ℤ → List ℤ
-padded zs = zs ++ replicate (4096 - length zs) (pos 0)
+-- the refusal, or how many rows are read
+abbrev pub rowsUnlessRefused : Option Refusal → ℕ → TableRead
+rowsUnlessRefused none count = Rows count
+rowsUnlessRefused (some (number, place)) count = Refused number place
 
--- a verdict with rows
-abbrev pub readWith : Option Refusal → List ℤ → TableRead
-readWith fault zs = record { verdict = verdictOf fault; rows = padded zs; count = rowCount zs }
+-- numbers over the first places of lent ones, with what is past them
+abbrev pub past : List ℤ → List ℤ → List ℤ
+past numbers lent = numbers ++ drop (length numbers) lent
 
--- what a refusal by number and place gives
-unfoldable pub refusedBy : ℕ → ℕ → TableRead
-refusedBy n p = readWith (some (n, p)) []
-
--- what a table's bytes give
-unfoldable pub tableRead : List ℕ → TableRead
-tableRead bytes = let fault = bytesFault bytes in readWith fault (rowsUnlessRefused fault (rowsOf bytes))
+-- full if there are more rows to read than room for them; the rows for which there is room stand at the start of the lent ones
+unfoldable pub tableRead : List ℕ → List ℤ → TableRead × List ℤ
+tableRead bytes lent =
+    let fault = bytesFault bytes in
+    let count = rowsToRead fault (rowsOf bytes) in
+    let room = length lent / 4 in
+    (ifElse (ltb room count) Full (rowsUnlessRefused fault count), past (take (4 * min room count) (rowsOf bytes)) lent)

@@ -3,7 +3,6 @@ pub mod Reasons
 pub mod Forms
 pub mod OptionProcesses
 pub mod Told
-pub mod NotesTold
 pub mod OutputRows
 pub mod ChangeRows
 pub mod StepChanges

@@ -23,7 +23,7 @@ use Rattle.run_code.proofs.RowKinds.{row-of-kind, kind-in}
 use Rattle.run_code.proofs.Codes.{few, option-row}
 use Rattle.run_intents.specs.Stands.{optionsOf}
 
-module _ {rows code : List ℤ} (p : Prepared rows code) where
+module _ {rows : List ℤ} {code : List ℕ} (p : Prepared rows code) where
   -- an option as its prepared row says
   pub record AsPrepared (b : AltOption) : Type 0 where
     pub is-option : placeAt code (b .row) 0 ≡ 42

@@ -2,7 +2,7 @@
 use mathlib.Core.Path.{_≡_, sym, ap, _∙_}
 use mathlib.Core.Bool.{true}
 use mathlib.Core.List.{List}
-use Prim.Native.Nat.{ℕ, _<_}
+use Prim.Native.Nat.{ℕ, _<_, _≤_}
 use native.Mathlib.Omega.{arith}
 use lib.IntN.{ℤ}
 use lib.Dec.{eqb}
@@ -18,8 +18,10 @@ use Rattle.agreement.proofs.TableTree.{part-at, process-is}
 use Rattle.agreement.proofs.TableReferences.{if-else}
 use Rattle.machine.specs.Held.{stripStart}
 use Rattle.run_code.specs.declared.Row.{Row}
-use Rattle.run_code.specs.Prepared.{stripOf, rowAt}
+use Rattle.run_code.specs.Prepared.{stripOf, Prepared, stripAt}
+use Rattle.run_code.proofs.Entries.{what-at}
 use Rattle.run_code.proofs.RowKinds.{row-of-kind, kind-in}
+use Rattle.run_code.proofs.Codes.{few, output-strip}
 
 module _ (rows : List ℤ) (r : ℕ) where
   module _ (at : ℕ → Content) where
@@ -50,10 +52,11 @@ module _ (rows : List ℤ) (r : ℕ) where
         (λ c e f g. let y : _≡_ {A = ℕ} 0 1 = cc in absurd (omega arith)))))))))))))))))))
 
   -- where the strip of its channel begins
-  pub strip-is : r < rowCount rows → (c : Channel) (e f : Expr) → actionOf (processAt (program rows) r) ≡ output c e f → c .host ≡ true → rowAt rows r .strip ≡ stripStart rows (c .number)
+  pub strip-is : {code : List ℕ} → Prepared rows code → r < rowCount rows → (c : Channel) (e f : Expr) → actionOf (processAt (program rows) r) ≡ output c e f → c .host ≡ true → stripAt code r ≡ stripStart rows (c .number)
   unfolding stripOf
-  strip-is l c e f g t =
+  strip-is p l c e f g t =
       let q : actionOf (orStop (contentOf rows r (higherContent rows r) (nodeAt rows r) .process)) ≡ output c e f =
       sym (ap actionOf (process-is rows r ∙ ap (λ (d : Content). orStop (d .process)) (part-at rows r l))) ∙ g in
       let (k, u) = tells (higherContent rows r) c e f q in
-      ap (λ (w : Row). w .strip) (row-of-kind rows r 24 (kind-in rows r 24 l k)) ∙ rw (← u, t)
+      let h : r ≤ 1024 = omega (arith, few p) in
+      output-strip p r h (what-at p r h ∙ ap (λ (w : Row). w .what) (row-of-kind rows r 24 (kind-in rows r 24 l k))) ∙ rw (← u, t)

@@ -1,6 +1,5 @@
 -- Of an accepted table, in a state of an order that the arrays hold, where the notes tell what rows would do: the change of the row that orders a ready step does what the step does.
 use mathlib.Core.Path.{_≡_, refl, sym, ap, subst, _∙_}
-use mathlib.Core.Logic.{_↔_}
 use mathlib.Core.Bool.{Bool, true, false}
 use mathlib.Core.Option.{Option, none, some, Option·map, Option·none-ne-some, Option·some-injective}
 use mathlib.Core.List.{List, [], _∷_, _++_, List·Memᴰ, List·Memᴰ·head, List·Memᴰ·tail}
@@ -12,7 +11,7 @@ use lib.Seq.{getD-append-seam}
 use lib.Dec.{eqb}
 use borrow.Author.Tests.{ltb-true, eqb-true, eq-eqb}
 use Rattle.meaning.specs.Basics.{ifElse, isSome}
-use Rattle.meaning.specs.Rows.{rowCount, naturalOf}
+use Rattle.meaning.specs.Rows.{rowCount}
 use Rattle.meaning.specs.Declarations.{Channel}
 use Rattle.meaning.specs.Tree.{Expr, AltOption, Action, output, Content, actionOf}
 use Rattle.meaning.specs.Values.{Message}
@@ -25,10 +24,10 @@ use Rattle.meaning.specs.Step as steps
 use Rattle.meaning.specs.Buffers.{Buffers, mark, numberIn, cellOf, capacities}
 use Rattle.meaning.specs.Order.{OrderOf}
 use Rattle.meaning.specs.Answers.{check}
-use Rattle.agreement.specs.RowsOfSteps.{RowOf, offerAt}
+use Rattle.agreement.specs.RowsOfSteps.{offerAt}
 use Rattle.agreement.proofs.Active.{acts-alone, passes-on, takes-open, takes-input, offerAt-is}
 use Rattle.machine.specs.RowSteps.{altOf, ownStepBy, offerStep, optionStepBy, firstStep, waitingAt, ownStep, optionStep, optionStepOf, stepAt}
-use Rattle.machine.specs.Held.{HoldsState, stripStart, putWrites, AllInRange}
+use Rattle.machine.specs.Held.{HoldsState, stripStart, putWrites, AllInRange, KeptReadings}
 use Rattle.machine.proofs.Declared.{capacities-length, room}
 use Rattle.machine.proofs.Strips.{strip-within}
 use Rattle.machine.proofs.StateSizes.{lengths}
@@ -39,21 +38,20 @@ use Rattle.machine.proofs.RowReady.{waiting-outputs, alt-is, in-range}
 use Rattle.run_parents.specs.Marks.{rowNote}
 use Rattle.machine.proofs.RowKinds.{no-own-step}
 use Rattle.machine.proofs.RowTables.{states-length}
-use Rattle.run_intents.specs.Held.{KeptReadings}
 use Rattle.run_intents.specs.Stands.{optionsOf}
-use Rattle.run_code.specs.Prepared.{rowAt, prepared, Prepared, placeAt}
-use Rattle.run_code.proofs.Entries.{what-at, number-at, parent-at}
+use Rattle.run_code.specs.Prepared.{rowAt, prepared, Prepared, placeAt, stripAt}
+use Rattle.run_code.proofs.Entries.{what-at, first-at, parent-at}
 use Rattle.run_code.proofs.Codes.{option-row}
 use Rattle.run_code.proofs.Owners.{option-note}
 use Rattle.run_changes.specs.declared.Data.{Data}
 use Rattle.run_changes.specs.declared.Data.the-variants.{Nothing, Cell, Reading, Output}
 use Rattle.run_changes.specs.declared.Change.{Change}
-use Rattle.run_changes.specs.Changes.{rowNoted, rowBecomes, whatAt, communicated, optionChangeBy, optionChange, ownChangeBy, ownChange, changeIn, changesOf, RowIn, putData, DataFits}
+use Rattle.run_changes.specs.Changes.{rowNoted, rowBecomes, whatAt, communicated, optionChangeBy, optionChange, ownChangeBy, ownChange, changeIn, changesOf, putData, DataFits}
 use Rattle.run_changes.proofs.Forms.{processOf, Left, reading, oneMore, Opens, writes-nothing, writes-reading, Formed, OfOption, Offered, Form, is-wait, is-stop, is-assign, is-end, is-start, is-read, is-write, is-input, is-output, is-select, form-of}
 use Rattle.run_changes.proofs.OptionProcesses.{as-prepared, option-what}
 use Rattle.run_changes.proofs.OutputRows.{strip-is}
 use Rattle.run_changes.proofs.Told.{Told}
-use Rattle.run_changes.proofs.ChangeRows.{handed, handed-changes, own-rows, option-rows, pass-rows, take-rows}
+use Rattle.run_changes.proofs.ChangeRows.{handed, handed-changes}
 
 -- ---- numbers, and changes of row states
 
@@ -94,8 +92,7 @@ module _ (rows : List ℤ) (ok : check rows ≡ none) (sheet : Sheet) (l : List 
     pub is-effect : effectOf x (intentAt (program rows) sheet s) ≡ some effect
     pub changes-are : effect .changes ≡ changesOf c
     pub data-put : putWrites rows (effect .writes) b ≡ putData readings given (c .written) b
-    pub data-fits : DataFits (c .written) b
-    pub rows-are : (r : ℕ) → RowOf x r ↔ RowIn c r
+    pub data-fits : DataFits readings given (c .written) b
     pub owner-below : c .owner < rowCount rows
     pub next-small : c .next ≤ 14
 
@@ -130,13 +127,13 @@ module _ (rows : List ℤ) (ok : check rows ≡ none) (sheet : Sheet) (l : List 
         let y = K .marked p n (R .1 .0) m t in
         rw (q, x, y, message-back m)
 
-    read-fits : DataFits (Reading a p) b
+    read-fits : DataFits readings given (Reading a p) b
     read-fits =
         let q : getD (s .store .places) p 0 ≡ getD (b .places) p 0 = place-same p in
         let t = rw q at left in
         let i : isSome (some m) ≡ true = refl in
         let k = ltb-true (getD (b .places) p 0) lines (sym (K .left p (getD (b .places) p 0) (R .1 .0)) ∙ ap (λ (y : Option Message). isSome y) t) in
-        (omega (arith, R .0, room rows ok .cells), omega (arith, R .1 .0, room rows ok .places), omega arith)
+        (omega (arith, R .0, room rows ok .cells), omega (arith, R .1 .0, room rows ok .places), omega arith, omega (arith, R .1 .0, K .numbers-fit), omega (arith, R .1 .0, K .marks-fit))
 
   -- an output
   module _ (p strip : ℕ) (z : ℤ) (e : strip ≡ stripStart rows p) (R : AllInRange rows (s .store) (oneMore sheet (s .store) p z)) where
@@ -146,7 +143,7 @@ module _ (rows : List ℤ) (ok : check rows ≡ none) (sheet : Sheet) (l : List 
         let g : getD (old ++ (some z ∷ [])) (getD (b .counts) p 0) none ≡ some z = rw (← count-same p) (getD-append-seam old (some z) [] none) in
         rw (e, g)
 
-    write-fits : DataFits (Output p strip z) b
+    write-fits : DataFits readings given (Output p strip z) b
     unfolding stripStart
     write-fits =
         let (m, k, q, c) = R .0 in
@@ -194,7 +191,7 @@ module _ (rows : List ℤ) (ok : check rows ≡ none) (sheet : Sheet) (l : List 
   same c d x y e q D = subst (λ (i : Change). Does i x) (sym e) (subst (Does c) q D)
 
   -- a row that moves
-  moved : (j row state : ℕ) (ws : List Write) (d : Data) → W j ≡ moves row state ws → state ≤ 14 → putWrites rows ws b ≡ putData readings given d b → DataFits d b → Does (rowBecomes j row state d) (own j)
+  moved : (j row state : ℕ) (ws : List Write) (d : Data) → W j ≡ moves row state ws → state ≤ 14 → putWrites rows ws b ≡ putData readings given d b → DataFits readings given d b → Does (rowBecomes j row state d) (own j)
   moved j row state ws d q u p f =
       record {
         effect = _;
@@ -202,7 +199,6 @@ module _ (rows : List ℤ) (ok : check rows ≡ none) (sheet : Sheet) (l : List 
         changes-are = refl;
         data-put = p;
         data-fits = f;
-        rows-are = λ r. own-rows j row state r d;
         owner-below = at-work j (λ g. let y : _≡_ {A = ℕ} 0 1 = cc in absurd (omega arith));
         next-small = u;
       }
@@ -231,7 +227,6 @@ module _ (rows : List ℤ) (ok : check rows ≡ none) (sheet : Sheet) (l : List 
               changes-are = handed-changes j j 2 a z i;
               data-put = refl;
               data-fits = omega (arith, writes-in rows sheet s (passes-on f u) .0, room rows ok .cells);
-              rows-are = λ r. pass-rows j j 2 a z i r;
               owner-below = at-work j (λ v. let y : _≡_ {A = ℕ} 0 1 = cc in absurd (omega arith));
               next-small = omega arith;
             })
@@ -283,7 +278,7 @@ module _ (rows : List ℤ) (ok : check rows ≡ none) (sheet : Sheet) (l : List 
   offer-process r j (inputOffer i q d a) e k = k .process-is ∙ as-prepared table r (k .option) (k .among) .process ∙ ap (λ (n : ℕ). placeAt (prepared rows) n 1) (sym (k .row-is) ∙ e)
 
   module _ (r j q : ℕ) (x : Label) (os : List Offer) (alt : altOf (program rows) j ≡ some r) (sel : W r ≡ selects os) where
-    opened : (i p : ℕ) (ws : List Write) (d : Data) → offerAt j os ≡ some (openOffer i p ws) → p ≡ q → putWrites rows ws b ≡ putData readings given d b → DataFits d b → Does (rowBecomes r q 1 d) (takeOption r j)
+    opened : (i p : ℕ) (ws : List Write) (d : Data) → offerAt j os ≡ some (openOffer i p ws) → p ≡ q → putWrites rows ws b ≡ putData readings given d b → DataFits readings given d b → Does (rowBecomes r q 1 d) (takeOption r j)
     opened i p ws d e g u f =
         record {
           effect = _;
@@ -291,7 +286,6 @@ module _ (rows : List ℤ) (ok : check rows ≡ none) (sheet : Sheet) (l : List 
           changes-are = ap (λ (n : ℕ). changesOf (rowBecomes r n 1 d)) g;
           data-put = u;
           data-fits = f;
-          rows-are = λ n. option-rows r q 1 n d j;
           owner-below = at-work r (λ v. let y : _≡_ {A = ℕ} 0 1 = cc in absurd (omega arith));
           next-small = omega arith;
         }
@@ -317,7 +311,6 @@ module _ (rows : List ℤ) (ok : check rows ≡ none) (sheet : Sheet) (l : List 
           changes-are = ap (λ (m : ℕ). steps.becomes r m 1 ∷ steps.becomes n n 2 ∷ []) g ∙ handed-changes r q 1 a z n;
           data-put = refl;
           data-fits = omega (arith, writes-in rows sheet s (takes-input sel f u) .0, room rows ok .cells);
-          rows-are = λ m. take-rows r q 1 a z n m j;
           owner-below = at-work r (λ k. let y : _≡_ {A = ℕ} 0 1 = cc in absurd (omega arith));
           next-small = omega arith;
         })
@@ -367,13 +360,13 @@ module _ (rows : List ℤ) (ok : check rows ≡ none) (sheet : Sheet) (l : List 
     unfolding stepAt ownStep optionStep changeIn
     step-done = go (altOf (program rows) j) refl
       where
-        itself : altOf (program rows) j ≡ none → (t : Bool) → eqb (rowAt rows j .what) 42 ≡ t → Does (ifElse t (optionChange acts sent elements (rowNoted (rowAt rows j .parent)) (naturalOf (rowAt rows j .number)) j) (ownChange acts sent elements (rowAt rows j .strip) j)) x
+        itself : altOf (program rows) j ≡ none → (t : Bool) → eqb (rowAt rows j .what) 42 ≡ t → Does (ifElse t (optionChange acts sent elements (rowNoted (rowAt rows j .parent)) (rowAt rows j .first) j) (ownChange acts sent elements (stripAt (prepared rows) j) j)) x
         itself q true e =
             let u : firstStep (ownStepBy waiter j (W j)) none ≡ some x = subst (λ (a : Option ℕ). firstStep (ownStepBy waiter j (W j)) (optionStepOf (program rows) sheet s j a) ≡ some x) q g in
             absurd (Option·none-ne-some x (sym (no-own (eqb-true _ 42 e)) ∙ sym (or-none (ownStepBy waiter j (W j))) ∙ u))
         itself q false e =
             let u : firstStep (ownStepBy waiter j (W j)) none ≡ some x = subst (λ (a : Option ℕ). firstStep (ownStepBy waiter j (W j)) (optionStepOf (program rows) sheet s j a) ≡ some x) q g in
-            own-done (rowAt rows j .strip) j x (sym (or-none (ownStepBy waiter j (W j))) ∙ u) (strip-is rows j below) (form-of (program rows) sheet s j)
+            own-done (stripAt (prepared rows) j) j x (sym (or-none (ownStepBy waiter j (W j))) ∙ u) (strip-is rows j table below) (form-of (program rows) sheet s j)
 
         go : (a : Option ℕ) → altOf (program rows) j ≡ a → Does (changeIn rows acts sent elements j) x
         go none q = itself q (eqb (rowAt rows j .what) 42) refl
@@ -383,6 +376,6 @@ module _ (rows : List ℤ) (ok : check rows ≡ none) (sheet : Sheet) (l : List 
             let u : optionStepBy waiter r j (W r) ≡ some x =
             subst (λ (a : Option ℕ). optionStepOf (program rows) sheet s j a ≡ some x) q (subst (λ (y : Option Label). firstStep y (optionStepOf (program rows) sheet s j (altOf (program rows) j)) ≡ some x) (no-own e) g) in
             let n : rowAt rows j .parent ≡ r + 1 = sym (parent-at table j inside-table) ∙ option-note table j inside-table w ∙ ap rowNote q in
-            let m : naturalOf (rowAt rows j .number) ≡ placeAt (prepared rows) j 1 = ap naturalOf (sym (number-at table j inside-table)) in
-            let (D, k) = option-done r j x q u (naturalOf (rowAt rows j .number)) m (form-of (program rows) sheet s r) in
+            let m : rowAt rows j .first ≡ placeAt (prepared rows) j 1 = sym (first-at table j inside-table) in
+            let (D, k) = option-done r j x q u (rowAt rows j .first) m (form-of (program rows) sheet s r) in
             rw (eq-eqb _ 42 e, n, row-noted r (omega (arith, room rows ok .states))) D

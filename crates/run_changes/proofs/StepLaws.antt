@@ -1,6 +1,5 @@
 -- Of an accepted table, in a state of an order that the arrays hold, where the notes tell what rows would do: what the change of the row that orders a ready step says of the step's effect, row states, data and rows.
 use mathlib.Core.Path.{_≡_, refl, sym, ap, subst, _∙_}
-use mathlib.Core.Logic.{_↔_}
 use mathlib.Core.Bool.{false}
 use mathlib.Core.Option.{none, some, Option·some-injective}
 use mathlib.Core.List.{List, [], _∷_}
@@ -15,17 +14,15 @@ use Rattle.meaning.specs.Ready.{effectOf, intentAt, after}
 use Rattle.meaning.specs.Buffers.{Buffers}
 use Rattle.meaning.specs.Order.{OrderOf}
 use Rattle.meaning.specs.Answers.{check}
-use Rattle.agreement.specs.RowsOfSteps.{RowOf}
 use Rattle.agreement.proofs.Active.{active}
 use Rattle.machine.specs.RowSteps.{stepAt}
-use Rattle.machine.specs.Held.{HoldsState, putSettled, putWrites, putChanges, putEffect, ChangesBelow}
+use Rattle.machine.specs.Held.{HoldsState, putSettled, putWrites, putChanges, putEffect, ChangesBelow, KeptReadings}
 use Rattle.machine.specs.Counts.{Kept, changeUpCounted, endUpCounted, changesUpCounted}
 use Rattle.machine.proofs.MachineSteps.{changes-below, row-step-held}
-use Rattle.run_intents.specs.Held.{KeptReadings}
 use Rattle.run_changes.specs.declared.Data.{Data}
 use Rattle.run_changes.specs.declared.Data.the-variants.{Nothing, Cell, Reading, Output}
 use Rattle.run_changes.specs.declared.Change.{Change}
-use Rattle.run_changes.specs.Changes.{changeIn, changesOf, RowIn, putData, withStates, DataFits}
+use Rattle.run_changes.specs.Changes.{changeIn, changesOf, putData, withStates, DataFits}
 use Rattle.run_changes.proofs.Told.{Told}
 use Rattle.run_changes.proofs.ChangeRows.{made-up, made-within}
 use Rattle.run_changes.proofs.StepChanges.{Does, step-done}
@@ -50,14 +47,10 @@ module _ (rows : List ℤ) (ok : check rows ≡ none) (sheet : Sheet) (l : List 
   done = subst (λ (d : Change). Does rows ok sheet l s o b h readings given lines K few acts sent elements T d x) (sym is) (step-done rows ok sheet l s o b h readings given lines K few acts sent elements T j below x g)
 
   -- the numbers of its change of data are within the arrays
-  pub data-fits : DataFits (c .written) b
+  pub data-fits : DataFits readings given (c .written) b
   data-fits = done .data-fits
 
-  -- the rows of the step
-  pub rows-are : (r : ℕ) → RowOf x r ↔ RowIn c r
-  rows-are = done .rows-are
-
-  -- which are rows of the table, and the state that it gives is small
+  -- the rows of the step are rows of the table, and the state that it gives is small
   pub within : (c .owner < rowCount rows) × (c .at < rowCount rows) × (c .sender ≤ rowCount rows) × (c .next ≤ 14)
   within =
       let (u, v) = made-within c (rowCount rows) (subst (ChangesBelow (rowCount rows)) (done .changes-are) (changes-below rows ok sheet l s o (active (intentAt (program rows) sheet s) x (done .effect) (done .is-effect)))) in

@@ -12,7 +12,7 @@ use Rattle.meaning.specs.Intent.{openOffer, inputOffer, Offer, moves, halts, in
 use Rattle.meaning.specs.Ready.{intentAt}
 use Rattle.agreement.specs.RowsOfSteps.{offerAt}
 use Rattle.machine.specs.RowSteps.{altOf, waitingAt}
-use Rattle.run_changes.specs.Changes.{whatAt, actAt}
+use Rattle.run_changes.specs.Changes.{whatAt, actAt, markAt}
 
 pub record Told (P : Program) (sheet : Sheet) (s : State) (acts : List ℕ) (sent : List ℤ) (elements : List ℕ) : Type 0 where
   -- a row by itself
@@ -23,7 +23,7 @@ pub record Told (P : Program) (sheet : Sheet) (s : State) (acts : List ℕ) (sen
   pub reads : (j a p n : ℕ) (m : Message) → intentAt P sheet s j ≡ moves j 2 (writeCell a m ∷ writePlace p n ∷ []) → (whatAt acts j ≡ 5) × (actAt acts j 1 ≡ p) × (actAt acts j 2 ≡ a)
   pub writes : (j p : ℕ) (l : List Message) (z : ℤ) → intentAt P sheet s j ≡ moves j 2 (writeOutput p (l ++ (some z ∷ [])) ∷ []) → (whatAt acts j ≡ 6) × (actAt acts j 1 ≡ p) × (getD sent j (pos 0) ≡ z)
   pub inputs : (j e a : ℕ) → intentAt P sheet s j ≡ inputsFrom e a → (whatAt acts j ≡ 7) × (actAt acts j 1 ≡ e) × (actAt acts j 2 ≡ a)
-  pub outputs : (j e : ℕ) (z : ℤ) → intentAt P sheet s j ≡ outputsTo e (some z) → (actAt acts j 3 ≡ 1) × (getD sent j (pos 0) ≡ z)
+  pub outputs : (j e : ℕ) (z : ℤ) → intentAt P sheet s j ≡ outputsTo e (some z) → (markAt acts j ≡ 1) × (getD sent j (pos 0) ≡ z)
   -- an option of row r
   pub opens : (r j i q : ℕ) (os : List Offer) → altOf P j ≡ some r → intentAt P sheet s r ≡ selects os → offerAt j os ≡ some (openOffer i q []) → whatAt acts j ≡ 4
   pub offers-read : (r j i q a p n : ℕ) (m : Message) (os : List Offer) → altOf P j ≡ some r → intentAt P sheet s r ≡ selects os → offerAt j os ≡ some (openOffer i q (writeCell a m ∷ writePlace p n ∷ []))

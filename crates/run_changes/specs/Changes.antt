@@ -1,19 +1,16 @@
 -- The change of the step that a row orders, read from what is noted of rows, for all contents of the lists; and what a change of data does to the arrays.
--- Noted are of each row four numbers (what it would do, where, which cell, which mark) and a number that it hands over; of each channel element who waits there to input and to output, a row and 1, or 0.
-use mathlib.Core.Path.{_≡_}
-use mathlib.Core.Logic.{_⊎_}
+-- Noted are of each row three numbers (what it would do, where, and which cell, or of an output its message's mark) and a number that it hands over; of each channel element who waits there to input and to output, a row and 1, or 0.
 use mathlib.Core.List.{List, [], _∷_}
 use Prim.Native.Nat.{ℕ, suc, _+_, _*_, _-_, _%_, _<_}
 use lib.IntN.{ℤ, pos}
-use lib.ListN.{getD, set}
+use lib.ListN.{length, getD, set}
 use lib.Dec.{eqb}
 use Rattle.meaning.specs.Basics.{ifElse}
-use Rattle.meaning.specs.Rows.{naturalOf}
 use Rattle.meaning.specs.State.{StateChange}
 use Rattle.meaning.specs.Step.{becomes}
 use Rattle.meaning.specs.Buffers.{Buffers, cellOf}
 use Rattle.machine.specs.Held.{putCell, putPlace}
-use Rattle.run_code.specs.Prepared.{rowAt}
+use Rattle.run_code.specs.Prepared.{rowAt, prepared, stripAt}
 use Rattle.run_changes.specs.declared.Data.{Data}
 use Rattle.run_changes.specs.declared.Data.the-variants.{Nothing, Cell, Reading, Output}
 use Rattle.run_changes.specs.declared.Change.{Change}
@@ -28,16 +25,20 @@ rowBecomes owner row state d = record { owner = owner; at = row; next = state; s
 
 -- what the note of row j is, and number i of it
 abbrev pub whatAt : List ℕ → ℕ → ℕ
-whatAt acts j = getD acts (4 * j) 0
+whatAt acts j = getD acts (3 * j) 0
 
 abbrev pub actAt : List ℕ → ℕ → ℕ → ℕ
-actAt acts j i = getD acts (4 * j + i) 0
+actAt acts j i = getD acts (3 * j + i) 0
+
+-- the mark of the message that row j outputs
+abbrev pub markAt : List ℕ → ℕ → ℕ
+markAt acts j = actAt acts j 2
 
 module _ (acts : List ℕ) (sent : List ℤ) where
   -- the row of note n hands its number over to a cell and ends, and row `row` gets a state by a step of row `owner`
   abbrev pub handedOver : ℕ → ℕ → ℕ → ℕ → ℕ → Change
   handedOver owner row state a n =
-      record { owner = owner; at = row; next = state; sender = n; written = Cell a (getD sent (rowNoted n) (pos 0)) (actAt acts (rowNoted n) 3 % 256) }
+      record { owner = owner; at = row; next = state; sender = n; written = Cell a (getD sent (rowNoted n) (pos 0)) (markAt acts (rowNoted n) % 256) }
 
   module _ (elements : List ℕ) where
     -- a communication on element e
@@ -73,16 +74,12 @@ module _ (acts : List ℕ) (sent : List ℤ) where
 -- the step that row j orders: of an ALT with its option, where the row is one, else of the row by itself
 unfoldable pub changeIn : List ℤ → List ℕ → List ℤ → List ℕ → ℕ → Change
 changeIn rows acts sent elements j =
-    ifElse (eqb (rowAt rows j .what) 42) (optionChange acts sent elements (rowNoted (rowAt rows j .parent)) (naturalOf (rowAt rows j .number)) j)
-    (ownChange acts sent elements (rowAt rows j .strip) j)
+    ifElse (eqb (rowAt rows j .what) 42) (optionChange acts sent elements (rowNoted (rowAt rows j .parent)) (rowAt rows j .first) j)
+    (ownChange acts sent elements (stripAt (prepared rows) j) j)
 
 -- the changes of row states that a change stands for
 abbrev pub changesOf : Change → List StateChange
 changesOf c = becomes (c .owner) (c .at) (c .next) ∷ ifElse (eqb (c .sender) 0) [] (becomes (c .sender - 1) (c .sender - 1) 2 ∷ [])
-
--- the rows of the step: the owner, and the sender if there is one
-abbrev pub RowIn : Change → ℕ → Type 0
-RowIn c r = (r ≡ c .owner) ⊎ ((c .sender ≡ 0 → ⊥) × (r ≡ c .sender - 1))
 
 -- one more number of the p-th output channel, whose strip begins at `strip`
 abbrev pub putNumber : ℕ → ℕ → ℤ → Buffers → Buffers
@@ -112,9 +109,9 @@ putData readings given (Output p strip x) b = putNumber p strip x b
 abbrev pub withStates : List ℕ → Buffers → Buffers
 withStates t b = record { cells = b .cells; marks = b .marks; states = t; places = b .places; numbers = b .numbers; counts = b .counts }
 
--- the numbers of a change of data are within the arrays
-abbrev pub DataFits : Data → Buffers → Type 0
-DataFits Nothing b = Unit {0}
-DataFits (Cell a x m) b = a < 256
-DataFits (Reading a p) b = (a < 256) × (p < 8) × (getD (b .places) p 0 < 128)
-DataFits (Output p strip x) b = (p < 8) × (strip + getD (b .counts) p 0 < 1024)
+-- the numbers of a change of data are within the arrays, and the place of a reading is within the lists that keep the readings
+abbrev pub DataFits : List ℤ → List ℕ → Data → Buffers → Type 0
+DataFits readings given Nothing b = Unit {0}
+DataFits readings given (Cell a x m) b = a < 256
+DataFits readings given (Reading a p) b = (a < 256) × (p < 8) × (getD (b .places) p 0 < 128) × (readingPlace p b < length readings) × (readingPlace p b < length given)
+DataFits readings given (Output p strip x) b = (p < 8) × (strip + getD (b .counts) p 0 < 1024)

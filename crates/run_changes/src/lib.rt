@@ -4,9 +4,8 @@ ghost use mathlib.Core.List.{List};
 ghost use Prim.Native.Nat.{suc, _+_, _<_};
 ghost use lib.IntN.{ℤ, pos};
 ghost use lib.ListN.{getD, set};
-ghost use Rattle.run_code.specs.Prepared.{Prepared};
+ghost use Rattle.run_code.specs.Prepared.{Prepared, stripAt};
 ghost use Rattle.run_changes.specs.Changes.{rowNoted, rowBecomes, communicated, optionChange, ownChange, changeIn};
-use run_code::first;
 use run_code::place;
 
 // A change of data: none; a cell gets a number with its mark; a cell gets the next reading of a channel, whose place is
@@ -49,8 +48,8 @@ fn row_of(note: u16) -> usize
 }
 
 // Number i of what is noted.
-fn act(acts: &[u16; 4096], i: usize) -> u16
-    requires { ⌜ i < 4096 ⌝ }
+fn act(acts: &[u16; 3072], i: usize) -> u16
+    requires { ⌜ i < 3072 ⌝ }
     ensures { λ n. ⌜ n ≡ getD (now (acts .entry)) i 0 ⌝ }
 {
     acts[i]
@@ -66,7 +65,7 @@ fn handed(sent: &[i32; 1024], i: usize) -> i32
 
 // A communication on element e into a cell: the number of the row that waits there passes, and that row ends.
 fn communicates(
-    acts: &[u16; 4096],
+    acts: &[u16; 3072],
     sent: &[i32; 1024],
     elements: &[u16; 512],
     owner: usize,
@@ -80,7 +79,7 @@ fn communicates(
     let sender = elements[2 * (e % 256) + 1];
     let s = row_of(sender);
     let x = handed(sent, s);
-    let mark = act(acts, 4 * s + 3) % 256;
+    let mark = act(acts, 3 * s + 2) % 256;
     Change {
         owner,
         at,
@@ -92,7 +91,7 @@ fn communicates(
 
 // What the step of an ALT with its option of row j does: the option's process starts. A closed option has none.
 fn option_change(
-    acts: &[u16; 4096],
+    acts: &[u16; 3072],
     sent: &[i32; 1024],
     elements: &[u16; 512],
     owner: usize,
@@ -102,9 +101,9 @@ fn option_change(
     requires { ⌜ j < 1024 ⌝ }
     ensures { λ c. ⌜ c ≡ optionChange (now (acts .entry)) (now (sent .entry)) (now (elements .entry)) owner process j ⌝ }
 {
-    let at = act(acts, 4 * j + 1) as usize;
-    let cell = act(acts, 4 * j + 2) as usize;
-    match acts[4 * j] {
+    let at = act(acts, 3 * j + 1) as usize;
+    let cell = act(acts, 3 * j + 2) as usize;
+    match acts[3 * j] {
         4 => becomes(owner, process, 1, Data::Nothing),
         5 => becomes(owner, process, 1, Data::Reading(cell, at)),
         7 => communicates(acts, sent, elements, owner, process, 1, at, cell),
@@ -114,25 +113,30 @@ fn option_change(
 
 // What the step of row j by itself does. A row that waits, outputs or looks at its options has none and stays as it is.
 fn own_change(
-    acts: &[u16; 4096],
+    code: &[u16; 6150],
+    acts: &[u16; 3072],
     sent: &[i32; 1024],
     elements: &[u16; 512],
-    strip: usize,
     j: usize,
 ) -> Change
-    requires { ⌜ j < 1024 ⌝ }
-    ensures { λ c. ⌜ c ≡ ownChange (now (acts .entry)) (now (sent .entry)) (now (elements .entry)) strip j ⌝ }
+    requires table { ⌜ ((rows : List ℤ) × Prepared rows (now code)) ⌝ }
+    requires row { ⌜ j < 1024 ⌝ }
+    ensures { λ c. ⌜ c ≡ ownChange (now (acts .entry)) (now (sent .entry)) (now (elements .entry)) (stripAt (now (code .entry)) j) j ⌝ }
 {
-    let at = act(acts, 4 * j + 1) as usize;
-    let cell = act(acts, 4 * j + 2) as usize;
+    let at = act(acts, 3 * j + 1) as usize;
+    let cell = act(acts, 3 * j + 2) as usize;
     let x = handed(sent, j);
-    match acts[4 * j] {
+    match acts[3 * j] {
         1 => becomes(j, j, 10 + (at % 64) as u8, Data::Nothing),
         2 => becomes(j, j, 2, Data::Cell(cell, x, 1)),
         3 => becomes(j, j, 2, Data::Nothing),
         4 => becomes(j, at, 1, Data::Nothing),
         5 => becomes(j, j, 2, Data::Reading(cell, at)),
-        6 => becomes(j, j, 2, Data::Output(at, strip, x)),
+        6 => {
+            let d = place(code, j, 1) as usize;
+            let strip = place(code, d, 5) as usize;
+            becomes(j, j, 2, Data::Output(at, strip, x))
+        }
         7 => communicates(acts, sent, elements, j, j, 2, at, cell),
         _ => becomes(j, j, 1, Data::Nothing),
     }
@@ -140,8 +144,8 @@ fn own_change(
 
 // What the step that row j orders does: of an ALT with its option, where the row is one, else of the row by itself.
 pub fn change_of(
-    code: &[i32; 10250],
-    acts: &[u16; 4096],
+    code: &[u16; 6150],
+    acts: &[u16; 3072],
     sent: &[i32; 1024],
     elements: &[u16; 512],
     j: usize,
@@ -152,9 +156,9 @@ pub fn change_of(
 {
     if place(code, j, 0) == 42 {
         let owner = (place(code, j, 4) as usize + 1023) % 1024;
-        return option_change(acts, sent, elements, owner, first(code, j) as usize, j);
+        return option_change(acts, sent, elements, owner, place(code, j, 1) as usize, j);
     }
-    own_change(acts, sent, elements, place(code, j, 9) as usize, j)
+    own_change(code, acts, sent, elements, j)
 }
 
 // One more number for the p-th channel to the host, whose strip begins at `strip`.

@@ -1,37 +1,75 @@
 -- What a prepared row says of the tree: the rows that its numbers name, and the channels of inputs and outputs.
 use mathlib.Core.Path.{_≡_, refl, sym, ap, ap₂, _∙_}
 use mathlib.Core.Option.{Option, none, some}
+use mathlib.Core.Bool.{Bool, true, false}
 use mathlib.Core.List.{List, [], _∷_, List·Memᴰ}
-use Prim.Native.Nat.{ℕ, _<_, _≤_}
+use Prim.Native.Nat.{ℕ, suc, _+_, _*_, _/_, _%_, _<_, _≤_}
 use native.Mathlib.Omega.{arith}
-use lib.IntN.{ℤ}
+use lib.IntN.{ℤ, pos, negsuc, _+ℤ_, _-ℤ_, +ℤ-negℤ-cancel}
+use lib.Signed.{nonNeg, _≤ℤ_, pos-natAbs}
+use lib.Dec.{T, eqb, leb→le}
+use borrow.Author.Tests.{le-ltb}
+use Rattle.meaning.specs.declared.Value.the-variants.{Number}
+use Rattle.meaning.specs.declared.Index.{Index}
+use Rattle.meaning.specs.declared.Index.the-variants.{At, Fails}
+use Rattle.meaning.specs.Basics.{ifElse}
+use Rattle.meaning.specs.Limits.{minNumber}
+use Rattle.meaning.specs.Values.{inArray}
 use Rattle.meaning.specs.Rows.{rowCount, fieldAt, naturalOf, naturalAt, kindAt}
 use Rattle.meaning.specs.Kinds.{shapeOf, shapes, shapeIn, processes}
 use Rattle.meaning.specs.References.{of-a, of-b, IsTarget}
 use Rattle.meaning.specs.Faults.{Leads}
-use Rattle.meaning.specs.Declarations.{Channel, variableAt, sourceAt, sinkAt}
-use Rattle.meaning.specs.Tree.{ChannelInput, IfChoice, AltOption, stop, skip, sequence, parallel, assign, input, output, conditional, loop, alternation, Process, node, Processes, empty, also, Content, ofProcess, ofGuarded, ofGuardRow, ofLink, andProcess, contentOf, contentAt, orStop}
+use Rattle.meaning.specs.Declarations.{declarations, Variable, Channel, variableAt, sourceAt, sinkAt}
+use Rattle.meaning.specs.Tree.{ChannelInput, IfChoice, AltOption, skip, assign, input, output, conditional, loop, alternation, Process, node, Processes, empty, also, Content, ofProcess, ofGuarded, ofGuardRow, ofLink, andProcess, contentOf, contentAt, orStop}
 use Rattle.meaning.specs.State.{program, processAt}
 use Rattle.meaning.specs.ContentClaims.{higherContent}
 use Rattle.meaning.proofs.AnswerLaws.{accepted}
 use Rattle.agreement.proofs.TableFit.{rows-limit}
 use Rattle.agreement.proofs.TableTree.{process-is}
 use Rattle.agreement.proofs.TableStarts.{is-process}
-use Rattle.agreement.proofs.TableReferences.{while-shape, member-shape, choice-shape, option-shape, leads-at}
+use Rattle.agreement.proofs.TableReferences.{while-shape, choice-shape, option-shape, leads-at}
 use Rattle.base_layout.proofs.Parts.{part-of-kind}
 use Rattle.base_layout.proofs.RowNodes.{nodeOf}
 use Rattle.run_code.specs.declared.Row.{Row}
-use Rattle.run_code.specs.Prepared.{row, hostNote, kindIn, referredRow, rowOfKind, rowAt, stripOf, Prepared, placeAt}
-use Rattle.run_code.proofs.Entries.{what-at, number-at, second-at, third-at, parent-at, next-at, size-at, channel-at, capacity-at, strip-at}
-use Rattle.run_code.proofs.RowKinds.{kindFrom, kind-told, row-of-kind, in-table}
+use Rattle.run_code.specs.Prepared.{row, raised, fixed, hostNote, kindIn, referredRow, subscriptedRow, stripOf, elementRow, rowOfKind, rowAt, Prepared, placeAt, literalOf, firstOf, sizeOf, hostOf, capacityOf, stripAt}
+use Rattle.run_code.proofs.Entries.{what-at, first-at, second-at, third-at, parent-at, next-at}
+use Rattle.run_code.proofs.RowKinds.{kindFrom, declarations-few, kind-told, row-of-kind, in-table}
+use Rattle.run_code.proofs.Names.{DeclaresVariable, DeclaresChannel, literal-least, element-names, assignment-names, input-names, output-names, variable-row, source-row, sink-row}
 use Rattle.run_code.proofs.Referred.{referred-is, referred-part}
 
-module _ {rows code : List ℤ} (p : Prepared rows code) where
+-- the bits of a number make it up again
+lowered-raised : (x : ℤ) → minNumber ≤ℤ x → pos (raised x % 65536 + 65536 * (raised x / 65536)) -ℤ pos 2147483648 ≡ x
+lowered-raised x h =
+    let e : raised x % 65536 + 65536 * (raised x / 65536) ≡ raised x = omega arith in
+    ap (λ (n : ℕ). pos n -ℤ pos 2147483648) e ∙ ap (λ (y : ℤ). y -ℤ pos 2147483648) (pos-natAbs (x +ℤ pos 2147483648) (not-below x h)) ∙ +ℤ-negℤ-cancel x (pos 2147483648)
+  where
+    not-below : (x : ℤ) → minNumber ≤ℤ x → T (nonNeg (x +ℤ pos 2147483648))
+    not-below (pos n) h = tt
+    not-below (negsuc n) h = rw (le-ltb 2147483648 (suc n) (omega (arith, leb→le n 2147483647 (h .le)))) tt
+
+-- an element whose subscript is no literal: the row of its variable, and the subscript's
+pub subscripted : (rows : List ℤ) (a b : ℕ) → subscriptedRow rows a b .what ≡ 4 → (subscriptedRow rows a b .first ≡ a) × (subscriptedRow rows a b .second ≡ b)
+unfolding subscriptedRow
+subscripted rows a b = go (eqb (kindIn rows b) 10)
+  where
+    v : Variable
+    v = variableAt rows a
+
+    inner : (i : Index) → fixed i .what ≡ 4 → (fixed i .first ≡ a) × (fixed i .second ≡ b)
+    inner (At i) e = absurd (omega arith)
+    inner (Fails k) e = absurd (omega arith)
+
+    go : (t : Bool) → ifElse t (fixed (inArray (v .first) (v .size) (Number (fieldAt rows b 1)))) (row 4 a b 0) .what ≡ 4
+        → (ifElse t (fixed (inArray (v .first) (v .size) (Number (fieldAt rows b 1)))) (row 4 a b 0) .first ≡ a) × (ifElse t (fixed (inArray (v .first) (v .size) (Number (fieldAt rows b 1)))) (row 4 a b 0) .second ≡ b)
+    go true e = inner (inArray (v .first) (v .size) (Number (fieldAt rows b 1))) e
+    go false e = (refl, refl)
+
+module _ {rows : List ℤ} {code : List ℕ} (p : Prepared rows code) where
   pub few : rowCount rows ≤ 1024
   few = rows-limit rows (p .accepted)
 
   -- a row of the kind of a process is a process
-  pub process-of-kind : (t : ℕ) → t < rowCount rows → List·Memᴰ (kindAt rows t) processes → contentAt rows t .process ≡ some (processAt (program rows) t)
+  process-of-kind : (t : ℕ) → t < rowCount rows → List·Memᴰ (kindAt rows t) processes → contentAt rows t .process ≡ some (processAt (program rows) t)
   process-of-kind t l m =
       let (k, ms, e) = is-process rows t l m in
       e ∙ ap some (sym (process-is rows t ∙ ap orStop e))
@@ -51,8 +89,8 @@ module _ {rows code : List ℤ} (p : Prepared rows code) where
       pub row-is : rowAt rows r ≡ rowOfKind rows r (kindFrom n)
       row-is = row-of-kind rows r (kindFrom n) kind-found
 
-      pub first-is : placeAt code r 1 ≡ naturalOf (rowOfKind rows r (kindFrom n) .number)
-      first-is = ap naturalOf (number-at p r h ∙ ap (λ (w : Row). w .number) row-is)
+      pub first-is : placeAt code r 1 ≡ rowOfKind rows r (kindFrom n) .first
+      first-is = first-at p r h ∙ ap (λ (w : Row). w .first) row-is
 
       pub second-is : placeAt code r 2 ≡ rowOfKind rows r (kindFrom n) .second
       second-is = second-at p r h ∙ ap (λ (w : Row). w .second) row-is
@@ -63,21 +101,6 @@ module _ {rows code : List ℤ} (p : Prepared rows code) where
       pub parent-is : placeAt code r 4 ≡ rowOfKind rows r (kindFrom n) .parent
       parent-is = parent-at p r h ∙ ap (λ (w : Row). w .parent) row-is
 
-      pub next-is : placeAt code r 5 ≡ rowOfKind rows r (kindFrom n) .next
-      next-is = next-at p r h ∙ ap (λ (w : Row). w .next) row-is
-
-      pub size-is : placeAt code r 6 ≡ rowOfKind rows r (kindFrom n) .size
-      size-is = size-at p r h ∙ ap (λ (w : Row). w .size) row-is
-
-      pub channel-is : placeAt code r 7 ≡ rowOfKind rows r (kindFrom n) .channel
-      channel-is = channel-at p r h ∙ ap (λ (w : Row). w .channel) row-is
-
-      pub capacity-is : placeAt code r 8 ≡ rowOfKind rows r (kindFrom n) .capacity
-      capacity-is = capacity-at p r h ∙ ap (λ (w : Row). w .capacity) row-is
-
-      pub strip-is : placeAt code r 9 ≡ rowOfKind rows r (kindFrom n) .strip
-      strip-is = strip-at p r h ∙ ap (λ (w : Row). w .strip) row-is
-
       pub content-is : contentAt rows r ≡ contentOf rows r (higherContent rows r) (nodeOf (kindFrom n) (fieldAt rows r 1) (naturalAt rows r 1) (naturalAt rows r 2) (naturalAt rows r 3))
       content-is = part-of-kind rows r (kindFrom n) here kind-is
 
@@ -85,12 +108,68 @@ module _ {rows code : List ℤ} (p : Prepared rows code) where
     pub seen : (j : ℕ) {b : ℕ} → b ≡ referredRow rows r j → higherContent rows r (naturalAt rows r j) ≡ contentAt rows b
     seen j e = referred-part rows few r j ∙ ap (contentAt rows) (sym e)
 
-    -- ---- processes with no members
-    pub stop-row : placeAt code r 0 ≡ 20 → contentAt rows r ≡ ofProcess (node stop r empty)
-    stop-row e = content-is 20 e (λ z. omega arith)
+    -- ---- a literal
+    pub literal-is : placeAt code r 0 ≡ 1 → literalOf code r ≡ fieldAt rows r 1
+    literal-is e =
+        let z : kindFrom 1 ≡ 0 → ⊥ = λ z. omega arith in
+        ap₂ (λ (a b : ℕ). pos (a + 65536 * b) -ℤ pos 2147483648) (second-is 1 e z) (third-is 1 e z)
+        ∙ lowered-raised (fieldAt rows r 1) (literal-least rows (p .accepted) r (here 1 e z) (kind-is 1 e z))
 
+    -- ---- SKIP
     pub skip-row : placeAt code r 0 ≡ 21 → contentAt rows r ≡ ofGuarded (node skip r empty) none
     skip-row e = content-is 21 e (λ z. omega arith)
+
+    -- ---- the declaration that it names
+    module _ {w : Row} (e : rowAt rows (naturalAt rows r 1) ≡ w) (d : naturalAt rows r 1 < declarations rows) (f : placeAt code r 1 ≡ naturalAt rows r 1) where
+      named-inside : naturalAt rows r 1 ≤ 1024
+      named-inside = omega (arith, declarations-few rows, few)
+
+      named-first : firstOf code r ≡ w .first
+      named-first = ap (λ (a : ℕ). placeAt code a 1) f ∙ first-at p _ named-inside ∙ ap (λ (w : Row). w .first) e
+
+      named-size : sizeOf code r ≡ w .second
+      named-size = ap (λ (a : ℕ). placeAt code a 2) f ∙ second-at p _ named-inside ∙ ap (λ (w : Row). w .second) e
+
+      named-host : hostOf code r ≡ w .third
+      named-host = ap (λ (a : ℕ). placeAt code a 3) f ∙ third-at p _ named-inside ∙ ap (λ (w : Row). w .third) e
+
+      named-capacity : capacityOf code r ≡ w .parent
+      named-capacity = ap (λ (a : ℕ). placeAt code a 4) f ∙ parent-at p _ named-inside ∙ ap (λ (w : Row). w .parent) e
+
+      named-strip : stripAt code r ≡ w .next
+      named-strip = ap (λ (a : ℕ). placeAt code a 5) f ∙ next-at p _ named-inside ∙ ap (λ (w : Row). w .next) e
+
+    -- of an element, of an assignment to one
+    abbrev variable : Variable
+    variable = variableAt rows (naturalAt rows r 1)
+
+    module _ (e : placeAt code r 0 ≡ 4) where
+      its-variable : DeclaresVariable rows (naturalAt rows r 1)
+      its-variable = element-names rows (p .accepted) r (here 4 e (λ z. omega arith)) (kind-is 4 e (λ z. omega arith))
+
+      its-row : placeAt code r 1 ≡ naturalAt rows r 1
+      its-row = first-is 4 e (λ z. omega arith) ∙ subscripted rows (naturalAt rows r 1) (referredRow rows r 2) (sym (what-at p r h ∙ ap (λ (w : Row). w .what) (row-is 4 e (λ z. omega arith))) ∙ e) .0
+
+      pub element-first : firstOf code r ≡ variable .first
+      element-first = named-first (variable-row rows (naturalAt rows r 1) its-variable) (its-variable .0) its-row
+
+      pub element-size : sizeOf code r ≡ variable .size
+      element-size = named-size (variable-row rows (naturalAt rows r 1) its-variable) (its-variable .0) its-row
+
+    module _ (e : placeAt code r 0 ≡ 48) where
+      this-variable : DeclaresVariable rows (naturalAt rows r 1)
+      this-variable = assignment-names rows (p .accepted) r (here 48 e (λ z. omega arith)) (kind-is 48 e (λ z. omega arith))
+
+      this-row : placeAt code r 1 ≡ naturalAt rows r 1
+      this-row =
+          let k : 44 + elementRow rows r .what ≡ 48 = sym (what-at p r h ∙ ap (λ (w : Row). w .what) (row-is 48 e (λ z. omega arith))) ∙ e in
+          first-is 48 e (λ z. omega arith) ∙ subscripted rows (naturalAt rows r 1) (referredRow rows r 2) (omega arith) .0
+
+      pub assigned-first : firstOf code r ≡ variable .first
+      assigned-first = named-first (variable-row rows (naturalAt rows r 1) this-variable) (this-variable .0) this-row
+
+      pub assigned-size : sizeOf code r ≡ variable .size
+      assigned-size = named-size (variable-row rows (naturalAt rows r 1) this-variable) (this-variable .0) this-row
 
     -- an input, with the channel that it names
     abbrev source : Channel
@@ -106,14 +185,17 @@ module _ {rows code : List ℤ} (p : Prepared rows code) where
           ∙ ap₂ (λ (b c : Content). let i : ChannelInput = record { channel = source; subscript = b .expr; target = c .target } in ofGuarded (node (input i) r empty) (some i))
           (seen 2 (second-is 23 e (λ z. omega arith))) (seen 3 (third-is 23 e (λ z. omega arith)))
 
-      pub input-first : placeAt code r 1 ≡ source .first
-      input-first = first-is 23 e (λ z. omega arith)
+      its-channel : DeclaresChannel rows 1 (naturalAt rows r 1)
+      its-channel = input-names rows (p .accepted) r (here 23 e (λ z. omega arith)) (kind-is 23 e (λ z. omega arith))
 
-      pub input-size : placeAt code r 6 ≡ source .size
-      input-size = size-is 23 e (λ z. omega arith)
+      pub input-first : firstOf code r ≡ source .first
+      input-first = named-first (source-row rows (naturalAt rows r 1) its-channel) (its-channel .0) (first-is 23 e (λ z. omega arith))
 
-      pub input-host : placeAt code r 7 ≡ hostNote source
-      input-host = channel-is 23 e (λ z. omega arith)
+      pub input-size : sizeOf code r ≡ source .size
+      input-size = named-size (source-row rows (naturalAt rows r 1) its-channel) (its-channel .0) (first-is 23 e (λ z. omega arith))
+
+      pub input-host : hostOf code r ≡ hostNote source
+      input-host = named-host (source-row rows (naturalAt rows r 1) its-channel) (its-channel .0) (first-is 23 e (λ z. omega arith))
 
     -- an output
     abbrev sink : Channel
@@ -125,28 +207,25 @@ module _ {rows code : List ℤ} (p : Prepared rows code) where
           content-is 24 e (λ z. omega arith)
           ∙ ap₂ (λ (b c : Content). ofProcess (node (output sink (b .expr) (c .expr)) r empty)) (seen 2 (second-is 24 e (λ z. omega arith))) (seen 3 (third-is 24 e (λ z. omega arith)))
 
-      pub output-first : placeAt code r 1 ≡ sink .first
-      output-first = first-is 24 e (λ z. omega arith)
+      this-channel : DeclaresChannel rows 2 (naturalAt rows r 1)
+      this-channel = output-names rows (p .accepted) r (here 24 e (λ z. omega arith)) (kind-is 24 e (λ z. omega arith))
 
-      pub output-size : placeAt code r 6 ≡ sink .size
-      output-size = size-is 24 e (λ z. omega arith)
+      pub output-first : firstOf code r ≡ sink .first
+      output-first = named-first (sink-row rows (naturalAt rows r 1) this-channel) (this-channel .0) (first-is 24 e (λ z. omega arith))
 
-      pub output-host : placeAt code r 7 ≡ hostNote sink
-      output-host = channel-is 24 e (λ z. omega arith)
+      pub output-size : sizeOf code r ≡ sink .size
+      output-size = named-size (sink-row rows (naturalAt rows r 1) this-channel) (this-channel .0) (first-is 24 e (λ z. omega arith))
 
-      pub output-capacity : placeAt code r 8 ≡ sink .capacity
-      output-capacity = capacity-is 24 e (λ z. omega arith)
+      pub output-host : hostOf code r ≡ hostNote sink
+      output-host = named-host (sink-row rows (naturalAt rows r 1) this-channel) (this-channel .0) (first-is 24 e (λ z. omega arith))
 
-      pub output-strip : placeAt code r 9 ≡ stripOf rows sink
-      output-strip = strip-is 24 e (λ z. omega arith)
+      pub output-capacity : capacityOf code r ≡ sink .capacity
+      output-capacity = named-capacity (sink-row rows (naturalAt rows r 1) this-channel) (this-channel .0) (first-is 24 e (λ z. omega arith))
+
+      pub output-strip : stripAt code r ≡ stripOf rows sink
+      output-strip = named-strip (sink-row rows (naturalAt rows r 1) this-channel) (this-channel .0) (first-is 24 e (λ z. omega arith))
 
     -- ---- processes with members: from the link of number 1 on
-    pub seq-row : placeAt code r 0 ≡ 30 → contentAt rows r ≡ ofProcess (node sequence r (contentAt rows (placeAt code r 1) .listed))
-    seq-row e = content-is 30 e (λ z. omega arith) ∙ ap (λ (c : Content). ofProcess (node sequence r (c .listed))) (seen 1 (first-is 30 e (λ z. omega arith)))
-
-    pub par-row : placeAt code r 0 ≡ 31 → contentAt rows r ≡ ofProcess (node parallel r (contentAt rows (placeAt code r 1) .listed))
-    par-row e = content-is 31 e (λ z. omega arith) ∙ ap (λ (c : Content). ofProcess (node parallel r (c .listed))) (seen 1 (first-is 31 e (λ z. omega arith)))
-
     pub if-row : placeAt code r 0 ≡ 32 → contentAt rows r ≡ ofProcess (node (conditional (contentAt rows (placeAt code r 1) .tests)) r (contentAt rows (placeAt code r 1) .listed))
     if-row e = content-is 32 e (λ z. omega arith) ∙ ap (λ (c : Content). ofProcess (node (conditional (c .tests)) r (c .listed))) (seen 1 (first-is 32 e (λ z. omega arith)))
 
@@ -155,24 +234,18 @@ module _ {rows code : List ℤ} (p : Prepared rows code) where
 
     -- ---- fields that refer to a process, in an accepted table
     abbrev Refers : ℕ → Type 0
-    Refers j = (naturalAt rows r j ≡ referredRow rows r j) × (contentAt rows (referredRow rows r j) .process ≡ some (processAt (program rows) (referredRow rows r j))) × (referredRow rows r j < rowCount rows)
+    Refers j = (naturalAt rows r j ≡ referredRow rows r j) × (contentAt rows (referredRow rows r j) .process ≡ some (processAt (program rows) (referredRow rows r j)))
 
     to-process : (j t : ℕ) → naturalAt rows r j ≡ t → IsTarget rows r processes t → Refers j
     to-process j t e i =
         let s : referredRow rows r j ≡ t = referred-is rows r j t e (i .0) (i .1) in
-        rw s (e, process-of-kind t (i .1) (i .2), i .1)
+        rw s (e, process-of-kind t (i .1) (i .2))
 
     of-while : r < rowCount rows → kindAt rows r ≡ 33 → Refers 2
     unfolding shapeOf shapes shapeIn Leads
     of-while l e =
         let (t, z, i) = leads-at rows (accepted rows .0 (p .accepted)) r 33 while-shape l (e, omega arith, refl) of-b in
         to-process 2 t (ap naturalOf z) i
-
-    of-member : r < rowCount rows → kindAt rows r ≡ 40 → Refers 1
-    unfolding shapeOf shapes shapeIn Leads
-    of-member l e =
-        let (t, z, i) = leads-at rows (accepted rows .0 (p .accepted)) r 40 member-shape l (e, omega arith, refl) of-a in
-        to-process 1 t (ap naturalOf z) i
 
     of-choice : r < rowCount rows → kindAt rows r ≡ 41 → Refers 1
     unfolding shapeOf shapes shapeIn Leads
@@ -191,9 +264,6 @@ module _ {rows code : List ℤ} (p : Prepared rows code) where
       while-body : Refers 2
       while-body = of-while (here 33 e (λ z. omega arith)) (kind-is 33 e (λ z. omega arith))
 
-      pub body-inside : placeAt code r 2 < rowCount rows
-      body-inside = rw (second-is 33 e (λ z. omega arith)) (while-body .2)
-
       pub while-row : contentAt rows r ≡ ofProcess (node (loop (contentAt rows (placeAt code r 1) .expr) (placeAt code r 2)) r (also (processAt (program rows) (placeAt code r 2)) empty))
       while-row =
           content-is 33 e (λ z. omega arith)
@@ -204,9 +274,6 @@ module _ {rows code : List ℤ} (p : Prepared rows code) where
 
     -- ---- links: number 1 the process, number 2 the next link, number 3 a choice's boolean or an option's guard
     module _ (one : placeAt code r 1 ≡ referredRow rows r 1) (two : placeAt code r 2 ≡ referredRow rows r 2) (f : Refers 1) where
-      link-inside : placeAt code r 1 < rowCount rows
-      link-inside = rw one (f .2)
-
       named : naturalAt rows r 1 ≡ placeAt code r 1
       named = f .0 ∙ sym one
 
@@ -217,24 +284,9 @@ module _ {rows code : List ℤ} (p : Prepared rows code) where
           ∙ ap (λ (o : Option Process). andProcess o (contentAt rows (placeAt code r 2) .listed))
           (ap (λ (b : ℕ). contentAt rows b .process) one ∙ f .1 ∙ ap (λ (b : ℕ). some (processAt (program rows) b)) (sym one))
 
-    module _ (e : placeAt code r 0 ≡ 40) where
-      member-process : Refers 1
-      member-process = of-member (here 40 e (λ z. omega arith)) (kind-is 40 e (λ z. omega arith))
-
-      pub member-inside : placeAt code r 1 < rowCount rows
-      member-inside = link-inside (first-is 40 e (λ z. omega arith)) (second-is 40 e (λ z. omega arith)) member-process
-
-      pub member-row : contentAt rows r ≡ ofLink (also (processAt (program rows) (placeAt code r 1)) (contentAt rows (placeAt code r 2) .listed)) [] []
-      member-row =
-          content-is 40 e (λ z. omega arith)
-          ∙ ap (λ (ms : Processes). ofLink ms [] []) (linked (first-is 40 e (λ z. omega arith)) (second-is 40 e (λ z. omega arith)) member-process)
-
     module _ (e : placeAt code r 0 ≡ 41) where
       choice-process : Refers 1
       choice-process = of-choice (here 41 e (λ z. omega arith)) (kind-is 41 e (λ z. omega arith))
-
-      pub choice-inside : placeAt code r 1 < rowCount rows
-      choice-inside = link-inside (first-is 41 e (λ z. omega arith)) (second-is 41 e (λ z. omega arith)) choice-process
 
       pub choice-row : contentAt rows r
           ≡ ofLink (also (processAt (program rows) (placeAt code r 1)) (contentAt rows (placeAt code r 2) .listed))
@@ -249,9 +301,6 @@ module _ {rows code : List ℤ} (p : Prepared rows code) where
     module _ (e : placeAt code r 0 ≡ 42) where
       option-process : Refers 1
       option-process = of-option (here 42 e (λ z. omega arith)) (kind-is 42 e (λ z. omega arith))
-
-      pub option-inside : placeAt code r 1 < rowCount rows
-      option-inside = link-inside (first-is 42 e (λ z. omega arith)) (second-is 42 e (λ z. omega arith)) option-process
 
       pub option-row : contentAt rows r
           ≡ ofLink (also (processAt (program rows) (placeAt code r 1)) (contentAt rows (placeAt code r 2) .listed)) []

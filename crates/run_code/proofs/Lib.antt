@@ -1,9 +1,9 @@
 pub mod Entries
 pub mod RowKinds
+pub mod Names
 pub mod Referred
 pub mod Codes
 pub mod Shapes
 pub mod Owners
 pub mod Inside
 pub mod NoLinks
-pub mod Guards

@@ -18,7 +18,7 @@ use Rattle.run_code.specs.Prepared.{Prepared, rowOfKind, placeAt}
 use Rattle.run_code.proofs.Entries.{what-at}
 use Rattle.run_code.proofs.RowKinds.{row-of-kind, kind-in}
 
-module _ {rows code : List ℤ} (p : Prepared rows code) (r : ℕ) (h : r ≤ 1024) where
+module _ {rows : List ℤ} {code : List ℕ} (p : Prepared rows code) (r : ℕ) (h : r ≤ 1024) where
   -- what is left out of a row that is none of these
   record Lists (c : Content) : Type 0 where
     no-members : (placeAt code r 0 ≡ 40 → ⊥) → (placeAt code r 0 ≡ 41 → ⊥) → (placeAt code r 0 ≡ 42 → ⊥) → c .listed ≡ empty

@@ -6,17 +6,12 @@ use mathlib.Core.Option.{Option as Maybe, none, some}
 use mathlib.Core.List.{List, List·Memᴰ, List·Memᴰ·head, List·Memᴰ·tail, List·Memᴰ·not-nil}
 use Prim.Native.Nat.{ℕ, zero, suc, _-_, _<_, _≤_}
 use native.Mathlib.Omega.{arith}
-use lib.IntN.{ℤ, pos}
+use lib.IntN.{ℤ}
 use lib.Dec.{ltb, eqb}
 use borrow.Author.Tests.{eqb-true, eqb-false, eq-eqb, ne-eqb, ltb-true, ltb-false}
-use Rattle.meaning.specs.declared.Value.the-variants.{Number}
-use Rattle.meaning.specs.declared.Index.{Index}
-use Rattle.meaning.specs.declared.Index.the-variants.{At, Fails}
 use Rattle.meaning.specs.Basics.{ifElse, isSome}
 use Rattle.meaning.specs.Rows.{rowCount, fieldAt, naturalAt, kindAt}
 use Rattle.meaning.specs.Kinds.{processes}
-use Rattle.meaning.specs.Declarations.{Variable, variableAt, sourceAt, sinkAt}
-use Rattle.meaning.specs.Values.{inArray}
 use Rattle.meaning.specs.Tree.{Process, Processes, empty, also, andProcess, contentAt, orStop, rowOf, processesIn}
 use Rattle.meaning.specs.State.{program, processAt}
 use Rattle.meaning.proofs.AnswerLaws.{accepted}
@@ -35,9 +30,9 @@ use Rattle.run_parents.specs.Parents.{inTable, nextLink, ifParent, NextOf}
 use Rattle.run_parents.proofs.MemberNotes.{in-table-members, none-past, row-alone}
 use Rattle.run_parents.proofs.NextLinks.{next-is}
 use Rattle.run_code.specs.declared.Row.{Row}
-use Rattle.run_code.specs.Prepared.{row, noRow, fixed, kindIn, referredRow, subscriptedRow, ownerNote, nextNote, assignedRow, inputRow, outputRow, keptRow, rowAt, Prepared, placeAt}
-use Rattle.run_code.proofs.Entries.{what-at, parent-at, next-at}
-use Rattle.run_code.proofs.RowKinds.{row-of-kind, kind-in}
+use Rattle.run_code.specs.Prepared.{row, noRow, literalRow, kindIn, referredRow, ownerNote, nextNote, declaredRow, elementRow, assignedRow, keptRow, rowAt, Prepared, placeAt}
+use Rattle.run_code.proofs.Entries.{parent-at, next-at}
+use Rattle.run_code.proofs.RowKinds.{kind-in}
 use Rattle.run_code.proofs.Codes.{parent-is}
 
 -- ---- the members after a row
@@ -146,79 +141,54 @@ process-kinds k (List·Memᴰ·tail (List·Memᴰ·tail (List·Memᴰ·tail (Lis
 process-kinds k (List·Memᴰ·tail (List·Memᴰ·tail (List·Memᴰ·tail (List·Memᴰ·tail (List·Memᴰ·tail (List·Memᴰ·tail (List·Memᴰ·tail (List·Memᴰ·tail (List·Memᴰ·head e))))))))) = (omega arith, omega arith)
 process-kinds k (List·Memᴰ·tail (List·Memᴰ·tail (List·Memᴰ·tail (List·Memᴰ·tail (List·Memᴰ·tail (List·Memᴰ·tail (List·Memᴰ·tail (List·Memᴰ·tail (List·Memᴰ·tail (List·Memᴰ·head e)))))))))) = (omega arith, omega arith)
 
--- a row has the two notes, or is an expression or nothing, and has none
+-- a row has the two notes, or is no process, link or guard
 data Notes (owner next : ℕ) (low : Type 0) (w : Row) : Type 0 where
   noted : w .parent ≡ owner → w .next ≡ next → Notes owner next low w
-  notNoted : low → w .parent ≡ 0 → w .next ≡ 0 → Notes owner next low w
-
-fixed-notes : (i : Index) → (fixed i .parent ≡ 0) × (fixed i .next ≡ 0)
-fixed-notes (At i) = (refl, refl)
-fixed-notes (Fails k) = (refl, refl)
-
-element-notes : (rows : List ℤ) (v : Variable) (b : ℕ) → (subscriptedRow rows v b .parent ≡ 0) × (subscriptedRow rows v b .next ≡ 0)
-unfolding subscriptedRow
-element-notes rows v b = go (eqb (kindIn rows b) 10)
-  where
-    go : (t : Bool) → (ifElse t (fixed (inArray (v .first) (v .size) (Number (fieldAt rows b 1)))) (row 4 (pos (v .first)) b 0 (v .size)) .parent ≡ 0)
-        × (ifElse t (fixed (inArray (v .first) (v .size) (Number (fieldAt rows b 1)))) (row 4 (pos (v .first)) b 0 (v .size)) .next ≡ 0)
-    go true = fixed-notes (inArray (v .first) (v .size) (Number (fieldAt rows b 1)))
-    go false = (refl, refl)
+  notNoted : low → Notes owner next low w
 
 module _ (rows : List ℤ) (r : ℕ) where
-  abbrev element : Row
-  element = subscriptedRow rows (variableAt rows (naturalAt rows r 1)) (referredRow rows r 2)
-
   abbrev Low : ℕ → Type 0
   Low k = (20 ≤ k) × (k < 44) → ⊥
 
   by-kind : (k : ℕ) (a b c d e f g x y : Bool) → eqb k 10 ≡ a → eqb k 11 ≡ b → eqb k 12 ≡ c → eqb k 13 ≡ d → eqb k 22 ≡ e → eqb k 23 ≡ f → eqb k 24 ≡ g → ltb k 20 ≡ x → ltb k 44 ≡ y
       → Notes (ownerNote rows k r) (nextNote rows r) (Low k)
-      (ifElse a (row 1 (fieldAt rows r 1) 0 0 0)
-      (ifElse b element
-      (ifElse c (row 5 (fieldAt rows r 1) (referredRow rows r 2) 0 0)
-      (ifElse d (row 6 (fieldAt rows r 1) (referredRow rows r 2) (referredRow rows r 3) 0)
-      (ifElse e (assignedRow rows r element)
-      (ifElse f (inputRow rows r (sourceAt rows (naturalAt rows r 1)))
-      (ifElse g (outputRow rows r (sinkAt rows (naturalAt rows r 1)))
-      (ifElse x noRow
-      (ifElse y (keptRow rows r k)
+      (ifElse a (literalRow (fieldAt rows r 1))
+      (ifElse b (elementRow rows r)
+      (ifElse c (row 5 (naturalAt rows r 1) (referredRow rows r 2) 0)
+      (ifElse d (row 6 (naturalAt rows r 1) (referredRow rows r 2) (referredRow rows r 3))
+      (ifElse e (assignedRow rows r (elementRow rows r))
+      (ifElse f (keptRow rows r 23 (naturalAt rows r 1))
+      (ifElse g (keptRow rows r 24 (naturalAt rows r 1))
+      (ifElse x (declaredRow rows r)
+      (ifElse y (keptRow rows r k (referredRow rows r 1))
       noRow)))))))))
-  by-kind k true b c d e f g x y p1 p2 p3 p4 p5 p6 p7 p8 p9 = notNoted (λ l. omega (arith, eqb-true k 10 p1, l .0)) refl refl
-  by-kind k false true c d e f g x y p1 p2 p3 p4 p5 p6 p7 p8 p9 =
-      let n = element-notes rows (variableAt rows (naturalAt rows r 1)) (referredRow rows r 2) in notNoted (λ l. omega (arith, eqb-true k 11 p2, l .0)) (n .0) (n .1)
-  by-kind k false false true d e f g x y p1 p2 p3 p4 p5 p6 p7 p8 p9 = notNoted (λ l. omega (arith, eqb-true k 12 p3, l .0)) refl refl
-  by-kind k false false false true e f g x y p1 p2 p3 p4 p5 p6 p7 p8 p9 = notNoted (λ l. omega (arith, eqb-true k 13 p4, l .0)) refl refl
+  by-kind k true b c d e f g x y p1 p2 p3 p4 p5 p6 p7 p8 p9 = notNoted (λ l. omega (arith, eqb-true k 10 p1, l .0))
+  by-kind k false true c d e f g x y p1 p2 p3 p4 p5 p6 p7 p8 p9 = notNoted (λ l. omega (arith, eqb-true k 11 p2, l .0))
+  by-kind k false false true d e f g x y p1 p2 p3 p4 p5 p6 p7 p8 p9 = notNoted (λ l. omega (arith, eqb-true k 12 p3, l .0))
+  by-kind k false false false true e f g x y p1 p2 p3 p4 p5 p6 p7 p8 p9 = notNoted (λ l. omega (arith, eqb-true k 13 p4, l .0))
   by-kind k false false false false true f g x y p1 p2 p3 p4 p5 p6 p7 p8 p9 = noted (ap (λ (k : ℕ). ownerNote rows k r) (sym (eqb-true k 22 p5))) refl
   by-kind k false false false false false true g x y p1 p2 p3 p4 p5 p6 p7 p8 p9 = noted (ap (λ (k : ℕ). ownerNote rows k r) (sym (eqb-true k 23 p6))) refl
   by-kind k false false false false false false true x y p1 p2 p3 p4 p5 p6 p7 p8 p9 = noted (ap (λ (k : ℕ). ownerNote rows k r) (sym (eqb-true k 24 p7))) refl
-  by-kind k false false false false false false false true y p1 p2 p3 p4 p5 p6 p7 p8 p9 = notNoted (λ l. omega (arith, ltb-true k 20 p8, l .0)) refl refl
+  by-kind k false false false false false false false true y p1 p2 p3 p4 p5 p6 p7 p8 p9 = notNoted (λ l. omega (arith, ltb-true k 20 p8, l .0))
   by-kind k false false false false false false false false true p1 p2 p3 p4 p5 p6 p7 p8 p9 = noted refl refl
-  by-kind k false false false false false false false false false p1 p2 p3 p4 p5 p6 p7 p8 p9 = notNoted (λ l. omega (arith, ltb-false k 44 p9, l .1)) refl refl
+  by-kind k false false false false false false false false false p1 p2 p3 p4 p5 p6 p7 p8 p9 = notNoted (λ l. omega (arith, ltb-false k 44 p9, l .1))
 
   notes-are : Notes (ownerNote rows (kindIn rows r) r) (nextNote rows r) (Low (kindIn rows r)) (rowAt rows r)
   unfolding rowAt
   notes-are = let k = kindIn rows r in by-kind k (eqb k 10) (eqb k 11) (eqb k 12) (eqb k 13) (eqb k 22) (eqb k 23) (eqb k 24) (ltb k 20) (ltb k 44) refl refl refl refl refl refl refl refl refl
 
-module _ {rows code : List ℤ} (p : Prepared rows code) (r : ℕ) (h : r ≤ 1024) where
-  -- a row that has a parent is a process
-  has-kind : (q : ℕ) → parentOf (program rows) r ≡ some q → (20 ≤ kindIn rows r) × (kindIn rows r < 42)
-  has-kind q e =
-      let a = members-after rows r q (parent-has (program rows) r q e .1) in
-      let (l, m) = process-kind rows (accepted rows .0 (p .accepted)) r (a .found) (a .stands-there) in
-      rw (kind-in rows r (kindAt rows r) l refl) (process-kinds (kindAt rows r) m)
+module _ {rows : List ℤ} {code : List ℕ} (p : Prepared rows code) (r : ℕ) (h : r ≤ 1024) where
+  process-kind-in : (x : Process) → contentAt rows r .process ≡ some x → (20 ≤ kindIn rows r) × (kindIn rows r < 42)
+  process-kind-in x e = let (l, m) = process-kind rows (accepted rows .0 (p .accepted)) r x e in rw (kind-in rows r (kindAt rows r) l refl) (process-kinds (kindAt rows r) m)
 
-  -- number 4 of a row that is no option
-  pub parent-note : (placeAt code r 0 ≡ 42 → ⊥) → placeAt code r 4 ≡ rowNote (parentOf (program rows) r)
+  -- number 4 of a process
+  pub parent-note : (x : Process) → contentAt rows r .process ≡ some x → placeAt code r 4 ≡ rowNote (parentOf (program rows) r)
   unfolding ownerNote
-  parent-note n = parent-at p r h ∙ go (parentOf (program rows) r) refl (notes-are rows r)
+  parent-note x e = let k = process-kind-in x e in parent-at p r h ∙ go k (notes-are rows r)
     where
-      other : kindIn rows r ≡ 42 → ⊥
-      other e = n (what-at p r h ∙ ap (λ (w : Row). w .what) (row-of-kind rows r 42 e))
-
-      go : (o : Maybe ℕ) → parentOf (program rows) r ≡ o → Notes (ownerNote rows (kindIn rows r) r) (nextNote rows r) (Low rows r (kindIn rows r)) (rowAt rows r) → rowAt rows r .parent ≡ rowNote o
-      go o e (noted i j) = i ∙ ap (λ (t : Bool). ifElse t (rowNote (altOf (program rows) r)) (rowNote (parentOf (program rows) r))) (ne-eqb (kindIn rows r) 42 other) ∙ ap rowNote e
-      go none e (notNoted l i j) = i
-      go (some q) e (notNoted l i j) = let k = has-kind q e in absurd (l (k .0, omega (arith, k .1)))
+      go : (20 ≤ kindIn rows r) × (kindIn rows r < 42) → Notes (ownerNote rows (kindIn rows r) r) (nextNote rows r) (Low rows r (kindIn rows r)) (rowAt rows r) → rowAt rows r .parent ≡ rowNote (parentOf (program rows) r)
+      go k (noted i j) = i ∙ ap (λ (t : Bool). ifElse t (rowNote (altOf (program rows) r)) (rowNote (parentOf (program rows) r))) (ne-eqb (kindIn rows r) 42 (λ z. omega (arith, k .1)))
+      go k (notNoted l) = absurd (l (k .0, omega (arith, k .1)))
 
   -- number 4 of an option
   pub option-note : placeAt code r 0 ≡ 42 → placeAt code r 4 ≡ rowNote (altOf (program rows) r)
@@ -235,4 +205,4 @@ module _ {rows code : List ℤ} (p : Prepared rows code) (r : ℕ) (h : r ≤ 10
 
       go : Notes (ownerNote rows (kindIn rows r) r) (nextNote rows r) (Low rows r (kindIn rows r)) (rowAt rows r) → rowAt rows r .next ≡ after .next
       go (noted i j) = j ∙ ap (λ (o : Maybe ℕ). ifParent o (nextLink rows r) 0) e ∙ sym (next-is rows (accepted rows .0 (p .accepted)) r (after .next) (after .next-of))
-      go (notNoted l i j) = let k = has-kind q e in absurd (l (k .0, omega (arith, k .1)))
+      go (notNoted l) = let k = process-kind-in (after .found) (after .stands-there) in absurd (l (k .0, omega (arith, k .1)))

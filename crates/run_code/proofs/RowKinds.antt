@@ -5,7 +5,7 @@ use mathlib.Core.Bool.{Bool, true, false}
 use mathlib.Core.List.{List}
 use Prim.Native.Nat.{ℕ, _+_, _<_, _≤_}
 use native.Mathlib.Omega.{arith}
-use lib.IntN.{ℤ, pos}
+use lib.IntN.{ℤ}
 use lib.Dec.{ltb, eqb}
 use borrow.Author.Tests.{ltb-true, ltb-false, le-ltb, lt-ltb, eqb-true, ne-eqb}
 use Rattle.meaning.specs.declared.Value.the-variants.{Number}
@@ -13,10 +13,10 @@ use Rattle.meaning.specs.declared.Index.{Index}
 use Rattle.meaning.specs.declared.Index.the-variants.{At, Fails}
 use Rattle.meaning.specs.Basics.{ifElse}
 use Rattle.meaning.specs.Rows.{rowCount, fieldAt, naturalAt, kindAt}
-use Rattle.meaning.specs.Declarations.{Variable, variableAt, sourceAt, sinkAt}
+use Rattle.meaning.specs.Declarations.{declarations, isVariable, hasRole, channelAt, variableAt, sourceAt, sinkAt}
 use Rattle.meaning.specs.Values.{inArray}
-use Rattle.run_code.specs.declared.Row.{Row}
-use Rattle.run_code.specs.Prepared.{row, noRow, fixed, kindIn, referredRow, subscriptedRow, assignedRow, inputRow, outputRow, keptRow, rowOfKind, rowAt}
+use Rattle.agreement.proofs.TableStarts.{leading-le}
+use Rattle.run_code.specs.Prepared.{row, noRow, literalRow, fixed, variableRow, channelRow, kindIn, referredRow, subscriptedRow, stripOf, declaredRow, elementRow, assignedRow, keptRow, rowOfKind, rowAt}
 
 -- the kind of a row, from what it is
 abbrev pub kindFrom : ℕ → ℕ
@@ -38,17 +38,36 @@ pub data IsElement (w : ℕ) : Type 0 where
   isOutside : w ≡ 3 → IsElement w
   isSubscripted : w ≡ 4 → IsElement w
 
-pub element-what : (rows : List ℤ) (v : Variable) (b : ℕ) → IsElement (subscriptedRow rows v b .what)
+pub element-what : (rows : List ℤ) (a b : ℕ) → IsElement (subscriptedRow rows a b .what)
 unfolding subscriptedRow
-element-what rows v b = go (eqb (kindIn rows b) 10)
+element-what rows a b = go (eqb (kindIn rows b) 10)
   where
     inner : (i : Index) → IsElement (fixed i .what)
     inner (At i) = isCell refl
     inner (Fails k) = isOutside refl
 
-    go : (t : Bool) → IsElement (ifElse t (fixed (inArray (v .first) (v .size) (Number (fieldAt rows b 1)))) (row 4 (pos (v .first)) b 0 (v .size)) .what)
-    go true = inner (inArray (v .first) (v .size) (Number (fieldAt rows b 1)))
+    go : (t : Bool) → IsElement (ifElse t (fixed (inArray (variableAt rows a .first) (variableAt rows a .size) (Number (fieldAt rows b 1)))) (row 4 a b 0) .what)
+    go true = inner (inArray (variableAt rows a .first) (variableAt rows a .size) (Number (fieldAt rows b 1)))
     go false = isSubscripted refl
+
+-- a declaration is nothing that a run looks at
+declared-what : (rows : List ℤ) (r : ℕ) → declaredRow rows r .what ≡ 0
+unfolding declaredRow
+declared-what rows r = go (isVariable rows r) (hasRole 2 rows r)
+  where
+    go : (t u : Bool) → ifElse t (variableRow (variableAt rows r)) (ifElse u (channelRow (sinkAt rows r) (stripOf rows (sinkAt rows r))) (channelRow (sourceAt rows r) 0)) .what ≡ 0
+    go true u = refl
+    go false true = refl
+    go false false = refl
+
+-- past the declarations there is none
+pub declared-past : (rows : List ℤ) (r : ℕ) → declarations rows ≤ r → declaredRow rows r ≡ noRow
+unfolding declaredRow sourceAt channelAt
+declared-past rows r h = simp (le-ltb r (declarations rows) h)
+
+pub declarations-few : (rows : List ℤ) → declarations rows ≤ rowCount rows
+unfolding declarations
+declarations-few rows = omega (arith, leading-le rows (rowCount rows) 0)
 
 -- nothing, or of this kind
 abbrev Told : ℕ → ℕ → Type 0
@@ -74,29 +93,26 @@ kept-kind k l u =
     )
 
 module _ (rows : List ℤ) (r : ℕ) where
-  abbrev element : Row
-  element = subscriptedRow rows (variableAt rows (naturalAt rows r 1)) (referredRow rows r 2)
-
   told : (k : ℕ) (a b c d e f g x y : Bool) → eqb k 10 ≡ a → eqb k 11 ≡ b → eqb k 12 ≡ c → eqb k 13 ≡ d → eqb k 22 ≡ e → eqb k 23 ≡ f → eqb k 24 ≡ g → ltb k 20 ≡ x → ltb k 44 ≡ y
       → Told k
-      (ifElse a (row 1 (fieldAt rows r 1) 0 0 0)
-      (ifElse b element
-      (ifElse c (row 5 (fieldAt rows r 1) (referredRow rows r 2) 0 0)
-      (ifElse d (row 6 (fieldAt rows r 1) (referredRow rows r 2) (referredRow rows r 3) 0)
-      (ifElse e (assignedRow rows r element)
-      (ifElse f (inputRow rows r (sourceAt rows (naturalAt rows r 1)))
-      (ifElse g (outputRow rows r (sinkAt rows (naturalAt rows r 1)))
-      (ifElse x noRow
-      (ifElse y (keptRow rows r k)
+      (ifElse a (literalRow (fieldAt rows r 1))
+      (ifElse b (elementRow rows r)
+      (ifElse c (row 5 (naturalAt rows r 1) (referredRow rows r 2) 0)
+      (ifElse d (row 6 (naturalAt rows r 1) (referredRow rows r 2) (referredRow rows r 3))
+      (ifElse e (assignedRow rows r (elementRow rows r))
+      (ifElse f (keptRow rows r 23 (naturalAt rows r 1))
+      (ifElse g (keptRow rows r 24 (naturalAt rows r 1))
+      (ifElse x (declaredRow rows r)
+      (ifElse y (keptRow rows r k (referredRow rows r 1))
       noRow)))))))) .what)
   told k true b c d e f g x y p1 p2 p3 p4 p5 p6 p7 p8 p9 = inr (sym (eqb-true k 10 p1))
-  told k false true c d e f g x y p1 p2 p3 p4 p5 p6 p7 p8 p9 = inr (sym (element-kind _ (element-what rows (variableAt rows (naturalAt rows r 1)) (referredRow rows r 2)) .0) ∙ sym (eqb-true k 11 p2))
+  told k false true c d e f g x y p1 p2 p3 p4 p5 p6 p7 p8 p9 = inr (sym (element-kind _ (element-what rows (naturalAt rows r 1) (referredRow rows r 2)) .0) ∙ sym (eqb-true k 11 p2))
   told k false false true d e f g x y p1 p2 p3 p4 p5 p6 p7 p8 p9 = inr (sym (eqb-true k 12 p3))
   told k false false false true e f g x y p1 p2 p3 p4 p5 p6 p7 p8 p9 = inr (sym (eqb-true k 13 p4))
-  told k false false false false true f g x y p1 p2 p3 p4 p5 p6 p7 p8 p9 = inr (sym (element-kind _ (element-what rows (variableAt rows (naturalAt rows r 1)) (referredRow rows r 2)) .1) ∙ sym (eqb-true k 22 p5))
+  told k false false false false true f g x y p1 p2 p3 p4 p5 p6 p7 p8 p9 = inr (sym (element-kind _ (element-what rows (naturalAt rows r 1) (referredRow rows r 2)) .1) ∙ sym (eqb-true k 22 p5))
   told k false false false false false true g x y p1 p2 p3 p4 p5 p6 p7 p8 p9 = inr (sym (eqb-true k 23 p6))
   told k false false false false false false true x y p1 p2 p3 p4 p5 p6 p7 p8 p9 = inr (sym (eqb-true k 24 p7))
-  told k false false false false false false false true y p1 p2 p3 p4 p5 p6 p7 p8 p9 = inl refl
+  told k false false false false false false false true y p1 p2 p3 p4 p5 p6 p7 p8 p9 = inl (declared-what rows r)
   told k false false false false false false false false true p1 p2 p3 p4 p5 p6 p7 p8 p9 = inr (kept-kind k (ltb-false k 20 p8) (ltb-true k 44 p9))
   told k false false false false false false false false false p1 p2 p3 p4 p5 p6 p7 p8 p9 = inl refl
 
@@ -131,4 +147,4 @@ module _ (rows : List ℤ) (r : ℕ) where
   -- past the table nothing stands
   pub nothing-past : rowCount rows ≤ r → rowAt rows r ≡ noRow
   unfolding rowAt kindIn
-  nothing-past h = simp (le-ltb r (rowCount rows) h)
+  nothing-past h = simp (le-ltb r (rowCount rows) h) (declared-past rows r (omega (arith, declarations-few rows)))

@@ -9,7 +9,6 @@ use Rattle.meaning.specs.declared.Node.{Node}
 use Rattle.meaning.specs.declared.Value.{Value}
 use Rattle.meaning.specs.declared.Index.{Index}
 use Rattle.meaning.specs.Rows.{rowCount, naturalAt, kindAt}
-use Rattle.meaning.specs.Declarations.{variableAt}
 use Rattle.meaning.specs.Tree.{Action, Process, Content, contentOf, contentAt, orStop, actionOf}
 use Rattle.meaning.specs.Values.{Message, value}
 use Rattle.meaning.specs.State.{program, processAt}
@@ -30,7 +29,7 @@ use Rattle.run_intents.proofs.RowFacts.{what-here}
 abbrev actionIn : Content → Action
 actionIn q = actionOf (orStop (q .process))
 
-module _ {rows code : List ℤ} (p : Prepared rows code) (lines : ℕ) (cells : List Message) (places counts : List ℕ) (r : ℕ) (h : r ≤ 1024) where
+module _ {rows : List ℤ} {code : List ℕ} (p : Prepared rows code) (lines : ℕ) (cells : List Message) (places counts : List ℕ) (r : ℕ) (h : r ≤ 1024) where
   abbrev does : Action → Does
   does = doesOf lines cells places counts
 
@@ -86,12 +85,12 @@ module _ {rows code : List ℤ} (p : Prepared rows code) (lines : ℕ) (cells : 
     other-does a b c d f g i j = go (decLt r (rowCount rows))
       where
         no-assignment : r < rowCount rows → kindAt rows r ≡ 22 → ⊥
-        no-assignment l k = cases (element-what rows (variableAt rows (naturalAt rows r 1)) (referredRow rows r 2))
+        no-assignment l k = cases (element-what rows (naturalAt rows r 1) (referredRow rows r 2))
           where
-            is : w ≡ 44 + subscriptedRow rows (variableAt rows (naturalAt rows r 1)) (referredRow rows r 2) .what
+            is : w ≡ 44 + subscriptedRow rows (naturalAt rows r 1) (referredRow rows r 2) .what
             is = e ∙ what-here p r h 22 l k
 
-            cases : IsElement (subscriptedRow rows (variableAt rows (naturalAt rows r 1)) (referredRow rows r 2) .what) → ⊥
+            cases : IsElement (subscriptedRow rows (naturalAt rows r 1) (referredRow rows r 2) .what) → ⊥
             cases (isCell q) = a (is ∙ ap (λ (n : ℕ). 44 + n) q)
             cases (isOutside q) = b (is ∙ ap (λ (n : ℕ). 44 + n) q)
             cases (isSubscripted q) = c (is ∙ ap (λ (n : ℕ). 44 + n) q)

@@ -18,7 +18,7 @@ use Rattle.run_intents.specs.declared.Does.{Does}
 use Rattle.run_intents.specs.declared.Does.the-variants.{Waits, Stops, Starts}
 use Rattle.run_intents.specs.Does.{whenTrue, choicesDo}
 
-module _ {rows code : List ℤ} (p : Prepared rows code) (m : ℕ) (h : m ≤ 1024) where
+module _ {rows : List ℤ} {code : List ℕ} (p : Prepared rows code) (m : ℕ) (h : m ≤ 1024) where
   -- the next choices are in a higher row
   pub next-higher : {w b : ℕ} → w ≡ placeAt code m 0 → w ≡ 41 → b ≡ placeAt code m 2 → (m < b) × (b ≤ 1024)
   next-higher e i q = rw (q ∙ second-is p m h 41 (sym e ∙ i) (λ z. omega arith)) (referred-higher rows (few p) m 2 (here p m h 41 (sym e ∙ i) (λ z. omega arith)))

@@ -34,13 +34,13 @@ bare-guard rows g l (List·Memᴰ·head e) = rw (part-of-kind rows g 21 l e)
 bare-guard rows g l (List·Memᴰ·tail (List·Memᴰ·head e)) = rw (part-of-kind rows g 23 l e)
 bare-guard rows g l (List·Memᴰ·tail (List·Memᴰ·tail m)) = absurd (List·Memᴰ·not-nil m)
 
-module _ {rows code : List ℤ} (p : Prepared rows code) where
+module _ {rows : List ℤ} {code : List ℕ} (p : Prepared rows code) where
   -- what a guard's row refers to has no boolean
   pub guarded-bare : (g : ℕ) → g ≤ 1024 → {w b : ℕ} → w ≡ placeAt code g 0 → w ≡ 43 → b ≡ placeAt code g 2 → (b ≤ 1024) × (placeAt code b 0 ≡ 43 → ⊥)
   guarded-bare g h {w} {b} e i q = (k, λ f. apart (rw (sym q) at (guard-input p g h (sym e ∙ i) .1)) (kind-is p b k 43 f (λ z. omega arith)))
     where
       k : b ≤ 1024
-      k = rw q (second-inside p g h)
+      k = rw q (second-inside p g h (omega (arith, e, i)))
 
       apart : List·Memᴰ (kindAt rows b) (21 ∷ 23 ∷ []) → kindAt rows b ≡ 43 → ⊥
       apart (List·Memᴰ·head e) i = omega arith
@@ -49,7 +49,7 @@ module _ {rows code : List ℤ} (p : Prepared rows code) where
 
   module _ (j : ℕ) (h : j ≤ 1024) (is : placeAt code j 0 ≡ 42) where
     pub guard-inside : {g : ℕ} → g ≡ placeAt code j 3 → g ≤ 1024
-    guard-inside q = rw q (third-inside p j h)
+    guard-inside q = rw q (third-inside p j h (omega (arith, is)))
 
     -- the option of row j is the first of the options from there on
     pub option-first : contentAt rows j .options ≡ optionAt rows j ∷ contentAt rows (placeAt code j 2) .options

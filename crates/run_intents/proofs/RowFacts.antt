@@ -28,16 +28,16 @@ note-few c f = go (c .host) f
     go true f = omega (arith, f refl)
     go false f = omega arith
 
-module _ {rows code : List ℤ} (p : Prepared rows code) (r : ℕ) (h : r ≤ 1024) where
+module _ {rows : List ℤ} {code : List ℕ} (p : Prepared rows code) (r : ℕ) (h : r ≤ 1024) where
   -- a kind tells what a row is
   pub what-here : (k : ℕ) → r < rowCount rows → kindAt rows r ≡ k → placeAt code r 0 ≡ rowOfKind rows r k .what
   what-here k l e = what-at p r h ∙ ap (λ (w : Row). w .what) (row-of-kind rows r k (kind-in rows r k l e))
 
-  pub input-few : placeAt code r 0 ≡ 23 → {n : ℕ} → n ≡ placeAt code r 7 → n ≤ 8
-  input-few e q = rw (q ∙ input-host p r h e) (note-few (sourceAt rows (naturalAt rows r 1)) (λ i. let b = source-below rows (naturalAt rows r 1) i in omega (arith, room rows (p .accepted) .places)))
+  pub input-few : placeAt code r 0 ≡ 23 → {k n : ℕ} → k ≡ placeAt code r 1 → n ≡ placeAt code k 3 → n ≤ 8
+  input-few e j q = rw (q ∙ ap (λ (k : ℕ). placeAt code k 3) j ∙ input-host p r h e) (note-few (sourceAt rows (naturalAt rows r 1)) (λ i. let b = source-below rows (naturalAt rows r 1) i in omega (arith, room rows (p .accepted) .places)))
 
-  pub output-few : placeAt code r 0 ≡ 24 → {n : ℕ} → n ≡ placeAt code r 7 → n ≤ 8
-  output-few e q = rw (q ∙ output-host p r h e) (note-few (sinkAt rows (naturalAt rows r 1)) (λ i. let b = sink-below rows (naturalAt rows r 1) i in omega (arith, room rows (p .accepted) .outputs)))
+  pub output-few : placeAt code r 0 ≡ 24 → {k n : ℕ} → k ≡ placeAt code r 1 → n ≡ placeAt code k 3 → n ≤ 8
+  output-few e j q = rw (q ∙ ap (λ (k : ℕ). placeAt code k 3) j ∙ output-host p r h e) (note-few (sinkAt rows (naturalAt rows r 1)) (λ i. let b = sink-below rows (naturalAt rows r 1) i in omega (arith, room rows (p .accepted) .outputs)))
 
   pub guard-input : placeAt code r 0 ≡ 43 → (placeAt code r 2 < rowCount rows) × List·Memᴰ (kindAt rows (placeAt code r 2)) (21 ∷ 23 ∷ [])
   unfolding shapeOf shapes shapeIn Leads

@@ -21,13 +21,14 @@ use Rattle.meaning.specs.Readings.{Sheet}
 use Rattle.run_values.specs.Cells.{cellsIn}
 use Rattle.meaning.specs.Intent.{Offer, openOffer, inputOffer, Intent, waits, moves, outputsTo, assigning, testing, choosing, outputting, tests, InputResult, lacks, notYet, reads, fromElement, inputResultOf, inputResult, inputResultIf, inputting, OptionsResult, fails, offers, admitting, opening, guarding, optionsResult, selecting, intent}
 use Rattle.meaning.specs.Intent as meaning
+use Rattle.machine.specs.Held.{KeptReadings}
 use Rattle.machine.proofs.NamesInRange.{SourceIn, GuardIn, OptionsIn, ActionIn, names-in}
 use Rattle.run_values.proofs.CellLaws.{same-value}
 use Rattle.run_code.specs.Prepared.{hostNote}
 use Rattle.run_intents.specs.declared.Does.{Does}
 use Rattle.run_intents.specs.declared.Does.the-variants.{Waits, Stops, Ends, Starts, Reads, Writes, InputsFrom, OutputsTo}
 use Rattle.run_intents.specs.Does.{onHost, assignment, tested, whenTrue, hostRead, hostWrite, received, sent, choicesDo, inputDoes, outputDoes, guardDoes, guardedDoes, doesOf}
-use Rattle.run_intents.specs.Held.{KeptReadings, Held}
+use Rattle.run_intents.specs.Held.{Held}
 use Rattle.run_intents.specs.Stands.{OptionNote, optionsOf, optionNotes, stopOf, firstOf, firstStop, readWrites, offersFor, offersOf, unlessStops, altIntent, standsFor}
 
 -- an entry is what stands at its place

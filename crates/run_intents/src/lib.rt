@@ -12,7 +12,6 @@ ghost use Rattle.run_intents.specs.Does.{assignment, tested, received, s
 ghost use Rattle.run_intents.specs.Rows.{inputAt, outputAt, optionAt};
 use meaning::Index;
 use meaning::Value;
-use run_code::first;
 use run_code::place;
 use run_values::assigned;
 use run_values::eval;
@@ -118,7 +117,7 @@ fn sent(counts: &[u32; 8], channel: u32, capacity: u32, element: Index, v: Value
 
 // The input of row r.
 fn input_does<'a>(
-    code: &'a [i32; 10250],
+    code: &'a [u16; 6150],
     values: &'a [i32; 256],
     marks: &'a [u8; 256],
     places: &'a [u32; 8],
@@ -131,12 +130,13 @@ fn input_does<'a>(
 {
     let e = index(code, values, marks, r);
     let t = target(code, values, marks, place(code, r, 3) as usize);
-    received(places, lines, place(code, r, 7), e, t)
+    let d = place(code, r, 1) as usize;
+    received(places, lines, place(code, d, 3), e, t)
 }
 
 // The output of row r.
 fn output_does<'a>(
-    code: &'a [i32; 10250],
+    code: &'a [u16; 6150],
     values: &'a [i32; 256],
     marks: &'a [u8; 256],
     counts: &'a [u32; 8],
@@ -148,12 +148,13 @@ fn output_does<'a>(
 {
     let e = index(code, values, marks, r);
     let v = eval(code, values, marks, place(code, r, 3) as usize);
-    sent(counts, place(code, r, 7), place(code, r, 8), e, v)
+    let d = place(code, r, 1) as usize;
+    sent(counts, place(code, d, 3), place(code, d, 4), e, v)
 }
 
 // The choices from row m on: the first true one in order starts, and none after it is looked at.
 fn choices_do<'a>(
-    code: &'a [i32; 10250],
+    code: &'a [u16; 6150],
     values: &'a [i32; 256],
     marks: &'a [u8; 256],
     m: usize,
@@ -170,7 +171,7 @@ fn choices_do<'a>(
         Value::Missing(k) => Does::Stops(k),
         Value::Number(x) => {
             if base_numbers::is_true(x) {
-                return Does::Starts(first(code, m) as usize);
+                return Does::Starts(place(code, m, 1) as usize);
             }
             choices_do(code, values, marks, place(code, m, 2) as usize)
         }
@@ -179,7 +180,7 @@ fn choices_do<'a>(
 
 // What row r would do, as a running row.
 pub fn does_at<'a>(
-    code: &'a [i32; 10250],
+    code: &'a [u16; 6150],
     values: &'a [i32; 256],
     marks: &'a [u8; 256],
     places: &'a [u32; 8],
@@ -203,10 +204,10 @@ pub fn does_at<'a>(
         ),
         23 => input_does(code, values, marks, places, lines, r),
         24 => output_does(code, values, marks, counts, r),
-        32 => choices_do(code, values, marks, first(code, r) as usize),
+        32 => choices_do(code, values, marks, place(code, r, 1) as usize),
         33 => tested(
             place(code, r, 2) as usize,
-            eval(code, values, marks, first(code, r) as usize),
+            eval(code, values, marks, place(code, r, 1) as usize),
         ),
         34 => Does::Selects,
         _ => Does::Waits,
@@ -215,7 +216,7 @@ pub fn does_at<'a>(
 
 // What an option would do whose guard is row g and whose process is row `process`, where the guard has no boolean.
 fn guarded<'a>(
-    code: &'a [i32; 10250],
+    code: &'a [u16; 6150],
     values: &'a [i32; 256],
     marks: &'a [u8; 256],
     places: &'a [u32; 8],
@@ -236,7 +237,7 @@ fn guarded<'a>(
 
 // What the option of row j would do: "boolean first; if false the rest of that option isn't looked at".
 pub fn option_does<'a>(
-    code: &'a [i32; 10250],
+    code: &'a [u16; 6150],
     values: &'a [i32; 256],
     marks: &'a [u8; 256],
     places: &'a [u32; 8],
@@ -248,11 +249,11 @@ pub fn option_does<'a>(
     ensures { λ d. ⌜ ((rows : List ℤ) → Prepared rows (now (code .entry)) → d ≡ optionDoes lines (cellsIn (now (values .entry)) (now (marks .entry))) (now (places .entry)) (optionAt rows j)) ⌝ }
 {
     let g = place(code, j, 3) as usize;
-    let process = first(code, j) as usize;
+    let process = place(code, j, 1) as usize;
     if place(code, g, 0) != 43 {
         return guarded(code, values, marks, places, lines, g, process);
     }
-    let v = eval(code, values, marks, first(code, g) as usize);
+    let v = eval(code, values, marks, place(code, g, 1) as usize);
     match v {
         Value::Missing(k) => Does::Stops(k),
         Value::Number(x) => {

@@ -11,7 +11,7 @@ use lib.Seq.{set-append-left, getD-append-add}
 use lib.Dec.{eqb}
 use borrow.Author.Tests.{eqb-true, eqb-false}
 use Rattle.meaning.specs.Basics.{ifElse}
-use Rattle.machine.proofs.LentLists.{set-append-right}
+use Rattle.machine.proofs.Lists.{set-append-right}
 use Rattle.run_noted.specs.Noted.{listed}
 
 -- places of blocks of size k
@@ -26,8 +26,8 @@ one = record { none = refl; next = λ n. omega arith; below = λ r n i l m. omeg
 pub two : Sized 2
 two = record { none = refl; next = λ n. omega arith; below = λ r n i l m. omega arith }
 
-pub four : Sized 4
-four = record { none = refl; next = λ n. omega arith; below = λ r n i l m. omega arith }
+pub three : Sized 3
+three = record { none = refl; next = λ n. omega arith; below = λ r n i l m. omega arith }
 
 -- a test of two rows
 pub same-row : (r : ℕ) → eqb r r ≡ true

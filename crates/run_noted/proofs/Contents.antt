@@ -14,7 +14,7 @@ use Rattle.run_ready_bits.proofs.Contents.{raise-bits, lower-bits}
 use Rattle.run_notes.specs.declared.Note.{Note}
 use Rattle.run_notes.specs.Notes.{listsOf, note, actsStored, stored, whatOf, whereOf, receiverAt, senderAt, receiving, sending, raising, lowering}
 use Rattle.run_noted.specs.Noted.{listed, actNumbers, listsFor}
-use Rattle.run_noted.proofs.Blocks.{one, two, four, same-row, other-row, listed-same, listed-at, listed-put}
+use Rattle.run_noted.proofs.Blocks.{one, two, three, same-row, other-row, listed-same, listed-at, listed-put}
 
 -- one value changed
 abbrev pub put : {A : Type 0} → (ℕ → A) → ℕ → A → ℕ → A
@@ -44,10 +44,10 @@ lists-same n {f = f} {f' = f'} {g = g} {g' = g'} {h = h} {h' = h'} {b = b} {b' =
     (bits-same b b' n s)
 
 -- one number of a note is stored
-act-put : (c : Note → Note) (i v : ℕ) → i < 4 → ((x : Note) → set (actNumbers x) i v ≡ actNumbers (c x)) → (f : ℕ → Note) (j : ℕ) → j < 1024
-    → set (listed (λ q. actNumbers (f q)) 1024) (4 * j + i) v ≡ listed (λ q. actNumbers (ifElse (eqb j q) (c (f q)) (f q))) 1024
+act-put : (c : Note → Note) (i v : ℕ) → i < 3 → ((x : Note) → set (actNumbers x) i v ≡ actNumbers (c x)) → (f : ℕ → Note) (j : ℕ) → j < 1024
+    → set (listed (λ q. actNumbers (f q)) 1024) (3 * j + i) v ≡ listed (λ q. actNumbers (ifElse (eqb j q) (c (f q)) (f q))) 1024
 act-put c i v m h f j l =
-    listed-put 4 four (λ q. actNumbers (f q)) (λ q. refl) j i m 1024 v l
+    listed-put 3 three (λ q. actNumbers (f q)) (λ q. refl) j i m 1024 v l
     ∙ listed-same (λ q. ifElse (eqb j q) (set (actNumbers (f q)) i v) (actNumbers (f q))) (λ q. actNumbers (ifElse (eqb j q) (c (f q)) (f q))) 1024 (λ q o. go (eqb j q) (f q))
   where
     go : (t : Bool) (x : Note) → ifElse t (set (actNumbers x) i v) (actNumbers x) ≡ actNumbers (ifElse t (c x) x)
@@ -57,27 +57,23 @@ act-put c i v m h f j l =
 acts-put : (f : ℕ → Note) (j : ℕ) → j < 1024 → (k : Note)
     → actsStored (listed (λ q. actNumbers (f q)) 1024) j k ≡ listed (λ q. actNumbers (put f j k q)) 1024
 acts-put f j l k =
-    ap (λ (p : ℕ). set (set (set (set (listed (λ q. actNumbers (f q)) 1024) p (k .what)) (4 * j + 1) (k .at)) (4 * j + 2) (k .cell)) (4 * j + 3) (k .mark)) e
-    ∙ ap (λ (m : List ℕ). set (set (set m (4 * j + 1) (k .at)) (4 * j + 2) (k .cell)) (4 * j + 3) (k .mark)) (act-put c₀ 0 (k .what) (omega arith) (λ x. refl) f j l)
-    ∙ ap (λ (m : List ℕ). set (set m (4 * j + 2) (k .cell)) (4 * j + 3) (k .mark)) (act-put c₁ 1 (k .at) (omega arith) (λ x. refl) f₁ j l)
-    ∙ ap (λ (m : List ℕ). set m (4 * j + 3) (k .mark)) (act-put c₂ 2 (k .cell) (omega arith) (λ x. refl) f₂ j l)
-    ∙ act-put c₃ 3 (k .mark) (omega arith) (λ x. refl) f₃ j l
-    ∙ listed-same (λ q. actNumbers (ifElse (eqb j q) (c₃ (f₃ q)) (f₃ q))) (λ q. actNumbers (put f j k q)) 1024 (λ q o. go (eqb j q) (f q))
+    ap (λ (p : ℕ). set (set (set (listed (λ q. actNumbers (f q)) 1024) p (k .what)) (3 * j + 1) (k .at)) (3 * j + 2) (k .third)) e
+    ∙ ap (λ (m : List ℕ). set (set m (3 * j + 1) (k .at)) (3 * j + 2) (k .third)) (act-put c₀ 0 (k .what) (omega arith) (λ x. refl) f j l)
+    ∙ ap (λ (m : List ℕ). set m (3 * j + 2) (k .third)) (act-put c₁ 1 (k .at) (omega arith) (λ x. refl) f₁ j l)
+    ∙ act-put c₂ 2 (k .third) (omega arith) (λ x. refl) f₂ j l
+    ∙ listed-same (λ q. actNumbers (ifElse (eqb j q) (c₂ (f₂ q)) (f₂ q))) (λ q. actNumbers (put f j k q)) 1024 (λ q o. go (eqb j q) (f q))
   where
-    e : 4 * j ≡ 4 * j + 0
+    e : 3 * j ≡ 3 * j + 0
     e = omega arith
 
     c₀ : Note → Note
-    c₀ x = note (k .what) (x .at) (x .cell) (x .mark) (x .number)
+    c₀ x = note (k .what) (x .at) (x .third) (x .number)
 
     c₁ : Note → Note
-    c₁ x = note (x .what) (k .at) (x .cell) (x .mark) (x .number)
+    c₁ x = note (x .what) (k .at) (x .third) (x .number)
 
     c₂ : Note → Note
-    c₂ x = note (x .what) (x .at) (k .cell) (x .mark) (x .number)
-
-    c₃ : Note → Note
-    c₃ x = note (x .what) (x .at) (x .cell) (k .mark) (x .number)
+    c₂ x = note (x .what) (x .at) (k .third) (x .number)
 
     f₁ : ℕ → Note
     f₁ q = ifElse (eqb j q) (c₀ (f q)) (f q)
@@ -85,10 +81,7 @@ acts-put f j l k =
     f₂ : ℕ → Note
     f₂ q = ifElse (eqb j q) (c₁ (f₁ q)) (f₁ q)
 
-    f₃ : ℕ → Note
-    f₃ q = ifElse (eqb j q) (c₂ (f₂ q)) (f₂ q)
-
-    go : (t : Bool) (x : Note) → actNumbers (ifElse t (c₃ (ifElse t (c₂ (ifElse t (c₁ (ifElse t (c₀ x) x)) (ifElse t (c₀ x) x))) (ifElse t (c₁ (ifElse t (c₀ x) x)) (ifElse t (c₀ x) x)))) (ifElse t (c₂ (ifElse t (c₁ (ifElse t (c₀ x) x)) (ifElse t (c₀ x) x))) (ifElse t (c₁ (ifElse t (c₀ x) x)) (ifElse t (c₀ x) x))))
+    go : (t : Bool) (x : Note) → actNumbers (ifElse t (c₂ (ifElse t (c₁ (ifElse t (c₀ x) x)) (ifElse t (c₀ x) x))) (ifElse t (c₁ (ifElse t (c₀ x) x)) (ifElse t (c₀ x) x)))
         ≡ actNumbers (ifElse t k x)
     go true x = refl
     go false x = refl
@@ -99,12 +92,12 @@ module _ (n : ℕ) (f : ℕ → Note) (g h : ℕ → ℕ) (b : ℕ → Bool) whe
     pub what-for : whatOf (listsFor n f g h b) j ≡ f j .what
     unfolding listsFor
     what-for =
-        let e : 4 * j ≡ 4 * j + 0 = omega arith in
-        ap (λ (p : ℕ). getD (listed (λ j. actNumbers (f j)) 1024) p 0) e ∙ listed-at 4 four (λ j. actNumbers (f j)) (λ j. refl) j 0 (omega arith) 1024 0 l
+        let e : 3 * j ≡ 3 * j + 0 = omega arith in
+        ap (λ (p : ℕ). getD (listed (λ j. actNumbers (f j)) 1024) p 0) e ∙ listed-at 3 three (λ j. actNumbers (f j)) (λ j. refl) j 0 (omega arith) 1024 0 l
 
     pub where-for : whereOf (listsFor n f g h b) j ≡ f j .at
     unfolding listsFor
-    where-for = listed-at 4 four (λ j. actNumbers (f j)) (λ j. refl) j 1 (omega arith) 1024 0 l
+    where-for = listed-at 3 three (λ j. actNumbers (f j)) (λ j. refl) j 1 (omega arith) 1024 0 l
 
     pub stored-for : (k : Note) → stored j k (listsFor n f g h b) ≡ listsFor n (put f j k) g h b
     unfolding listsFor

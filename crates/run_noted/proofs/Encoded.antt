@@ -27,7 +27,6 @@ use Rattle.run_intents.specs.declared.Does.the-variants.{Waits, Stops, Assigns,
 use Rattle.run_intents.specs.Does.{whenTrue, received, inputDoes, guardDoes, guardedDoes, optionDoes}
 use Rattle.run_intents.specs.Stands.{OptionNote, optionNotes, stopOf, firstOf, firstStop, offersFor, offersOf, standsFor}
 use Rattle.run_intents.proofs.Ranges.{InRange, NotesInRange}
-use Rattle.run_notes.specs.declared.Note.{Note}
 use Rattle.run_notes.specs.Notes.{note, noteNumbers}
 use Rattle.run_noted.specs.Noted.{lastOf, noteOfIntent, Tells, tells-none, lacks-here, lacks-later, waits-here, offers-here}
 use Rattle.run_noted.proofs.NotedRows.{halts-note}
@@ -47,17 +46,17 @@ module _ (sheet : Sheet) (x : Store) (r : ℕ) (ns : List OptionNote) where
   pub does-note : (d : Does) → InRange d → noteNumbers d .what ≢ 9 → noteNumbers d ≡ noteOfIntent (standsFor sheet x r ns d)
   does-note Waits h z = refl
   does-note (Stops k) h z = sym (halts-note r k)
-  does-note (Assigns a v) h z = ap (λ (c : ℕ). note 2 0 c 1 v) (kept a (omega arith))
+  does-note (Assigns a v) h z = ap (λ (c : ℕ). note 2 0 c v) (kept a (omega arith))
   does-note Ends h z = refl
-  does-note (Starts q) h z = ap (λ (c : ℕ). note 4 c 0 0 (pos 0)) (kept q h)
-  does-note (Reads a p) h z = ap₂ (λ (b c : ℕ). note 5 b c 0 (pos 0)) (kept p (omega (arith, h .1))) (kept a (omega (arith, h .0)))
+  does-note (Starts q) h z = ap (λ (c : ℕ). note 4 c 0 (pos 0)) (kept q h)
+  does-note (Reads a p) h z = ap₂ (λ (b c : ℕ). note 5 b c (pos 0)) (kept p (omega (arith, h .1))) (kept a (omega (arith, h .0)))
   does-note (Writes p v m) h z =
-      ap₂ (λ (b c : ℕ). note 6 b 0 c v) (kept p (omega (arith, h .0))) (h .1)
-      ∙ sym (ap (λ (c : Message). note 6 p 0 (mark c) (numberIn c)) (last-is (getD (x .outputs) p []) (cellOf v m) ∙ ap (cellOf v) (h .1)))
-  does-note (InputsFrom e a) h z = ap₂ (λ (b c : ℕ). note 7 b c 0 (pos 0)) (kept e (omega (arith, h .0))) (kept a (omega (arith, h .1)))
+      ap₂ (λ (b c : ℕ). note 6 b c v) (kept p (omega (arith, h .0))) (h .1)
+      ∙ sym (ap (λ (c : Message). note 6 p (mark c) (numberIn c)) (last-is (getD (x .outputs) p []) (cellOf v m) ∙ ap (cellOf v) (h .1)))
+  does-note (InputsFrom e a) h z = ap₂ (λ (b c : ℕ). note 7 b c (pos 0)) (kept e (omega (arith, h .0))) (kept a (omega (arith, h .1)))
   does-note (OutputsTo e v m) h z =
-      ap₂ (λ (b c : ℕ). note 8 b 0 c v) (kept e (omega (arith, h .0))) (h .1)
-      ∙ sym (ap (λ (c : Message). note 8 e 0 (mark c) (numberIn c)) (ap (cellOf v) (h .1)))
+      ap₂ (λ (b c : ℕ). note 8 b c v) (kept e (omega (arith, h .0))) (h .1)
+      ∙ sym (ap (λ (c : Message). note 8 e (mark c) (numberIn c)) (ap (cellOf v) (h .1)))
   does-note Selects h z = absurd (z refl)
 
 -- ---- options
@@ -104,22 +103,19 @@ module _ (lines : ℕ) (cells : List Message) (places : List ℕ) where
     resultOf none os = offers os
     resultOf (some k) os = fails k
 
-    abbrev G : AltOption → Note
-    G b = noteNumbers (optionDoes lines cells places b)
-
     one-more : (b : AltOption) (bs : List AltOption) (o : Option ℕ) (os : List Offer) (d : Does) → optionDoes lines cells places b ≡ d → OptionDo (b .process) d → InRange d → b .process < 1024
         → Tells (λ b. noteNumbers (optionDoes lines cells places b)) bs (resultOf o os)
         → Tells (λ b. noteNumbers (optionDoes lines cells places b)) (b ∷ bs) (resultOf (firstOf (stopOf d) o) (offersFor sheet x (b .row) (b .process) d ++ os))
     one-more b bs o os d e (do-stop k) h q t = lacks-here (ap noteNumbers e)
     one-more b bs none os d e do-wait h q t = waits-here (ap noteNumbers e) t
     one-more b bs (some k) os d e do-wait h q t = lacks-later (λ z. let y : _≡_ {A = ℕ} 0 1 = sym (ap (λ (d : Does). noteNumbers d .what) e) ∙ z in omega arith) t
-    one-more b bs none os d e do-start h q t = offers-here (ap noteNumbers e ∙ ap (λ (c : ℕ). note 4 c 0 0 (pos 0)) (kept (b .process) q)) refl t
+    one-more b bs none os d e do-start h q t = offers-here (ap noteNumbers e ∙ ap (λ (c : ℕ). note 4 c 0 (pos 0)) (kept (b .process) q)) refl t
     one-more b bs (some k) os d e do-start h q t = lacks-later (λ z. let y : _≡_ {A = ℕ} 4 1 = sym (ap (λ (d : Does). noteNumbers d .what) e) ∙ z in omega arith) t
     one-more b bs none os d e (do-read a p) h q t =
-        offers-here (ap noteNumbers e ∙ ap₂ (λ (c j : ℕ). note 5 c j 0 (pos 0)) (kept p (omega (arith, h .1))) (kept a (omega (arith, h .0)))) refl t
+        offers-here (ap noteNumbers e ∙ ap₂ (λ (c j : ℕ). note 5 c j (pos 0)) (kept p (omega (arith, h .1))) (kept a (omega (arith, h .0)))) refl t
     one-more b bs (some k) os d e (do-read a p) h q t = lacks-later (λ z. let y : _≡_ {A = ℕ} 5 1 = sym (ap (λ (d : Does). noteNumbers d .what) e) ∙ z in omega arith) t
     one-more b bs none os d e (do-input c a) h q t =
-        offers-here (ap noteNumbers e ∙ ap₂ (λ (c j : ℕ). note 7 c j 0 (pos 0)) (kept c (omega (arith, h .0))) (kept a (omega (arith, h .1)))) refl t
+        offers-here (ap noteNumbers e ∙ ap₂ (λ (c j : ℕ). note 7 c j (pos 0)) (kept c (omega (arith, h .0))) (kept a (omega (arith, h .1)))) refl t
     one-more b bs (some k) os d e (do-input c a) h q t = lacks-later (λ z. let y : _≡_ {A = ℕ} 7 1 = sym (ap (λ (d : Does). noteNumbers d .what) e) ∙ z in omega arith) t
 
     pub options-told : (bs : List AltOption) → NotesInRange (optionNotes lines cells places bs)

@@ -43,7 +43,7 @@ Apart k = (0 < k .what) × (k .what < 7)
 pub move-apart : (x v : ℕ) (ws : List Write) → Apart (noteOfMove x v ws)
 move-apart x v [] = go (eqb v 1) (eqb v 2)
   where
-    go : (s t : Bool) → Apart (ifElse s (note 4 x 0 0 (pos 0)) (ifElse t (note 3 0 0 0 (pos 0)) (note 1 (v - 10) 0 0 (pos 0))))
+    go : (s t : Bool) → Apart (ifElse s (note 4 x 0 (pos 0)) (ifElse t (note 3 0 0 (pos 0)) (note 1 (v - 10) 0 (pos 0))))
     go true t = (omega arith, omega arith)
     go false true = (omega arith, omega arith)
     go false false = (omega arith, omega arith)

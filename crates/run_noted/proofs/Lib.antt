@@ -10,5 +10,6 @@ pub mod NotedRows
 pub mod Sending
 pub mod Encoded
 pub mod RowNoted
-pub mod Fits
+pub mod IntentsFit
+pub mod NotesFit
 pub mod StepLeft

@@ -33,10 +33,10 @@ use Rattle.run_noted.proofs.Walks.{put-or, none-more, waits-noted, apar
 use Rattle.run_noted.proofs.Anew.{own-off, option-off, option-bare, wokenBy, bitAnew, noteAnew, anew}
 
 -- an ALT that stops
-pub halts-note : (r k : ℕ) → noteOfIntent (halts r k) ≡ note 1 k 0 0 (pos 0)
+pub halts-note : (r k : ℕ) → noteOfIntent (halts r k) ≡ note 1 k 0 (pos 0)
 halts-note r k =
     let e : 10 + k - 10 ≡ k = omega arith in
-    rw (test-no {x = 10 + k} {n = 1} (λ z. omega arith), test-no {x = 10 + k} {n = 2} (λ z. omega arith)) (ap (λ (j : ℕ). note 1 j 0 0 (pos 0)) e)
+    rw (test-no {x = 10 + k} {n = 1} (λ z. omega arith), test-no {x = 10 + k} {n = 2} (λ z. omega arith)) (ap (λ (j : ℕ). note 1 j 0 (pos 0)) e)
 
 module _ (rows : List ℤ) (ok : check rows ≡ none) (w : ℕ → Intent) (r : ℕ) (l : r < rowCount rows) (plain : altOf (program rows) r ≡ none) (bare : w r ≡ waits) where
   abbrev n : ℕ

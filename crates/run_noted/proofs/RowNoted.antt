@@ -40,12 +40,12 @@ module _ (rows : List ℤ) (ok : check rows ≡ none) (w : ℕ → Intent) (r : 
   note-plain (selects os) z F = absurd (z refl)
 
   -- an ALT
-  pub note-alternation : (k : Note) → k .what ≡ 9 → (o : OptionsResult) → Tells G (optionsAt rows r) o → NotesFit rows (noted r (selecting r o) w) → noteRow rows G r k (notedBy rows w) ≡ notedBy rows (noted r (selecting r o) w)
+  note-alternation : (k : Note) → k .what ≡ 9 → (o : OptionsResult) → Tells G (optionsAt rows r) o → NotesFit rows (noted r (selecting r o) w) → noteRow rows G r k (notedBy rows w) ≡ notedBy rows (noted r (selecting r o) w)
   unfolding noteRow
   note-alternation k z (fails j) t F = rw (test-yes z) (stops-row rows ok w r l plain bare G j t F)
   note-alternation k z (offers os) t F = rw (test-yes z) (selects-row rows ok w r l plain bare G os t F)
 
-pub alt-selects : (sheet : Sheet) (x : Store) (r : ℕ) (ns : List OptionNote) → altIntent sheet x r ns ≡ unlessStops r (firstStop ns) (flatten (map (offersOf sheet x) ns))
+alt-selects : (sheet : Sheet) (x : Store) (r : ℕ) (ns : List OptionNote) → altIntent sheet x r ns ≡ unlessStops r (firstStop ns) (flatten (map (offersOf sheet x) ns))
 unfolding altIntent
 alt-selects sheet x r ns = refl
 

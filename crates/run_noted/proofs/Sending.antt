@@ -22,7 +22,7 @@ use Rattle.agreement.proofs.TableFit.{rows-limit}
 use Rattle.machine.specs.RowSteps.{isOutputTo, altOf}
 use Rattle.run_parents.specs.Marks.{rowNote}
 use Rattle.run_kept.specs.Kept.{isInputFrom, offerOf, wantedElement, offerWants}
-use Rattle.run_kept.specs.Noting.{outputNoted, inputNoted, noteOf, bitIn, noted, outputsToElement}
+use Rattle.run_kept.specs.Noting.{inputNoted, noteOf, bitIn, noted, outputsToElement}
 use Rattle.run_kept.proofs.Noting.{noted-itself, noted-other, woken-own, woken-option}
 use Rattle.run_notes.specs.declared.Note.{Note}
 use Rattle.run_notes.specs.Notes.{Lists, whatOf, receiverAt, raising, optionsAt, wakeOptions, wake, waitOutput, noteAs}
@@ -54,9 +54,6 @@ module _ (rows : List ℤ) (ok : check rows ≡ none) (w : ℕ → Intent) (r : 
 
   abbrev alt : ℕ → Option ℕ
   alt = altOf (program rows)
-
-  abbrev S : ℕ → Option ℕ
-  S = outputNoted (rowCount rows) (altOf (program rows)) w
 
   abbrev js : List ℕ
   js = rowsOfOptions (optionsAt rows r)

@@ -8,7 +8,7 @@ use lib.IntN.{ℤ, pos}
 use lib.ListN.{replicate, replicate-append-replicate}
 use Rattle.meaning.specs.Rows.{rowCount}
 use Rattle.meaning.specs.State.{program}
-use Rattle.meaning.specs.Intent.{Intent, waits}
+use Rattle.meaning.specs.Intent.{waits}
 use Rattle.machine.specs.RowSteps.{isOutputTo, altOf}
 use Rattle.run_parents.specs.Marks.{rowNote}
 use Rattle.run_kept.specs.Kept.{isInputFrom, offerOf, offerReady}
@@ -17,7 +17,7 @@ use Rattle.run_kept.proofs.TakenOff.{found-nothing}
 use Rattle.run_ready_bits.specs.Bits.{noRows, bitsOf}
 use Rattle.run_notes.specs.Notes.{listsOf}
 use Rattle.run_noted.specs.Noted.{noNote, listed, actNumbers, listsFor, numbersOf, noteIn, notedBy}
-use Rattle.run_noted.proofs.Blocks.{Sized, one, two, four}
+use Rattle.run_noted.proofs.Blocks.{Sized, one, two, three}
 use Rattle.run_noted.proofs.Contents.{lists-same}
 
 module _ {A : Type 0} where
@@ -31,18 +31,15 @@ unfolding bitsOf
 no-bits zero = refl
 no-bits (suc n) = no-bits n
 
-zeros : (n : ℕ) → listsOf (replicate 4096 0) (replicate 1024 (pos 0)) (replicate 512 0) noRows ≡ listsFor n (λ j. noNote) (λ e. 0) (λ e. 0) (λ j. false)
+zeros : (n : ℕ) → listsOf (replicate 3072 0) (replicate 1024 (pos 0)) (replicate 512 0) noRows ≡ listsFor n (λ j. noNote) (λ e. 0) (λ e. 0) (λ j. false)
 unfolding listsFor
 zeros n =
-    ap₂ (λ (a : List ℕ) (s : List ℤ). listsOf a s (replicate 512 0) noRows) (sym (all-same 4 four 0 1024)) (sym (all-same 1 one (pos 0) 1024))
+    ap₂ (λ (a : List ℕ) (s : List ℤ). listsOf a s (replicate 512 0) noRows) (sym (all-same 3 three 0 1024)) (sym (all-same 1 one (pos 0) 1024))
     ∙ ap₂ (λ (e b : List ℕ). listsOf (listed (λ j. actNumbers noNote) 1024) (listed (λ j. pos 0 ∷ []) 1024) e b) (sym (all-same 2 two 0 256)) (sym (no-bits n))
 
 module _ (rows : List ℤ) where
   abbrev n : ℕ
   n = rowCount rows
-
-  abbrev w : ℕ → Intent
-  w r = waits
 
   no-note : (j : ℕ) → noNote ≡ noteIn rows (λ r. waits) j
   unfolding noteIn
@@ -69,6 +66,6 @@ module _ (rows : List ℤ) where
       go (some r) = refl
 
   -- the lists at the start
-  pub start-noted : listsOf (replicate 4096 0) (replicate 1024 (pos 0)) (replicate 512 0) noRows ≡ notedBy rows (λ r. waits)
+  pub start-noted : listsOf (replicate 3072 0) (replicate 1024 (pos 0)) (replicate 512 0) noRows ≡ notedBy rows (λ r. waits)
   unfolding notedBy
   start-noted = zeros n ∙ lists-same n no-note no-receiver no-sender (λ j l. no-bit j)

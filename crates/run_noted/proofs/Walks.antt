@@ -94,9 +94,9 @@ module _ (n : ℕ) (few : n ≤ 1024) where
 
   module _ (rows : List ℤ) (r j : ℕ) (l : j < n) (f : ℕ → Note) (g h : ℕ → ℕ) (b : ℕ → Bool) where
     pub input-noted : (e a : ℕ) → e < 256
-        → noteAs rows r j (note 7 e a 0 (pos 0)) (listsFor n f g h b) ≡ listsFor n (put f j (note 7 e a 0 (pos 0))) (put g e (r + 1)) h (λ q. ifElse (eqb (h e) 0) (b q) (put b j true q))
+        → noteAs rows r j (note 7 e a (pos 0)) (listsFor n f g h b) ≡ listsFor n (put f j (note 7 e a (pos 0))) (put g e (r + 1)) h (λ q. ifElse (eqb (h e) 0) (b q) (put b j true q))
     unfolding noteAs
-    input-noted e a x = ap (waitInput r j e) (stored-for n f g h b j (omega arith) (note 7 e a 0 (pos 0))) ∙ wait-for r j e l x (put f j (note 7 e a 0 (pos 0))) g h b
+    input-noted e a x = ap (waitInput r j e) (stored-for n f g h b j (omega arith) (note 7 e a (pos 0))) ∙ wait-for r j e l x (put f j (note 7 e a (pos 0))) g h b
 
     -- whether there is a sender, by what is noted
     pub bit-met : (S : ℕ → Option ℕ) → ((e : ℕ) → h e ≡ rowNote (S e)) → (e q : ℕ) → ifElse (eqb (h e) 0) (b q) (put b j true q) ≡ (b q || (eqb j q && isSome (S e)))
@@ -123,7 +123,7 @@ module _ (n : ℕ) (few : n ≤ 1024) where
 
   module _ (rows : List ℤ) (F : AltOption → Note) (r : ℕ) where
     -- one lacks a value: none is noted
-    pub options-lack : (bs : List AltOption) (k : ℕ) → Tells F bs (fails k) → (m : Lists) → noteOptions rows F r bs m ≡ notedOf (note 1 k 0 0 (pos 0)) m
+    pub options-lack : (bs : List AltOption) (k : ℕ) → Tells F bs (fails k) → (m : Lists) → noteOptions rows F r bs m ≡ notedOf (note 1 k 0 (pos 0)) m
     unfolding noteOptions
     options-lack (o ∷ bs) k (lacks-here e) m = rw e
     options-lack (o ∷ bs) k (lacks-later z t) m = rw (test-no z, options-lack bs k t m)

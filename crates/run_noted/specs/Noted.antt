@@ -1,6 +1,6 @@
 -- The four lists of the machine as functions of the notes: what each row would do, and so who waits at each element and which rows have a ready step.
 use mathlib.Core.Path.{_≡_}
-use mathlib.Core.Logic.{_≢_}
+use mathlib.Core.Logic.{_≢_, _⊎_}
 use mathlib.Core.Bool.{Bool}
 use mathlib.Core.Option.{Option, none, some}
 use mathlib.Core.List.{List, [], _∷_, _++_}
@@ -26,7 +26,7 @@ use Rattle.run_notes.specs.Notes.{Lists, listsOf, note, optionsAt, leaveRow}
 
 -- the note of nothing
 abbrev pub noNote : Note
-noNote = note 0 0 0 0 (pos 0)
+noNote = note 0 0 0 (pos 0)
 
 -- the last of some messages
 abbrev pub lastOf : List Message → Message
@@ -36,37 +36,37 @@ lastOf (m ∷ k ∷ l) = lastOf (k ∷ l)
 
 -- a step by itself, by which row x becomes v: it starts a row, ends or stops; it assigns; it reads; it writes
 abbrev pub noteOfMove : ℕ → ℕ → List Write → Note
-noteOfMove x v [] = ifElse (eqb v 1) (note 4 x 0 0 (pos 0)) (ifElse (eqb v 2) (note 3 0 0 0 (pos 0)) (note 1 (v - 10) 0 0 (pos 0)))
-noteOfMove x v (writeCell a m ∷ []) = note 2 0 a (mark m) (numberIn m)
-noteOfMove x v (writeCell a m ∷ writeCell b k ∷ ws) = note 3 0 0 0 (pos 0)
-noteOfMove x v (writeCell a m ∷ writePlace p n ∷ ws) = note 5 p a 0 (pos 0)
-noteOfMove x v (writeCell a m ∷ writeOutput p l ∷ ws) = note 3 0 0 0 (pos 0)
-noteOfMove x v (writePlace p n ∷ ws) = note 3 0 0 0 (pos 0)
-noteOfMove x v (writeOutput p l ∷ ws) = note 6 p 0 (mark (lastOf l)) (numberIn (lastOf l))
+noteOfMove x v [] = ifElse (eqb v 1) (note 4 x 0 (pos 0)) (ifElse (eqb v 2) (note 3 0 0 (pos 0)) (note 1 (v - 10) 0 (pos 0)))
+noteOfMove x v (writeCell a m ∷ []) = note 2 0 a (numberIn m)
+noteOfMove x v (writeCell a m ∷ writeCell b k ∷ ws) = note 3 0 0 (pos 0)
+noteOfMove x v (writeCell a m ∷ writePlace p n ∷ ws) = note 5 p a (pos 0)
+noteOfMove x v (writeCell a m ∷ writeOutput p l ∷ ws) = note 3 0 0 (pos 0)
+noteOfMove x v (writePlace p n ∷ ws) = note 3 0 0 (pos 0)
+noteOfMove x v (writeOutput p l ∷ ws) = note 6 p (mark (lastOf l)) (numberIn (lastOf l))
 
 -- what a row would do
 abbrev pub noteOfIntent : Intent → Note
 noteOfIntent waits = noNote
 noteOfIntent (moves x v ws) = noteOfMove x v ws
-noteOfIntent (inputsFrom e a) = note 7 e a 0 (pos 0)
-noteOfIntent (outputsTo e m) = note 8 e 0 (mark m) (numberIn m)
-noteOfIntent (selects os) = note 9 0 0 0 (pos 0)
+noteOfIntent (inputsFrom e a) = note 7 e a (pos 0)
+noteOfIntent (outputsTo e m) = note 8 e (mark m) (numberIn m)
+noteOfIntent (selects os) = note 9 0 0 (pos 0)
 
 -- what an option that needs no partner offers: its process starts, after a reading or none
 abbrev pub noteOfOpen : ℕ → List Write → Note
-noteOfOpen q [] = note 4 q 0 0 (pos 0)
-noteOfOpen q (writeCell a m ∷ []) = note 4 q 0 0 (pos 0)
-noteOfOpen q (writeCell a m ∷ writeCell b k ∷ ws) = note 4 q 0 0 (pos 0)
-noteOfOpen q (writeCell a m ∷ writePlace p n ∷ ws) = note 5 p a 0 (pos 0)
-noteOfOpen q (writeCell a m ∷ writeOutput p l ∷ ws) = note 4 q 0 0 (pos 0)
-noteOfOpen q (writePlace p n ∷ ws) = note 4 q 0 0 (pos 0)
-noteOfOpen q (writeOutput p l ∷ ws) = note 4 q 0 0 (pos 0)
+noteOfOpen q [] = note 4 q 0 (pos 0)
+noteOfOpen q (writeCell a m ∷ []) = note 4 q 0 (pos 0)
+noteOfOpen q (writeCell a m ∷ writeCell b k ∷ ws) = note 4 q 0 (pos 0)
+noteOfOpen q (writeCell a m ∷ writePlace p n ∷ ws) = note 5 p a (pos 0)
+noteOfOpen q (writeCell a m ∷ writeOutput p l ∷ ws) = note 4 q 0 (pos 0)
+noteOfOpen q (writePlace p n ∷ ws) = note 4 q 0 (pos 0)
+noteOfOpen q (writeOutput p l ∷ ws) = note 4 q 0 (pos 0)
 
 -- what an option offers
 abbrev pub noteOfOffer : Option Offer → Note
 noteOfOffer none = noNote
 noteOfOffer (some (openOffer j q ws)) = noteOfOpen q ws
-noteOfOffer (some (inputOffer j q e a)) = note 7 e a 0 (pos 0)
+noteOfOffer (some (inputOffer j q e a)) = note 7 e a (pos 0)
 
 module _ {A : Type 0} where
   -- what n things list, one after another
@@ -76,7 +76,7 @@ module _ {A : Type 0} where
 
 -- the four lists of notes, of receivers and senders at elements, and of bits of n rows
 abbrev pub actNumbers : Note → List ℕ
-actNumbers k = k .what ∷ k .at ∷ k .cell ∷ k .mark ∷ []
+actNumbers k = k .what ∷ k .at ∷ k .third ∷ []
 
 unfoldable pub listsFor : ℕ → (ℕ → Note) → (ℕ → ℕ) → (ℕ → ℕ) → (ℕ → Bool) → Lists
 listsFor n f g h b = listsOf (listed (λ j. actNumbers (f j)) 1024) (listed (λ j. f j .number ∷ []) 1024) (listed (λ e. g e ∷ h e ∷ []) 256) (bitsOf b n)
@@ -117,10 +117,14 @@ pub record NotesFit (rows : List ℤ) (w : ℕ → Intent) : Type 0 where
   pub one-receiver : (e a b : ℕ) → T (isInputFrom e (w a)) → T (isInputFrom e (w b)) → a ≡ b
   pub one-sender : (e a b : ℕ) → T (isOutputTo e (w a)) → T (isOutputTo e (w b)) → a ≡ b
 
+-- notes of some rows: each note is that of v, or bare
+abbrev pub Under : (ℕ → Intent) → (ℕ → Intent) → Type 0
+Under w v = (r : ℕ) → (w r ≡ v r) ⊎ (w r ≡ waits)
+
 -- what the options of an ALT would do, told by f, comes to what they result in: the first that lacks a value, or what they offer
 pub data Tells (f : AltOption → Note) : List AltOption → OptionsResult → Type 0 where
   tells-none : Tells f [] (offers [])
-  lacks-here : {b : AltOption} {bs : List AltOption} {k : ℕ} → f b ≡ note 1 k 0 0 (pos 0) → Tells f (b ∷ bs) (fails k)
+  lacks-here : {b : AltOption} {bs : List AltOption} {k : ℕ} → f b ≡ note 1 k 0 (pos 0) → Tells f (b ∷ bs) (fails k)
   lacks-later : {b : AltOption} {bs : List AltOption} {k : ℕ} → f b .what ≢ 1 → Tells f bs (fails k) → Tells f (b ∷ bs) (fails k)
   waits-here : {b : AltOption} {bs : List AltOption} {os : List Offer} → f b ≡ noNote → Tells f bs (offers os) → Tells f (b ∷ bs) (offers os)
   offers-here : {b : AltOption} {bs : List AltOption} {o : Offer} {os : List Offer} → f b ≡ noteOfOffer (some o) → optionRow o ≡ b .row → Tells f bs (offers os) → Tells f (b ∷ bs) (offers (o ∷ os))

@@ -29,20 +29,20 @@ test-no {x = x} {n = n} f = go (eqb x n) refl
     go false q = refl
 
 -- a note by its numbers
-pub same-note : {n : Note} {w k p q c d : ℕ} {x y : ℤ} → n ≡ note w p c k x → p ≡ q → c ≡ d → x ≡ y → n ≡ note w q d k y
-same-note {w = w} {k = k} {q = q} {c = c} {x = x} h e f g = h ∙ ap (λ (p : ℕ). note w p c k x) e ∙ ap₂ (λ (c : ℕ) (x : ℤ). note w q c k x) f g
+pub same-note : {n : Note} {w p q c d : ℕ} {x y : ℤ} → n ≡ note w p c x → p ≡ q → c ≡ d → x ≡ y → n ≡ note w q d y
+same-note {w = w} {q = q} {c = c} {x = x} h e f g = h ∙ ap (λ (p : ℕ). note w p c x) e ∙ ap₂ (λ (c : ℕ) (x : ℤ). note w q c x) f g
 
 -- a note is taken off
 module _ (a : List ℕ) (s : List ℤ) (l b : List ℕ) (j : ℕ) where
-  pub left-receiver : {e : ℕ} → e ≡ getD a (4 * j + 1) 0 → getD a (4 * j) 0 ≡ 7 → listsOf a s (set l (2 * (e % 256)) 0) b ≡ leaveElement j (listsOf a s l b)
+  pub left-receiver : {e : ℕ} → e ≡ getD a (3 * j + 1) 0 → getD a (3 * j) 0 ≡ 7 → listsOf a s (set l (2 * (e % 256)) 0) b ≡ leaveElement j (listsOf a s l b)
   unfolding leaveElement
   left-receiver g h = rw (h, ← g)
 
-  pub left-sender : {e : ℕ} → e ≡ getD a (4 * j + 1) 0 → getD a (4 * j) 0 ≡ 8 → listsOf a s (set l (2 * (e % 256) + 1) 0) b ≡ leaveElement j (listsOf a s l b)
+  pub left-sender : {e : ℕ} → e ≡ getD a (3 * j + 1) 0 → getD a (3 * j) 0 ≡ 8 → listsOf a s (set l (2 * (e % 256) + 1) 0) b ≡ leaveElement j (listsOf a s l b)
   unfolding leaveElement
   left-sender g h = rw (h, ← g)
 
-  pub left-nowhere : (getD a (4 * j) 0 ≡ 7 → ⊥) → (getD a (4 * j) 0 ≡ 8 → ⊥) → listsOf a s l b ≡ leaveElement j (listsOf a s l b)
+  pub left-nowhere : (getD a (3 * j) 0 ≡ 7 → ⊥) → (getD a (3 * j) 0 ≡ 8 → ⊥) → listsOf a s l b ≡ leaveElement j (listsOf a s l b)
   unfolding leaveElement
   left-nowhere f g = rw (test-no f, test-no g)
 

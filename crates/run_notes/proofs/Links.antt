@@ -1,34 +1,29 @@
 -- The options of an ALT along their links, by what is prepared of each row.
-use mathlib.Core.Path.{_≡_, refl, sym, ap, ap₂, subst, _∙_}
+use mathlib.Core.Path.{_≡_, refl, sym, ap, _∙_}
 use mathlib.Core.List.{List, [], _∷_}
 use Prim.Native.Nat.{ℕ, _<_, _≤_}
 use native.Mathlib.Omega.{arith}
 use native.Mathlib.Decide.{decLt}
 use lib.IntN.{ℤ}
-use lib.Signed.{nonNeg}
-use lib.Dec.{T}
-use Rattle.meaning.specs.Rows.{rowCount, naturalAt, kindAt}
-use Rattle.meaning.specs.Tree.{AltOption, Action, stop, skip, sequence, parallel, assign, input, output, conditional, loop, alternation, Content, contentAt, orStop, actionOf}
+use Rattle.meaning.specs.Rows.{rowCount}
+use Rattle.meaning.specs.Tree.{Action, stop, skip, sequence, parallel, assign, input, output, conditional, loop, alternation, Content, contentAt, orStop, actionOf}
 use Rattle.meaning.specs.State.{program, processAt}
 use Rattle.agreement.specs.RowsOfSteps.{optionRows}
 use Rattle.agreement.proofs.TableTree.{part-past, process-is}
-use Rattle.base_layout.specs.Operands.{operandAt}
-use Rattle.base_layout.proofs.Parts.{operand-part}
 use Rattle.run_parents.proofs.OptionLinks.{no-options}
 use Rattle.run_code.specs.declared.Row.{Row}
-use Rattle.run_code.specs.Prepared.{Prepared, placeAt, entryAt, referredRow, rowOfKind}
+use Rattle.run_code.specs.Prepared.{Prepared, placeAt}
 use Rattle.run_code.proofs.Entries.{what-at}
 use Rattle.run_code.proofs.RowKinds.{row-of-kind, kind-in}
-use Rattle.run_code.proofs.Referred.{referred-part, referred-higher}
-use Rattle.run_code.proofs.Codes.{few, here, second-is, content-is, alt-row}
+use Rattle.run_code.proofs.Referred.{referred-higher}
+use Rattle.run_code.proofs.Codes.{few, here, second-is, alt-row}
 use Rattle.run_code.proofs.NoLinks.{options-none}
-use Rattle.run_code.proofs.Inside as inside
 use Rattle.run_intents.specs.Rows.{optionAt}
 use Rattle.run_intents.proofs.Guards.{option-first}
 use Rattle.run_intents.specs.Stands.{optionsOf}
 use Rattle.run_notes.specs.Notes.{optionsAt}
 
-module _ {rows code : List ℤ} (p : Prepared rows code) where
+module _ {rows : List ℤ} {code : List ℕ} (p : Prepared rows code) where
   module _ (m : ℕ) (l : m ≤ 1024) {w : ℕ} (e : w ≡ placeAt code m 0) where
     module _ (h : w ≡ 42) where
       -- an option is a row of the table; the next link is a higher row, up to 1,024
@@ -48,12 +43,6 @@ module _ {rows code : List ℤ} (p : Prepared rows code) where
 
     -- an ALT has the options from its first on
     module _ (h : w ≡ 34) where
-      pub first-natural : T (nonNeg (entryAt code m 1))
-      first-natural = inside.first-natural p m l 34 (sym e ∙ h) refl
-
-      pub first-inside : {n : ℕ} → n ≡ placeAt code m 1 → n ≤ 1024
-      first-inside f = rw f (inside.first-inside p m l 34 (sym e ∙ h) (omega arith) (omega arith))
-
       pub first-options : {n : ℕ} → n ≡ placeAt code m 1 → contentAt rows n .options ≡ optionsAt rows m
       unfolding optionsAt
       first-options f = rw (f, process-is rows m) (sym (ap (λ (c : Content). optionsOf (actionOf (orStop (c .process)))) (alt-row p m l (sym e ∙ h))))

@@ -1,4 +1,4 @@
--- What the machine notes of rows at work, in four lists of numbers: of each row what it would do (what, where, which cell, which mark: four numbers) and the number that it hands over; of each channel element
+-- What the machine notes of rows at work, in four lists of numbers: of each row what it would do (what, where, and which cell, or of an output its message's mark: three numbers) and the number that it hands over; of each channel element
 -- who waits there to input and who waits to output (a row and 1, or 0); and the rows that have a ready step, as bits. What is done to the lists is said of all contents.
 -- What a note is: 0 waits; 1 stops for a reason; 2 assigns; 3 ends; 4 starts a row; 5 reads from the host; 6 writes to the host; 7 inputs from an element; 8 outputs to an element; 9 looks at its options.
 use mathlib.Core.List.{List, [], _∷_}
@@ -26,37 +26,37 @@ abbrev pub listsOf : List ℕ → List ℤ → List ℕ → List ℕ → Lists
 listsOf a s e b = record { acts = a; sent = s; elements = e; bits = b }
 
 -- what a row would do, as numbers; numbers too large for a note are cut
-abbrev pub note : ℕ → ℕ → ℕ → ℕ → ℤ → Note
-note w p c k x = record { what = w; at = p; cell = c; mark = k; number = x }
+abbrev pub note : ℕ → ℕ → ℕ → ℤ → Note
+note w p c x = record { what = w; at = p; third = c; number = x }
 
 abbrev pub short : ℕ → ℕ
 short n = n % 65536
 
 abbrev pub noteNumbers : Does → Note
-noteNumbers Waits = note 0 0 0 0 (pos 0)
-noteNumbers (Stops k) = note 1 k 0 0 (pos 0)
-noteNumbers (Assigns a x) = note 2 0 (short a) 1 x
-noteNumbers Ends = note 3 0 0 0 (pos 0)
-noteNumbers (Starts q) = note 4 (short q) 0 0 (pos 0)
-noteNumbers (Reads a p) = note 5 (short p) (short a) 0 (pos 0)
-noteNumbers (Writes p x k) = note 6 (short p) 0 k x
-noteNumbers (InputsFrom e a) = note 7 (short e) (short a) 0 (pos 0)
-noteNumbers (OutputsTo e x k) = note 8 (short e) 0 k x
-noteNumbers Selects = note 9 0 0 0 (pos 0)
+noteNumbers Waits = note 0 0 0 (pos 0)
+noteNumbers (Stops k) = note 1 k 0 (pos 0)
+noteNumbers (Assigns a x) = note 2 0 (short a) x
+noteNumbers Ends = note 3 0 0 (pos 0)
+noteNumbers (Starts q) = note 4 (short q) 0 (pos 0)
+noteNumbers (Reads a p) = note 5 (short p) (short a) (pos 0)
+noteNumbers (Writes p x k) = note 6 (short p) k x
+noteNumbers (InputsFrom e a) = note 7 (short e) (short a) (pos 0)
+noteNumbers (OutputsTo e x k) = note 8 (short e) k x
+noteNumbers Selects = note 9 0 0 (pos 0)
 
 -- the note of row r becomes n
 abbrev pub actsStored : List ℕ → ℕ → Note → List ℕ
-actsStored l r n = set (set (set (set l (4 * r) (n .what)) (4 * r + 1) (n .at)) (4 * r + 2) (n .cell)) (4 * r + 3) (n .mark)
+actsStored l r n = set (set (set l (3 * r) (n .what)) (3 * r + 1) (n .at)) (3 * r + 2) (n .third)
 
 abbrev pub stored : ℕ → Note → Lists → Lists
 stored r n m = listsOf (actsStored (m .acts) r n) (set (m .sent) r (n .number)) (m .elements) (m .bits)
 
 -- what the note of row r is, and where
 abbrev pub whatOf : Lists → ℕ → ℕ
-whatOf m r = getD (m .acts) (4 * r) 0
+whatOf m r = getD (m .acts) (3 * r) 0
 
 abbrev pub whereOf : Lists → ℕ → ℕ
-whereOf m r = getD (m .acts) (4 * r + 1) 0
+whereOf m r = getD (m .acts) (3 * r + 1) 0
 
 -- who waits at element e to input, and to output
 abbrev pub receiverAt : Lists → ℕ → ℕ

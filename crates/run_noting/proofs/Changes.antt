@@ -29,13 +29,13 @@ module _ (a : List ℕ) (s : List ℤ) (l b : List ℕ) (r j e : ℕ) where
 
 -- an option is woken, or not
 module _ (a : List ℕ) (s : List ℤ) (l b : List ℕ) (j e : ℕ) where
-  pub option-woken : {c : List ℕ} → getD a (4 * j) 0 ≡ 7 → getD a (4 * j + 1) 0 ≡ e → c ≡ raised b j → listsOf a s l c ≡ wakeOption e j (listsOf a s l b)
+  pub option-woken : {c : List ℕ} → getD a (3 * j) 0 ≡ 7 → getD a (3 * j + 1) 0 ≡ e → c ≡ raised b j → listsOf a s l c ≡ wakeOption e j (listsOf a s l b)
   option-woken f g h = rw (test-yes f, test-yes g) (ap (listsOf a s l) h)
 
-  pub option-elsewhere : getD a (4 * j) 0 ≡ 7 → (getD a (4 * j + 1) 0 ≡ e → ⊥) → listsOf a s l b ≡ wakeOption e j (listsOf a s l b)
+  pub option-elsewhere : getD a (3 * j) 0 ≡ 7 → (getD a (3 * j + 1) 0 ≡ e → ⊥) → listsOf a s l b ≡ wakeOption e j (listsOf a s l b)
   option-elsewhere f g = rw (test-yes f, test-no g)
 
-  pub option-no-input : (getD a (4 * j) 0 ≡ 7 → ⊥) → listsOf a s l b ≡ wakeOption e j (listsOf a s l b)
+  pub option-no-input : (getD a (3 * j) 0 ≡ 7 → ⊥) → listsOf a s l b ≡ wakeOption e j (listsOf a s l b)
   option-no-input f = rw (test-no f)
 
 -- options one after another
@@ -51,11 +51,11 @@ next-woken e j m {b = b} {bs = bs} h i f g =
 module _ (rows : List ℤ) where
   -- who waits to input is woken
   module _ (a : List ℕ) (s : List ℤ) (l b : List ℕ) (i e : ℕ) where
-    pub alt-woken : {c : List ℕ} {bs : List AltOption} → getD a (4 * i) 0 ≡ 9 → bs ≡ optionsAt rows i → listsOf a s l c ≡ wakeOptions e bs (listsOf a s l b) → listsOf a s l c ≡ wake rows e i (listsOf a s l b)
+    pub alt-woken : {c : List ℕ} {bs : List AltOption} → getD a (3 * i) 0 ≡ 9 → bs ≡ optionsAt rows i → listsOf a s l c ≡ wakeOptions e bs (listsOf a s l b) → listsOf a s l c ≡ wake rows e i (listsOf a s l b)
     unfolding wake
     alt-woken f g h = rw (test-yes f) (h ∙ ap (λ (bs : List AltOption). wakeOptions e bs (listsOf a s l b)) g)
 
-    pub input-woken : {c : List ℕ} → (getD a (4 * i) 0 ≡ 9 → ⊥) → c ≡ raised b i → listsOf a s l c ≡ wake rows e i (listsOf a s l b)
+    pub input-woken : {c : List ℕ} → (getD a (3 * i) 0 ≡ 9 → ⊥) → c ≡ raised b i → listsOf a s l c ≡ wake rows e i (listsOf a s l b)
     unfolding wake
     input-woken f h = rw (test-no f) (ap (listsOf a s l) h)
 

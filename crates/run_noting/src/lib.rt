@@ -3,12 +3,11 @@ ghost use mathlib.Core.Path.{_≡_};
 ghost use mathlib.Core.List.{List};
 ghost use Prim.Native.Nat.{ℕ, _<_, _≤_};
 ghost use lib.IntN.{ℤ};
-ghost use Rattle.meaning.specs.Tree.{contentAt, actionOf};
-ghost use Rattle.meaning.specs.State.{program, processAt};
+ghost use Rattle.meaning.specs.Tree.{contentAt};
 ghost use Rattle.run_values.specs.Cells.{cellsIn};
 ghost use Rattle.run_code.specs.Prepared.{Prepared};
-ghost use Rattle.run_intents.specs.Does.{doesOf, optionDoes};
-ghost use Rattle.run_notes.specs.Notes.{listsOf, noteNumbers, waitInput, wakeOption, wakeOptions, wake, waitOutput, noteAs, notedOf, noteOptions, noteAlt, noteRow};
+ghost use Rattle.run_notes.specs.Notes.{listsOf, waitInput, wakeOption, wakeOptions, wake, waitOutput, noteAs, notedOf};
+ghost use Rattle.run_noting.specs.Noting.{optionsNoted, altNoted, rowNoted};
 use run_code::place;
 use run_intents::Does;
 use run_intents::does_at;
@@ -33,19 +32,19 @@ fn wait_input(elements: &mut [u16; 512], bits: &mut [u64; 33], r: usize, j: usiz
 }
 
 // Option j is ready if it inputs from element e.
-fn wake_option(acts: &[u16; 4096], bits: &mut [u64; 33], j: usize, e: u16)
+fn wake_option(acts: &[u16; 3072], bits: &mut [u64; 33], j: usize, e: u16)
     requires { ⌜ j < 1024 ⌝ }
     ensures { λ _. ⌜ ((s : List ℤ) (l : List ℕ) → listsOf (now (acts .entry)) s l (now (bits .exit)) ≡ wakeOption e j (listsOf (now (acts .entry)) s l (now (bits .entry)))) ⌝ }
 {
-    if acts[4 * j] == 7 {
-        if acts[4 * j + 1] == e {
+    if acts[3 * j] == 7 {
+        if acts[3 * j + 1] == e {
             raise(bits, j);
         }
     }
 }
 
 // The same of the options from link m on.
-fn wake_options(code: &[i32; 10250], acts: &[u16; 4096], bits: &mut [u64; 33], m: usize, e: u16)
+fn wake_options(code: &[u16; 6150], acts: &[u16; 3072], bits: &mut [u64; 33], m: usize, e: u16)
     requires table { ⌜ ((rows : List ℤ) × Prepared rows (now code)) ⌝ }
     requires inside { ⌜ m ≤ 1024 ⌝ }
     ensures { λ _. ⌜ ((rows : List ℤ) → Prepared rows (now (code .entry)) → (s : List ℤ) (l : List ℕ) → listsOf (now (acts .entry)) s l (now (bits .exit)) ≡ wakeOptions e (contentAt rows m .options) (listsOf (now (acts .entry)) s l (now (bits .entry)))) ⌝ }
@@ -57,12 +56,12 @@ fn wake_options(code: &[i32; 10250], acts: &[u16; 4096], bits: &mut [u64; 33], m
 }
 
 // Row i, which waits at element e to input, has a step now that someone outputs there.
-fn wake(code: &[i32; 10250], acts: &[u16; 4096], bits: &mut [u64; 33], i: usize, e: u16)
+fn wake(code: &[u16; 6150], acts: &[u16; 3072], bits: &mut [u64; 33], i: usize, e: u16)
     requires table { ⌜ ((rows : List ℤ) × Prepared rows (now code)) ⌝ }
     requires inside { ⌜ i < 1024 ⌝ }
     ensures { λ _. ⌜ ((rows : List ℤ) → Prepared rows (now (code .entry)) → (s : List ℤ) (l : List ℕ) → listsOf (now (acts .entry)) s l (now (bits .exit)) ≡ wake rows e i (listsOf (now (acts .entry)) s l (now (bits .entry)))) ⌝ }
 {
-    if acts[4 * i] == 9 {
+    if acts[3 * i] == 9 {
         wake_options(code, acts, bits, first_option(code, i), e);
     } else {
         raise(bits, i);
@@ -71,8 +70,8 @@ fn wake(code: &[i32; 10250], acts: &[u16; 4096], bits: &mut [u64; 33], i: usize,
 
 // Row r waits to output at element e, and wakes who waits there.
 fn wait_output(
-    code: &[i32; 10250],
-    acts: &[u16; 4096],
+    code: &[u16; 6150],
+    acts: &[u16; 3072],
     elements: &mut [u16; 512],
     bits: &mut [u64; 33],
     r: usize,
@@ -92,11 +91,11 @@ fn wait_output(
 
 // The note of row j, row r itself or its option, is n.
 fn note_as(
-    code: &[i32; 10250],
+    code: &[u16; 6150],
     r: usize,
     j: usize,
     n: Note,
-    acts: &mut [u16; 4096],
+    acts: &mut [u16; 3072],
     sent: &mut [i32; 1024],
     elements: &mut [u16; 512],
     bits: &mut [u64; 33],
@@ -118,21 +117,21 @@ fn note_as(
 
 // The options of ALT r from link m on are noted, and what the ALT would do is handed back; where one lacks a value, none is noted.
 fn note_options<'a>(
-    code: &'a [i32; 10250],
+    code: &'a [u16; 6150],
     values: &'a [i32; 256],
     marks: &'a [u8; 256],
     places: &'a [u32; 8],
     lines: usize,
     r: usize,
     m: usize,
-    acts: &mut [u16; 4096],
+    acts: &mut [u16; 3072],
     sent: &mut [i32; 1024],
     elements: &mut [u16; 512],
     bits: &mut [u64; 33],
 ) -> Note
     requires table { ⌜ ((rows : List ℤ) × Prepared rows (now code)) ⌝ }
     requires inside { ⌜ (r < 1024) × (m ≤ 1024) ⌝ }
-    ensures { λ n. ⌜ ((rows : List ℤ) → Prepared rows (now (code .entry)) → notedOf n (listsOf (now (acts .exit)) (now (sent .exit)) (now (elements .exit)) (now (bits .exit))) ≡ noteOptions rows (λ b. noteNumbers (optionDoes lines (cellsIn (now (values .entry)) (now (marks .entry))) (now (places .entry)) b)) r (contentAt rows m .options) (listsOf (now (acts .entry)) (now (sent .entry)) (now (elements .entry)) (now (bits .entry)))) ⌝ }
+    ensures { λ n. ⌜ ((rows : List ℤ) → Prepared rows (now (code .entry)) → notedOf n (listsOf (now (acts .exit)) (now (sent .exit)) (now (elements .exit)) (now (bits .exit))) ≡ optionsNoted lines (cellsIn (now (values .entry)) (now (marks .entry))) (now (places .entry)) rows r (contentAt rows m .options) (listsOf (now (acts .entry)) (now (sent .entry)) (now (elements .entry)) (now (bits .entry)))) ⌝ }
 {
     if place(code, m, 0) != 42 {
         return note_of(Does::Selects);
@@ -163,20 +162,20 @@ fn note_options<'a>(
 
 // ALT r is noted.
 fn note_alt<'a>(
-    code: &'a [i32; 10250],
+    code: &'a [u16; 6150],
     values: &'a [i32; 256],
     marks: &'a [u8; 256],
     places: &'a [u32; 8],
     lines: usize,
     r: usize,
-    acts: &mut [u16; 4096],
+    acts: &mut [u16; 3072],
     sent: &mut [i32; 1024],
     elements: &mut [u16; 512],
     bits: &mut [u64; 33],
 )
     requires table { ⌜ ((rows : List ℤ) × Prepared rows (now code)) ⌝ }
     requires inside { ⌜ r < 1024 ⌝ }
-    ensures { λ _. ⌜ ((rows : List ℤ) → Prepared rows (now (code .entry)) → listsOf (now (acts .exit)) (now (sent .exit)) (now (elements .exit)) (now (bits .exit)) ≡ noteAlt rows (λ b. noteNumbers (optionDoes lines (cellsIn (now (values .entry)) (now (marks .entry))) (now (places .entry)) b)) r (listsOf (now (acts .entry)) (now (sent .entry)) (now (elements .entry)) (now (bits .entry)))) ⌝ }
+    ensures { λ _. ⌜ ((rows : List ℤ) → Prepared rows (now (code .entry)) → listsOf (now (acts .exit)) (now (sent .exit)) (now (elements .exit)) (now (bits .exit)) ≡ altNoted lines (cellsIn (now (values .entry)) (now (marks .entry))) (now (places .entry)) rows r (listsOf (now (acts .entry)) (now (sent .entry)) (now (elements .entry)) (now (bits .entry)))) ⌝ }
 {
     let m = first_option(code, r);
     let n = note_options(
@@ -200,21 +199,21 @@ fn note_alt<'a>(
 
 // Row r, which came to work, is noted.
 pub fn note_row<'a>(
-    code: &'a [i32; 10250],
+    code: &'a [u16; 6150],
     values: &'a [i32; 256],
     marks: &'a [u8; 256],
     places: &'a [u32; 8],
     counts: &'a [u32; 8],
     lines: usize,
     r: usize,
-    acts: &mut [u16; 4096],
+    acts: &mut [u16; 3072],
     sent: &mut [i32; 1024],
     elements: &mut [u16; 512],
     bits: &mut [u64; 33],
 )
     requires table { ⌜ ((rows : List ℤ) × Prepared rows (now code)) ⌝ }
     requires inside { ⌜ r < 1024 ⌝ }
-    ensures { λ _. ⌜ ((rows : List ℤ) → Prepared rows (now (code .entry)) → listsOf (now (acts .exit)) (now (sent .exit)) (now (elements .exit)) (now (bits .exit)) ≡ noteRow rows (λ b. noteNumbers (optionDoes lines (cellsIn (now (values .entry)) (now (marks .entry))) (now (places .entry)) b)) r (noteNumbers (doesOf lines (cellsIn (now (values .entry)) (now (marks .entry))) (now (places .entry)) (now (counts .entry)) (actionOf (processAt (program rows) r)))) (listsOf (now (acts .entry)) (now (sent .entry)) (now (elements .entry)) (now (bits .entry)))) ⌝ }
+    ensures { λ _. ⌜ ((rows : List ℤ) → Prepared rows (now (code .entry)) → listsOf (now (acts .exit)) (now (sent .exit)) (now (elements .exit)) (now (bits .exit)) ≡ rowNoted lines (cellsIn (now (values .entry)) (now (marks .entry))) (now (places .entry)) (now (counts .entry)) rows r (listsOf (now (acts .entry)) (now (sent .entry)) (now (elements .entry)) (now (bits .entry)))) ⌝ }
 {
     let n = note_of(does_at(code, values, marks, places, counts, lines, r));
     if n.what == 9 {

@@ -79,12 +79,6 @@ module _ (notes : List ℕ) (t note : ℕ) where
       go true = length-set notes t note
       go false = refl
 
--- cleared notes are 0
-pub zeros-at : (n j : ℕ) → getD (replicate {A = ℕ} n 0) j 0 ≡ 0
-zeros-at zero j = refl
-zeros-at (suc n) zero = refl
-zeros-at (suc n) (suc j) = zeros-at n j
-
 -- notes that are cleared to their end
 pub all-cleared : (s t : List ℕ) (i : ℕ) → s ≡ replicate i 0 ++ drop i t → i ≤ length t → length t ≤ i → s ≡ replicate (length t) 0
 all-cleared s t i e h g =

@@ -7,34 +7,21 @@ use lib.IntN.{ℤ}
 use lib.ListN.{length, getD, replicate, length-replicate}
 use Rattle.meaning.specs.Rows.{rowCount}
 use Rattle.meaning.specs.State.{program}
+use Rattle.meaning.proofs.LentLaws.{defaults-at}
 use Rattle.machine.specs.Upward.{parentOf}
-use Rattle.machine.specs.RowSteps.{altOf}
 use Rattle.run_parents.specs.Marks.{rowNote, ownerNotes}
-use Rattle.run_parents.proofs.Noting.{zeros-at}
-use Rattle.run_parents.proofs.ByRow.{length-by-row, at-row, owner-noted}
+use Rattle.run_parents.proofs.ByRow.{at-row, owner-noted}
 use Rattle.run_parents.specs.Parents.{nextLink, ifParent, parentNotes, nextNotes}
 use Rattle.run_code.specs.Prepared.{nextNote}
 use Rattle.run_preparing.specs.Notes.{Noted}
 
 module _ (rows : List ℤ) (few : rowCount rows ≤ 1024) where
-  parent-length : length (parentNotes rows 1024) ≡ 1024
-  unfolding parentNotes
-  parent-length = length-by-row (λ r. rowNote (parentOf (program rows) r)) 1024
-
   parent-in : (r : ℕ) → r < 1024 → getD (parentNotes rows 1024) r 0 ≡ rowNote (parentOf (program rows) r)
   unfolding parentNotes
   parent-in r l = at-row (λ r. rowNote (parentOf (program rows) r)) 1024 r l
 
-  owner-length : length (ownerNotes rows 1024) ≡ 1024
-  unfolding ownerNotes
-  owner-length = length-by-row (λ r. rowNote (altOf (program rows) r)) 1024
-
   -- in place of zeros
   module _ (zeros : List ℕ) (e : length zeros ≡ 1024) (z : (j : ℕ) → getD zeros j 0 ≡ 0) where
-    next-length : length (nextNotes rows zeros) ≡ 1024
-    unfolding nextNotes
-    next-length = length-by-row (λ r. ifParent (parentOf (program rows) r) (nextLink rows r) (getD zeros r 0)) (length zeros) ∙ e
-
     next-in : (r : ℕ) → r < 1024 → getD (nextNotes rows zeros) r 0 ≡ nextNote rows r
     unfolding nextNotes nextNote
     next-in r l =
@@ -44,11 +31,6 @@ module _ (rows : List ℤ) (few : rowCount rows ≤ 1024) where
     pub noted : (parents nexts owners : List ℕ) → parents ≡ parentNotes rows 1024 → nexts ≡ nextNotes rows zeros → owners ≡ ownerNotes rows 1024 → Noted rows parents nexts owners
     noted parents nexts owners p n o =
         record {
-          room = (
-            omega (arith, ap (λ (l : List ℕ). length l) p, parent-length),
-            omega (arith, ap (λ (l : List ℕ). length l) n, next-length),
-            omega (arith, ap (λ (l : List ℕ). length l) o, owner-length),
-          );
           parent = λ r l. ap (λ (m : List ℕ). getD m r 0) p ∙ parent-in r (omega arith);
           next = λ r l. ap (λ (m : List ℕ). getD m r 0) n ∙ next-in r (omega arith);
           owner = λ r l. owner-noted rows 1024 owners o r (omega arith);
@@ -57,4 +39,4 @@ module _ (rows : List ℤ) (few : rowCount rows ≤ 1024) where
 -- the list of 1,024 zeros
 pub noted-rows : (rows : List ℤ) → rowCount rows ≤ 1024 → (parents nexts owners : List ℕ) → parents ≡ parentNotes rows 1024 → nexts ≡ nextNotes rows (replicate 1024 0) → owners ≡ ownerNotes rows 1024
     → Noted rows parents nexts owners
-noted-rows rows few = noted rows few (replicate 1024 0) (length-replicate {A = ℕ} 1024 0) (zeros-at 1024)
+noted-rows rows few = noted rows few (replicate 1024 0) (length-replicate {A = ℕ} 1024 0) (defaults-at 0 1024)

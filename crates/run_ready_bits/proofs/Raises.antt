@@ -4,11 +4,12 @@ use mathlib.Core.Bool.{Bool, true, false, not, _&&_, _||_, false≢true}
 use mathlib.Core.List.{List, [], _∷_, _++_, map, append-nil}
 use Prim.Native.Nat.{ℕ, zero, suc, _+_, _-_, _%_, _^_, _<_, _≤_}
 use native.Mathlib.Omega.{arith}
-use lib.ListN.{length, getD, replicate}
+use lib.ListN.{length, getD}
 use lib.Dec.{eqb}
 use lib.Pow.{pow-pos}
 use borrow.Author.Tests.{eqb-true, eqb-false}
 use Rattle.meaning.specs.Basics.{ifElse, allBelow}
+use Rattle.meaning.proofs.LentLaws.{defaults-at}
 use Rattle.base_sets.proofs.Words.{zero-on}
 use Rattle.run_ready_bits.proofs.Splits.{SameBut}
 use Rattle.run_ready_bits.proofs.Agreeing.{below-none, below-next, below-same}
@@ -75,18 +76,13 @@ module _ (ws : List ℕ) (C : BitsCounted ws) (r : ℕ) (l : r < 1024) where
 
 -- No row ----------------------------------------------------------------------------------------------------------------------------
 
-zero-at : (n j : ℕ) → _≡_ {A = ℕ} (getD (replicate n 0) j 0) 0
-zero-at zero j = refl
-zero-at (suc n) zero = refl
-zero-at (suc n) (suc j) = zero-at n j
-
 none-below : (f : ℕ → Bool) (n : ℕ) → ((j : ℕ) → j < n → f j ≡ false) → allBelow f n ≡ []
 none-below f zero h = below-none f
 none-below f (suc n) h =
     below-next f n ∙ ap₂ (λ (l : List ℕ) (t : Bool). l ++ ifElse t (n ∷ []) []) (none-below f n (λ j m. h j (omega arith))) (h n (omega arith))
 
 none-on : (i k : ℕ) → on (getD noRows i 0) k ≡ false
-none-on i k = ap (λ (w : ℕ). on w k) (zero-at 33 i) ∙ as-on 0 k ∙ zero-on k
+none-on i k = ap (λ (w : ℕ). on w k) (defaults-at 0 33 i) ∙ as-on 0 k ∙ zero-on k
 
 none-has : (r : ℕ) → has noRows r ≡ false
 unfolding has
@@ -95,8 +91,8 @@ none-has r = none-on (wordOf r) (r % 64)
 pub none-counted : BitsCounted noRows
 none-counted = record {
   size = refl;
-  words = λ i h. subst (λ (w : ℕ). w < 2 ^ 64) (sym (zero-at 33 i)) (pow-pos 64);
-  each = λ i h. zero-at 33 (i + 16) ∙ sym (ap length (none-below (on (getD noRows i 0)) 64 (λ j m. none-on i j)));
+  words = λ i h. subst (λ (w : ℕ). w < 2 ^ 64) (sym (defaults-at 0 33 i)) (pow-pos 64);
+  each = λ i h. defaults-at 0 33 (i + 16) ∙ sym (ap length (none-below (on (getD noRows i 0)) 64 (λ j m. none-on i j)));
   all = sym (ap length (none-below (has noRows) 1024 (λ j m. none-has j)));
 }
 

@@ -1,5 +1,5 @@
 -- A process of a prepared table goes on after its member, and so on up, as the code goes.
-use mathlib.Core.Path.{_≡_, refl, sym, ap, subst, _∙_}
+use mathlib.Core.Path.{_≡_, refl, sym, ap, ap₂, subst, _∙_}
 use mathlib.Core.Bool.{false}
 use mathlib.Core.Option.{none, some}
 use mathlib.Core.List.{List, [], List·Memᴰ, List·Memᴰ·not-nil}
@@ -16,16 +16,16 @@ use Rattle.meaning.specs.Settle.{isEnded, mode, endsWhenClosed}
 use Rattle.meaning.specs.State.{program, processAt}
 use Rattle.base_layout.proofs.Parts.{higherContent, part-past, part-of-kind}
 use Rattle.run_parents.proofs.KindCases.{kind-cases}
-use Rattle.machine.specs.Upward.{processRows, processesAfter, resetMembers, parentOf}
+use Rattle.machine.specs.Upward.{processRows, processesAfter, reset, parentOf}
 use Rattle.machine.specs.Counts.{Kept, keptOf, comesTo, stateSet, remain, startMembers, goesOnCounted, goesOnCountedAt, upwardCounted, changeUpCounted, endUpCounted}
 use Rattle.machine.proofs.Parents.{parent-has, parent-below}
 use Rattle.machine.proofs.CountedClimbs.{counted-rests, counted-top, counted-goes, counted-enough}
 use Rattle.run_parents.specs.declared.shape.Mode.the-variants.{InTurn, Together}
-use Rattle.run_parents.specs.Members.{onlyProcess}
 use Rattle.run_code.specs.Prepared.{Prepared, placeAt}
 use Rattle.run_starting.specs.Parts.{startsIf}
 use Rattle.run_starting.proofs.Standing.{EndingIn, RepeatingIn, kind-place}
 use Rattle.run_starting.proofs.Starting.{not-ended, process-there}
+use Rattle.run_starting.proofs.Resetting.{body-resets}
 
 module _ (rows : List ℤ) (q r : ℕ) (k : Kept) where
   of-process : {p : Process} {w : Kept} → contentAt rows q .process ≡ some p → w ≡ goesOnCounted (mode (actionOf p)) (endsWhenClosed (actionOf p)) q r (processesIn p) k → w ≡ goesOnCountedAt (program rows) q r k
@@ -43,11 +43,11 @@ module _ (rows : List ℤ) (q r : ℕ) (k : Kept) where
   together-goes-on h g = of-process (h .process-is) (rw (h .mode-is) g)
 
   -- every row beneath a WHILE becomes idle, and it comes to work again
-  pub repeating-goes-on : {b : ℕ} {t c : List ℕ} → RepeatingIn rows q b → t ≡ resetMembers (onlyProcess (contentAt rows b .process)) (k .states) → c ≡ comesTo q (k .came) → keptOf t (k .left) c ≡ goesOnCountedAt (program rows) q r k
-  repeating-goes-on {b} {t} {c} h g i = of-process (h .process-is) (ap (λ (t : List ℕ). keptOf t (k .left) c) g ∙ ap (keptOf (resetMembers (onlyProcess (contentAt rows b .process)) (k .states)) (k .left)) i)
+  pub repeating-goes-on : {b : ℕ} {t c : List ℕ} → RepeatingIn rows q b → t ≡ reset (processAt (program rows) b) (k .states) → c ≡ comesTo q (k .came) → keptOf t (k .left) c ≡ goesOnCountedAt (program rows) q r k
+  repeating-goes-on h g i = of-process (h .process-is) (ap₂ (λ (t c : List ℕ). keptOf t (k .left) c) (body-resets rows q (k .states) h g) i)
 
 -- an IF or ALT ends; no other row has a member
-module _ {rows list : List ℤ} (P : Prepared rows list) (q r : ℕ) (k : Kept) {n : ℕ} (e : n ≡ placeAt list q 0) (n30 : n ≡ 30 → ⊥) (n31 : n ≡ 31 → ⊥) (n33 : n ≡ 33 → ⊥) where
+module _ {rows : List ℤ} {list : List ℕ} (P : Prepared rows list) (q r : ℕ) (k : Kept) {n : ℕ} (e : n ≡ placeAt list q 0) (n30 : n ≡ 30 → ⊥) (n31 : n ≡ 31 → ⊥) (n33 : n ≡ 33 → ⊥) where
   abbrev Ends : Process → Type 0
   Ends p = List·Memᴰ r (processRows (processesIn p)) → stateSet q 2 k ≡ goesOnCounted (mode (actionOf p)) (endsWhenClosed (actionOf p)) q r (processesIn p) k
 

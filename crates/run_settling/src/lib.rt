@@ -2,13 +2,14 @@
 ghost use mathlib.Core.Path.{_≡_};
 ghost use mathlib.Core.Option.{some};
 ghost use mathlib.Core.List.{List};
-ghost use Prim.Native.Nat.{suc, _-_, _<_, _≤_};
+ghost use Prim.Native.Nat.{suc, _<_, _≤_};
 ghost use lib.IntN.{ℤ};
 ghost use Rattle.meaning.specs.State.{program, processAt};
 ghost use Rattle.machine.specs.Upward.{parentOf};
-ghost use Rattle.machine.specs.Counts.{keptOf, forgotten, startRow, goesOnCountedAt, upwardCounted, changeUpCounted, endUpCounted};
+ghost use Rattle.machine.specs.Counts.{keptOf, startRow, goesOnCountedAt, upwardCounted, changeUpCounted};
 ghost use Rattle.run_code.specs.Prepared.{Prepared};
 ghost use Rattle.run_starting.specs.Parts.{IsProcess};
+ghost use Rattle.run_settling.specs.Changing.{AreProcesses, statesChanged};
 use run_code::place;
 use run_starting::counts::comes;
 use run_starting::counts::lower;
@@ -19,7 +20,7 @@ use run_starting::start::start_row;
 
 // The process of row q goes on after its member of row r.
 fn go_on(
-    code: &[i32; 10250],
+    code: &[u16; 6150],
     q: usize,
     r: usize,
     states: &mut [u8; 1024],
@@ -45,13 +46,13 @@ fn go_on(
 
 // From row r up: as long as a row has ended, its parent goes on.
 fn settle_up(
-    code: &[i32; 10250],
+    code: &[u16; 6150],
     r: usize,
     states: &mut [u8; 1024],
     left: &mut [u16; 1024],
     came: &mut [u16; 2049],
 )
-    requires table { ⌜ ((rows : List ℤ) × Prepared rows (now code)) ⌝ }
+    requires table { ⌜ ((rows : List ℤ) × (Prepared rows (now code) × IsProcess rows r)) ⌝ }
     requires row { ⌜ r < 1024 ⌝ }
     ensures { λ _. ⌜ ((rows : List ℤ) → Prepared rows (now (code .entry)) → IsProcess rows r → keptOf (now (states .exit)) (now (left .exit)) (now (came .exit)) ≡ upwardCounted (program rows) (suc r) r (keptOf (now (states .entry)) (now (left .entry)) (now (came .entry)))) ⌝ }
 {
@@ -69,14 +70,14 @@ fn settle_up(
 
 // Row r gets state n, and what follows from that settles.
 pub fn change_up(
-    code: &[i32; 10250],
+    code: &[u16; 6150],
     r: usize,
     n: u8,
     states: &mut [u8; 1024],
     left: &mut [u16; 1024],
     came: &mut [u16; 2049],
 )
-    requires table { ⌜ ((rows : List ℤ) × Prepared rows (now code)) ⌝ }
+    requires table { ⌜ ((rows : List ℤ) × (Prepared rows (now code) × IsProcess rows r)) ⌝ }
     requires row { ⌜ r < 1024 ⌝ }
     ensures { λ _. ⌜ ((rows : List ℤ) → Prepared rows (now (code .entry)) → IsProcess rows r → keptOf (now (states .exit)) (now (left .exit)) (now (came .exit)) ≡ changeUpCounted (program rows) r n (keptOf (now (states .entry)) (now (left .entry)) (now (came .entry)))) ⌝ }
 {
@@ -87,7 +88,7 @@ pub fn change_up(
 
 // Row `at` gets state n, the sender of a note ends, and what follows from that settles. The rows that come to work by this are listed anew.
 pub fn change_states(
-    code: &[i32; 10250],
+    code: &[u16; 6150],
     at: usize,
     n: u8,
     sender: u16,
@@ -95,9 +96,9 @@ pub fn change_states(
     left: &mut [u16; 1024],
     came: &mut [u16; 2049],
 )
-    requires table { ⌜ ((rows : List ℤ) × Prepared rows (now code)) ⌝ }
+    requires table { ⌜ ((rows : List ℤ) × (Prepared rows (now code) × AreProcesses rows at sender)) ⌝ }
     requires inside { ⌜ (at < 1024) × (sender ≤ 1024) ⌝ }
-    ensures { λ _. ⌜ ((rows : List ℤ) → Prepared rows (now (code .entry)) → IsProcess rows at → ((sender ≡ 0 → ⊥) → IsProcess rows (sender - 1)) → keptOf (now (states .exit)) (now (left .exit)) (now (came .exit)) ≡ endUpCounted (program rows) sender (changeUpCounted (program rows) at n (keptOf (now (states .entry)) (now (left .entry)) (forgotten (now (came .entry)))))) ⌝ }
+    ensures { λ _. ⌜ ((rows : List ℤ) → Prepared rows (now (code .entry)) → AreProcesses rows at sender → keptOf (now (states .exit)) (now (left .exit)) (now (came .exit)) ≡ statesChanged rows at n sender (keptOf (now (states .entry)) (now (left .entry)) (now (came .entry)))) ⌝ }
 {
     came[0] = 0;
     change_up(code, at, n, states, left, came);
@@ -109,7 +110,7 @@ pub fn change_states(
 
 // The process of row `root` starts.
 pub fn begin(
-    code: &[i32; 10250],
+    code: &[u16; 6150],
     root: usize,
     states: &mut [u8; 1024],
     left: &mut [u16; 1024],

@@ -2,15 +2,14 @@
 use mathlib.Core.Path.{_≡_, refl, sym, ap, subst, _∙_}
 use mathlib.Core.Logic.{_⊎_, inl, inr}
 use mathlib.Core.Bool.{Bool, true, false}
-use mathlib.Core.Option.{Option, none, some, Option·some-ne-none}
+use mathlib.Core.Option.{Option, some, Option·some-ne-none}
 use mathlib.Core.List.{List, [], _∷_, List·Memᴰ, List·Memᴰ·head, List·Memᴰ·tail, List·Memᴰ·not-nil}
 use Prim.Native.Nat.{ℕ, _-_, _<_, _≤_}
 use native.Mathlib.Omega.{arith}
 use native.Mathlib.Decide.{decLt}
 use lib.IntN.{ℤ}
 use lib.ListN.{length}
-use lib.Dec.{T, ltb, leb, eqb}
-use lib.Signed.{nonNeg}
+use lib.Dec.{ltb, leb}
 use borrow.Author.Tests.{lt-ltb, leb-false}
 use Rattle.meaning.specs.declared.Node.{Node}
 use Rattle.meaning.specs.declared.Node.the-variants.{Literal, Element, Monadic, Dyadic, Stop, Skip, Assignment, Input, Output, Seq, Par, If, While, Alt, Member, Choice, OptionRow, Guard, Other}
@@ -29,20 +28,19 @@ use Rattle.agreement.proofs.TableReferences.{few-rows, members-shape, while-sha
 use Rattle.agreement.proofs.TableStarts.{is-process}
 use Rattle.agreement.proofs.TableFit.{rows-limit}
 use Rattle.run_parents.specs.declared.shape.Mode as code
-use Rattle.run_parents.specs.declared.shape.Mode.the-variants.{InTurn, Together}
+use Rattle.run_parents.specs.declared.shape.Mode.the-variants.{InTurn, Together, ByStep}
 use Rattle.run_parents.specs.declared.shape.Shape.{Shape}
 use Rattle.run_parents.specs.declared.shape.Shape.the-variants.{Ending, Repeating, Link, Neither}
 use Rattle.run_parents.specs.Shapes.{higherRow, settlingShape, shapeAt}
 use Rattle.run_parents.specs.Members.{modeOf, onlyProcess}
 use Rattle.run_parents.proofs.Standing.{NeitherAt, Stands, stands}
 use Rattle.run_code.specs.declared.Row.{Row}
-use Rattle.run_code.specs.Prepared.{Prepared, presentRow, rowOfKind, entryAt, placeAt, shapeTo, shapeIn}
+use Rattle.run_code.specs.Prepared.{Prepared, presentRow, rowOfKind, placeAt, shapeTo, shapeIn}
 use Rattle.run_code.proofs.Entries.{what-at}
 use Rattle.run_code.proofs.RowKinds.{row-of-kind, kind-in, nothing-past}
 use Rattle.run_code.proofs.Referred.{present-here, present-past, present-inside, present-part, present-above}
 use Rattle.run_code.proofs.Shapes.{by-leaf, by-inner, by-link, by-while}
 use Rattle.run_code.proofs.NoLinks.{listed-none}
-use Rattle.run_code.proofs.Inside.{first-natural}
 use Rattle.run_starting.specs.Parts.{IsLink, Links, IsProcess}
 
 module _ (rows : List ℤ) where
@@ -135,6 +133,7 @@ module _ (rows : List ℤ) where
     pub test : Expr
     pub named : ℕ
     pub process-is : contentAt rows r .process ≡ some (node (loop test named) r (onlyProcess (contentAt rows b .process)))
+    pub body-is : IsProcess rows b
     pub higher : r < b
     pub inside : b < 1024
 
@@ -142,7 +141,6 @@ module _ (rows : List ℤ) where
   pub record LinkIn (r p q : ℕ) : Type 0 where
     pub member : Process
     pub member-is : contentAt rows p .process ≡ some member
-    pub no-process : contentAt rows r .process ≡ none
     pub members-are : contentAt rows r .listed ≡ also member (contentAt rows q .listed)
     pub higher : r < p
     pub inside : p < 1024
@@ -180,6 +178,7 @@ module _ (rows : List ℤ) where
           test = h .test;
           named = h .named;
           process-is = h .process-is ∙ ap (λ (c : Content). some (node (loop (h .test) (h .named)) r (onlyProcess (c .process)))) (there b);
+          body-is = rw i u;
           higher = present-between r b (h .fewer) .0;
           inside = rw i (omega arith);
         }
@@ -190,7 +189,6 @@ module _ (rows : List ℤ) where
         record {
           member = u .0 .0;
           member-is = rw i (u .0 .1);
-          no-process = h .no-process;
           members-are = h .members-are ∙ ap (λ (o : Option Process). andProcess o (contentAt rows q .listed)) (u .0 .1) ∙ ap (λ (c : Content). also (u .0 .0) (c .listed)) (there q);
           higher = present-between r p (h .fewer-process) .0;
           inside = rw i (omega arith);
@@ -200,19 +198,19 @@ module _ (rows : List ℤ) where
     by-shape r Neither h u = h
 
 -- what stands at a row, from what the code found of its part in settling
-pub found-in : {rows list : List ℤ} → Prepared rows list → (r : ℕ) {s k : Shape} → s ≡ shapeIn rows r → s ≡ k → StandsIn rows r k
+pub found-in : {rows : List ℤ} {list : List ℕ} → Prepared rows list → (r : ℕ) {s k : Shape} → s ≡ shapeIn rows r → s ≡ k → StandsIn rows r k
 unfolding shapeIn
 found-in {rows} P r e i = rw (sym i ∙ e) (by-shape rows (rows-limit rows (P .accepted)) r (shapeAt rows r) (stands rows r) (refers rows (accepted rows .0 (P .accepted)) r))
 
 -- ---- the links that a row's part in settling refers to
 
-abbrev pub LinksTo : List ℤ → Shape → Type 0
+abbrev pub LinksTo : List ℕ → Shape → Type 0
 LinksTo list (Ending m f) = Links list f
 LinksTo list (Repeating b) = Unit {0}
 LinksTo list (Link p q) = Links list q
 LinksTo list Neither = Unit {0}
 
-module _ {rows list : List ℤ} (P : Prepared rows list) where
+module _ {rows : List ℤ} {list : List ℕ} (P : Prepared rows list) where
   few : rowCount rows ≤ 1024
   few = rows-limit rows (P .accepted)
 
@@ -264,14 +262,6 @@ module _ {rows list : List ℤ} (P : Prepared rows list) where
       pub next-links : {q : ℕ} → q ≡ placeAt list m 2 → Links list q
       next-links b = links-in m (link-shape refl b) refl
 
-      pub first-of-link : T (nonNeg (entryAt list m 1))
-      first-of-link = go is-link
-        where
-          go : IsLink (placeAt list m 0) → T (nonNeg (entryAt list m 1))
-          go (inl i) = first-natural P m h 40 i refl
-          go (inr (inl i)) = first-natural P m h 41 i refl
-          go (inr (inr i)) = first-natural P m h 42 i refl
-
   -- ---- a process, from what the code found of its row
 
   module _ (r : ℕ) (h : r ≤ 1024) {n : ℕ} (e : n ≡ placeAt list r 0) where
@@ -284,8 +274,11 @@ module _ {rows list : List ℤ} (P : Prepared rows list) where
     pub par-shape : n ≡ 31 → {a : ℕ} → a ≡ placeAt list r 1 → Ending Together a ≡ shapeIn rows r
     par-shape i a = by-inner P r h 31 (sym e ∙ i) (λ z. omega arith) Together a refl refl
 
+    pub if-shape : n ≡ 32 → {a : ℕ} → a ≡ placeAt list r 1 → Ending ByStep a ≡ shapeIn rows r
+    if-shape i a = by-inner P r h 32 (sym e ∙ i) (λ z. omega arith) ByStep a refl refl
+
+    pub alt-shape : n ≡ 34 → {a : ℕ} → a ≡ placeAt list r 1 → Ending ByStep a ≡ shapeIn rows r
+    alt-shape i a = by-inner P r h 34 (sym e ∙ i) (λ z. omega arith) ByStep a refl refl
+
     pub while-shape-in : n ≡ 33 → {b : ℕ} → b ≡ placeAt list r 2 → Repeating b ≡ shapeIn rows r
     while-shape-in i b = by-while P r h (sym e ∙ i) b
-
-    pub first-of : (k : ℕ) → n ≡ k → eqb k 1 ≡ false → T (nonNeg (entryAt list r 1))
-    first-of k i = first-natural P r h k (sym e ∙ i)

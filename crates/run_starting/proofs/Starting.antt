@@ -49,7 +49,7 @@ module _ (rows : List ℤ) where
   ending-starts r k h e = rw (beneath r k (h .process-is), h .mode-is) e
 
 -- any other row
-module _ {rows list : List ℤ} (P : Prepared rows list) (r : ℕ) (h : r ≤ 1024) (k : Kept) where
+module _ {rows : List ℤ} {list : List ℕ} (P : Prepared rows list) (r : ℕ) (h : r ≤ 1024) (k : Kept) where
   itself-starts : (placeAt list r 0 ≡ 21 → ⊥) → (placeAt list r 0 ≡ 30 → ⊥) → (placeAt list r 0 ≡ 31 → ⊥) → startBeneath r (processAt (program rows) r) k ≡ rowComes r k
   itself-starts n21 n30 n31 = go (decLt r (rowCount rows))
     where

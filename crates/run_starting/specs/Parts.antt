@@ -16,7 +16,7 @@ abbrev pub IsLink : ℕ → Type 0
 IsLink n = (n ≡ 40) ⊎ (n ≡ 41) ⊎ (n ≡ 42)
 
 -- row m is a link, or nothing stands there
-abbrev pub Links : List ℤ → ℕ → Type 0
+abbrev pub Links : List ℕ → ℕ → Type 0
 Links list m = (placeAt list m 0 ≡ 0) ⊎ IsLink (placeAt list m 0)
 
 -- a process stands at row r

@@ -11,12 +11,11 @@ ghost use Rattle.run_code.specs.Prepared.{Prepared};
 ghost use Rattle.run_starting.specs.Parts.{Links, startsIf};
 use crate::counts::comes;
 use crate::counts::remain;
-use run_code::first;
 use run_code::place;
 
 // Row r runs, and its process starts its members, or comes to work.
 pub fn start_row(
-    code: &[i32; 10250],
+    code: &[u16; 6150],
     r: usize,
     states: &mut [u8; 1024],
     left: &mut [u16; 1024],
@@ -32,7 +31,7 @@ pub fn start_row(
 
 // The process of row r, which runs already, starts its members, or comes to work.
 pub fn start_beneath(
-    code: &[i32; 10250],
+    code: &[u16; 6150],
     r: usize,
     states: &mut [u8; 1024],
     left: &mut [u16; 1024],
@@ -46,7 +45,7 @@ pub fn start_beneath(
         21 => start_members(code, 1024, false, r, 0, states, left, came),
         30 => start_members(
             code,
-            first(code, r) as usize,
+            place(code, r, 1) as usize,
             false,
             r,
             0,
@@ -56,7 +55,7 @@ pub fn start_beneath(
         ),
         31 => start_members(
             code,
-            first(code, r) as usize,
+            place(code, r, 1) as usize,
             true,
             r,
             0,
@@ -70,7 +69,7 @@ pub fn start_beneath(
 
 // The members from link m on start: all, or each in its turn. Their process has row r, and n of the members before them have not ended.
 pub fn start_members(
-    code: &[i32; 10250],
+    code: &[u16; 6150],
     m: usize,
     all: bool,
     r: usize,
@@ -88,7 +87,7 @@ pub fn start_members(
         remain(states, left, r, n);
         return;
     }
-    let p = first(code, m) as usize;
+    let p = place(code, m, 1) as usize;
     start_row(code, p, states, left, came);
     let next = place(code, m, 2) as usize;
     if states[p] == 2 {
@@ -102,7 +101,7 @@ pub fn start_members(
 
 // The SEQ of row r starts its members from row m on, if a link stands there, each in its turn; it ends where there is none.
 pub fn start_next(
-    code: &[i32; 10250],
+    code: &[u16; 6150],
     m: usize,
     r: usize,
     states: &mut [u8; 1024],
@@ -123,7 +122,7 @@ pub fn start_next(
 
 // The process of row r starts its members, or comes to work, if its new state n is "running".
 pub fn start_if(
-    code: &[i32; 10250],
+    code: &[u16; 6150],
     r: usize,
     n: u8,
     states: &mut [u8; 1024],

@@ -1,5 +1,1 @@
 pub mod Ran
-pub mod Ending
-pub mod Showing
-pub mod Fits
-pub mod Turns

@@ -3,16 +3,13 @@ ghost use mathlib.Core.Path.{_≡_};
 ghost use mathlib.Core.Option.{none};
 ghost use Prim.Native.Nat.{_≤_};
 ghost use Rattle.meaning.specs.Readings.{Sheet};
-ghost use Rattle.meaning.specs.Run.{run};
-ghost use Rattle.meaning.specs.Trace.{trace};
 ghost use Rattle.meaning.specs.Answers.{check};
-ghost use Rattle.run_intents.specs.Held.{KeptReadings};
-ghost use Rattle.run_steps.specs.Ran.{RunHeld};
-ghost use Rattle.run_steps.specs.Showing.{listsLent, shownFromPlace};
+ghost use Rattle.machine.specs.Held.{KeptReadings};
+ghost use Rattle.run_steps.specs.Ran.{RunShown};
+ghost use Rattle.run_turns.specs.Showing.{listsLent};
 
 pub mod result; // result.rt: what a run leaves
 mod outcome; // outcome.rt: the outcome of a run
-mod turn; // turn.rt: parts of a turn
 mod steps; // steps.rt: the steps up to rest or the budget
 
 use result::Run;
@@ -21,8 +18,8 @@ use result::Run;
 // that orders the one taken, as far as they have room.
 pub fn run<'a>(
     rows: &'a [i32],
-    readings: &'a [i32; 1024],
-    given: &'a [u8; 1024],
+    readings: &'a [i32],
+    given: &'a [u8],
     lines: usize,
     choices: &[u16],
     budget: u32,
@@ -32,12 +29,13 @@ pub fn run<'a>(
     requires accepted { ⌜ check (now rows) ≡ none ⌝ }
     requires kept { ⌜ ((sheet : Sheet) × KeptReadings (now rows) sheet (now readings) (now given) lines) ⌝ }
     requires few { ⌜ lines ≤ 128 ⌝ }
-    ensures { λ r. ⌜ ((sheet : Sheet) → KeptReadings (now (rows .entry)) sheet (now (readings .entry)) (now (given .entry)) lines → RunHeld (now (rows .entry)) (run (now (rows .entry)) sheet (now (choices .entry)) budget) r × (listsLent (now (readied .exit)) (now (taken .exit)) ≡ shownFromPlace 0 (trace (now (rows .entry)) sheet (now (choices .entry)) budget) (listsLent (now (readied .entry)) (now (taken .entry))))) ⌝ }
+    ensures { λ r. ⌜ ((sheet : Sheet) → KeptReadings (now (rows .entry)) sheet (now (readings .entry)) (now (given .entry)) lines → RunShown (now (rows .entry)) sheet (now (choices .entry)) budget r (listsLent (now (readied .entry)) (now (taken .entry))) (listsLent (now (readied .exit)) (now (taken .exit)))) ⌝ }
 {
-    let code = run_preparing::prepare(rows);
+    let mut code = [0u16; 6150];
+    run_preparing::prepare(rows, &mut code);
     steps::take_steps(
         rows,
-        &code.numbers,
+        &code,
         readings,
         given,
         lines,

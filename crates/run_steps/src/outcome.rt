@@ -4,8 +4,8 @@ ghost use Prim.Native.Nat.{_≤_};
 ghost use lib.ListN.{length, getD, take};
 ghost use Rattle.meaning.specs.State.{anyOf};
 ghost use Rattle.meaning.specs.Order.{isStopped};
-ghost use Rattle.run_steps.specs.Ran.{restOutcome};
-ghost use Rattle.run_steps.specs.Ending.{outcomeWith};
+ghost use Rattle.run_turns.specs.Results.{restOutcome};
+ghost use Rattle.run_turns.specs.Ending.{outcomeWith};
 use meaning::Outcome;
 
 // The state of row r; past the end every row is idle.

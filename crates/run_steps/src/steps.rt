@@ -3,25 +3,23 @@ ghost use mathlib.Core.Path.{_≡_};
 ghost use Prim.Native.Nat.{_≤_};
 ghost use lib.ListN.{getD, set};
 ghost use Rattle.meaning.specs.Readings.{Sheet};
-ghost use Rattle.meaning.specs.Run.{run};
-ghost use Rattle.meaning.specs.Trace.{trace};
 ghost use Rattle.run_code.specs.Prepared.{Prepared};
-ghost use Rattle.run_intents.specs.Held.{KeptReadings};
-ghost use Rattle.run_steps.specs.Ending.{isLast};
-ghost use Rattle.run_steps.specs.Ran.{RunHeld};
-ghost use Rattle.run_steps.specs.Showing.{listsLent, shownFromPlace};
+ghost use Rattle.machine.specs.Held.{KeptReadings};
+ghost use Rattle.run_turns.specs.Ending.{isLast};
+ghost use Rattle.run_steps.specs.Ran.{RunShown};
+ghost use Rattle.run_turns.specs.Showing.{listsLent};
 use crate::outcome::outcome_with;
 use crate::result::Run;
-use crate::turn::Put;
-use crate::turn::leave_step;
-use crate::turn::note_all;
-use crate::turn::put_host;
-use crate::turn::written_by;
 use run_changes::change_of;
 use run_ready_bits::choose;
 use run_ready_bits::total;
 use run_settling::begin;
 use run_settling::change_states;
+use run_turns::Put;
+use run_turns::leave_step;
+use run_turns::note_all;
+use run_turns::put_host;
+use run_turns::written_by;
 use run_values::store::fresh;
 
 // The choice for a step after n steps; 0 when the list is used up.
@@ -56,9 +54,9 @@ fn show(list: &mut [u16], n: u32, x: u16)
 // lists get how many steps were ready, and the row that orders the one taken.
 pub fn take_steps<'a>(
     rows: &'a [i32],
-    code: &'a [i32; 10250],
-    readings: &'a [i32; 1024],
-    given: &'a [u8; 1024],
+    code: &'a [u16; 6150],
+    readings: &'a [i32],
+    given: &'a [u8],
     lines: usize,
     choices: &[u16],
     budget: u32,
@@ -68,7 +66,7 @@ pub fn take_steps<'a>(
     requires table { ⌜ Prepared (now rows) (now code) ⌝ }
     requires kept { ⌜ ((sheet : Sheet) × KeptReadings (now rows) sheet (now readings) (now given) lines) ⌝ }
     requires few { ⌜ lines ≤ 128 ⌝ }
-    ensures { λ r. ⌜ ((sheet : Sheet) → KeptReadings (now (rows .entry)) sheet (now (readings .entry)) (now (given .entry)) lines → RunHeld (now (rows .entry)) (run (now (rows .entry)) sheet (now (choices .entry)) budget) r × (listsLent (now (readied .exit)) (now (taken .exit)) ≡ shownFromPlace 0 (trace (now (rows .entry)) sheet (now (choices .entry)) budget) (listsLent (now (readied .entry)) (now (taken .entry))))) ⌝ }
+    ensures { λ r. ⌜ ((sheet : Sheet) → KeptReadings (now (rows .entry)) sheet (now (readings .entry)) (now (given .entry)) lines → RunShown (now (rows .entry)) sheet (now (choices .entry)) budget r (listsLent (now (readied .entry)) (now (taken .entry))) (listsLent (now (readied .exit)) (now (taken .exit)))) ⌝ }
 {
     let root = base_rows::declarations(rows);
     let mut states = [0u8; 1024];
@@ -76,7 +74,7 @@ pub fn take_steps<'a>(
     let mut counts = [0u32; 8];
     let mut left = [0u16; 1024];
     let mut came = [0u16; 2049];
-    let mut acts = [0u16; 4096];
+    let mut acts = [0u16; 3072];
     let mut sent = [0i32; 1024];
     let mut elements = [0u16; 512];
     let mut bits = run_ready_bits::clear();

@@ -29,27 +29,27 @@ use Rattle.run_kept.proofs.Waiting.{one-sender, sender-is, waiter-waits}
 use Rattle.run_notes.specs.declared.Note.{Note}
 use Rattle.run_notes.specs.Notes.{Lists, note, optionsAt}
 use Rattle.run_noted.specs.Noted.{noteOfIntent, noteOfOffer, listed, actNumbers, listsFor, noteIn, receiverIn, senderIn, notedBy, NotesFit}
-use Rattle.run_noted.proofs.Blocks.{one, two, four, listed-at}
+use Rattle.run_noted.proofs.Blocks.{one, two, three, listed-at}
 use Rattle.run_noted.proofs.Offers.{rising-member, options-rising, alt-option}
 use Rattle.run_noted.proofs.NotedRows.{halts-note}
 use Rattle.run_noted.proofs.Encoded.{last-is}
 use Rattle.run_noted.proofs.Left.{note-of-row, note-of-option}
+use Rattle.run_noted.proofs.NotesFit.{notes-fit, acting-row}
 use Rattle.run_changes.specs.Changes.{whatAt, actAt}
 use Rattle.run_changes.proofs.Told.{Told}
-use Rattle.run_told.proofs.NotesFit.{notes-fit, acting-row}
 
 -- numbers of the note of a row, and of an element
 module _ (rows : List ℤ) (w : ℕ → Intent) (m : Lists) (is : m ≡ notedBy rows w) where
   module _ (j : ℕ) (l : j < 1024) (k : Note) (e : noteIn rows w j ≡ k) where
-    act-is : (i : ℕ) → i < 4 → getD (m .acts) (4 * j + i) 0 ≡ getD (actNumbers k) i 0
+    act-is : (i : ℕ) → i < 3 → getD (m .acts) (3 * j + i) 0 ≡ getD (actNumbers k) i 0
     unfolding notedBy listsFor
     act-is i h =
-        ap (λ (y : Lists). getD (y .acts) (4 * j + i) 0) is
-        ∙ listed-at 4 four (λ j. actNumbers (noteIn rows w j)) (λ j. refl) j i h 1024 0 l
+        ap (λ (y : Lists). getD (y .acts) (3 * j + i) 0) is
+        ∙ listed-at 3 three (λ j. actNumbers (noteIn rows w j)) (λ j. refl) j i h 1024 0 l
         ∙ ap (λ (n : Note). getD (actNumbers n) i 0) e
 
     what-is : whatAt (m .acts) j ≡ k .what
-    what-is = let z : 4 * j ≡ 4 * j + 0 = omega arith in ap (λ (p : ℕ). getD (m .acts) p 0) z ∙ act-is 0 (omega arith)
+    what-is = let z : 3 * j ≡ 3 * j + 0 = omega arith in ap (λ (p : ℕ). getD (m .acts) p 0) z ∙ act-is 0 (omega arith)
 
     number-is : getD (m .sent) j (pos 0) ≡ k .number
     unfolding notedBy listsFor
@@ -90,14 +90,14 @@ module _ (rows : List ℤ) (ok : check rows ≡ none) (sheet : Sheet) (l : List 
     option-note os q f e = note-of-option rows W j r a ∙ ap (λ (i : Intent). noteOfOffer (offerOf j i)) q ∙ ap noteOfOffer e
 
   -- number i of a row's note, and the number that it hands over
-  own-act : (j : ℕ) (i : Intent) → intentAt (program rows) sheet s j ≡ i → i ≢ waits → (k : Note) → noteOfIntent i ≡ k → (whatAt (m .acts) j ≡ k .what) × (actAt (m .acts) j 1 ≡ k .at) × (actAt (m .acts) j 2 ≡ k .cell) × (actAt (m .acts) j 3 ≡ k .mark) × (getD (m .sent) j (pos 0) ≡ k .number)
+  own-act : (j : ℕ) (i : Intent) → intentAt (program rows) sheet s j ≡ i → i ≢ waits → (k : Note) → noteOfIntent i ≡ k → (whatAt (m .acts) j ≡ k .what) × (actAt (m .acts) j 1 ≡ k .at) × (actAt (m .acts) j 2 ≡ k .third) × (getD (m .sent) j (pos 0) ≡ k .number)
   own-act j i q n k e =
       let b = inside j i q n in
       let f = own-note j i q n ∙ e in
-      (what-is rows W m is j b k f, act-is rows W m is j b k f 1 (omega arith), act-is rows W m is j b k f 2 (omega arith), act-is rows W m is j b k f 3 (omega arith), number-is rows W m is j b k f)
+      (what-is rows W m is j b k f, act-is rows W m is j b k f 1 (omega arith), act-is rows W m is j b k f 2 (omega arith), number-is rows W m is j b k f)
 
   option-act : (r j : ℕ) → altOf (program rows) j ≡ some r → (os : List Offer) → intentAt (program rows) sheet s r ≡ selects os → (f : Offer) → offerAt j os ≡ some f
-      → (whatAt (m .acts) j ≡ noteOfOffer (some f) .what) × (actAt (m .acts) j 1 ≡ noteOfOffer (some f) .at) × (actAt (m .acts) j 2 ≡ noteOfOffer (some f) .cell)
+      → (whatAt (m .acts) j ≡ noteOfOffer (some f) .what) × (actAt (m .acts) j 1 ≡ noteOfOffer (some f) .at) × (actAt (m .acts) j 2 ≡ noteOfOffer (some f) .third)
   option-act r j a os q f e =
       let b = option-inside r j a in
       let k = noteOfOffer (some f) in
@@ -114,16 +114,16 @@ module _ (rows : List ℤ) (ok : check rows ≡ none) (sheet : Sheet) (l : List 
 
   pub notes-tell : Told (program rows) sheet s (m .acts) (m .sent) (m .elements)
   notes-tell = record {
-    stops = λ j n h q. let a = own-act j (halts j n) q (λ u. let y : _≡_ {A = ℕ} 0 1 = cc in omega arith) (note 1 n 0 0 (pos 0)) (halts-note j n) in (a .0, a .1);
-    assigns = λ j a z q. let b = own-act j (moves j 2 (writeCell a (some z) ∷ [])) q (λ u. let y : _≡_ {A = ℕ} 0 1 = cc in omega arith) (note 2 0 a 1 z) refl in (b .0, b .2, b .4);
-    ends = λ j q. own-act j (moves j 2 []) q (λ u. let y : _≡_ {A = ℕ} 0 1 = cc in omega arith) (note 3 0 0 0 (pos 0)) refl .0;
-    starts = λ j p q. let b = own-act j (moves p 1 []) q (λ u. let y : _≡_ {A = ℕ} 0 1 = cc in omega arith) (note 4 p 0 0 (pos 0)) refl in (b .0, b .1);
-    reads = λ j a p n k q. let b = own-act j (moves j 2 (writeCell a k ∷ writePlace p n ∷ [])) q (λ u. let y : _≡_ {A = ℕ} 0 1 = cc in omega arith) (note 5 p a 0 (pos 0)) refl in (b .0, b .1, b .2);
+    stops = λ j n h q. let a = own-act j (halts j n) q (λ u. let y : _≡_ {A = ℕ} 0 1 = cc in omega arith) (note 1 n 0 (pos 0)) (halts-note j n) in (a .0, a .1);
+    assigns = λ j a z q. let b = own-act j (moves j 2 (writeCell a (some z) ∷ [])) q (λ u. let y : _≡_ {A = ℕ} 0 1 = cc in omega arith) (note 2 0 a z) refl in (b .0, b .2, b .3);
+    ends = λ j q. own-act j (moves j 2 []) q (λ u. let y : _≡_ {A = ℕ} 0 1 = cc in omega arith) (note 3 0 0 (pos 0)) refl .0;
+    starts = λ j p q. let b = own-act j (moves p 1 []) q (λ u. let y : _≡_ {A = ℕ} 0 1 = cc in omega arith) (note 4 p 0 (pos 0)) refl in (b .0, b .1);
+    reads = λ j a p n k q. let b = own-act j (moves j 2 (writeCell a k ∷ writePlace p n ∷ [])) q (λ u. let y : _≡_ {A = ℕ} 0 1 = cc in omega arith) (note 5 p a (pos 0)) refl in (b .0, b .1, b .2);
     writes = λ j p k z q.
-        let b = own-act j (moves j 2 (writeOutput p (k ++ (some z ∷ [])) ∷ [])) q (λ u. let y : _≡_ {A = ℕ} 0 1 = cc in omega arith) (note 6 p 0 1 z) (ap (λ (n : Message). note 6 p 0 (mark n) (numberIn n)) (last-is k (some z))) in
-        (b .0, b .1, b .4);
-    inputs = λ j e a q. let b = own-act j (inputsFrom e a) q (λ u. let y : _≡_ {A = ℕ} 0 1 = cc in omega arith) (note 7 e a 0 (pos 0)) refl in (b .0, b .1, b .2);
-    outputs = λ j e z q. let b = own-act j (outputsTo e (some z)) q (λ u. let y : _≡_ {A = ℕ} 0 1 = cc in omega arith) (note 8 e 0 1 z) refl in (b .3, b .4);
+        let b = own-act j (moves j 2 (writeOutput p (k ++ (some z ∷ [])) ∷ [])) q (λ u. let y : _≡_ {A = ℕ} 0 1 = cc in omega arith) (note 6 p 1 z) (ap (λ (n : Message). note 6 p (mark n) (numberIn n)) (last-is k (some z))) in
+        (b .0, b .1, b .3);
+    inputs = λ j e a q. let b = own-act j (inputsFrom e a) q (λ u. let y : _≡_ {A = ℕ} 0 1 = cc in omega arith) (note 7 e a (pos 0)) refl in (b .0, b .1, b .2);
+    outputs = λ j e z q. let b = own-act j (outputsTo e (some z)) q (λ u. let y : _≡_ {A = ℕ} 0 1 = cc in omega arith) (note 8 e 1 z) refl in (b .2, b .3);
     opens = λ r j i q os a b e. option-act r j a os b (openOffer i q []) e .0;
     offers-read = λ r j i q a p n k os b c e. let d = option-act r j b os c (openOffer i q (writeCell a k ∷ writePlace p n ∷ [])) e in (d .0, d .1, d .2);
     offers-input = λ r j i q e a os b c f. let d = option-act r j b os c (inputOffer i q e a) f in (d .0, d .1, d .2);

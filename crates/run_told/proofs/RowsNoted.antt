@@ -1,14 +1,10 @@
 -- To note a row at work in a state of an order, from notes of some of its rows, is to note what it would do there: where the arrays hold the state and the readings.
 use mathlib.Core.Path.{_≡_, refl, sym, ap, subst, _∙_}
-use mathlib.Core.Logic.{_⊎_, inl}
-use mathlib.Core.Bool.{Bool, true, false}
+use mathlib.Core.Bool.{true}
 use mathlib.Core.Option.{Option, none, some, Option·none-ne-some}
 use mathlib.Core.List.{List}
 use Prim.Native.Nat.{ℕ, _<_}
 use lib.IntN.{ℤ}
-use lib.Dec.{eqb}
-use borrow.Author.Tests.{eqb-true}
-use Rattle.meaning.specs.Basics.{ifElse}
 use Rattle.meaning.specs.Rows.{rowCount}
 use Rattle.meaning.specs.Tree.{actionOf, node}
 use Rattle.meaning.specs.State.{State, program, processAt}
@@ -22,7 +18,7 @@ use Rattle.meaning.specs.Answers.{check}
 use Rattle.meaning.proofs.AnswerLaws.{accepted}
 use Rattle.agreement.proofs.TableFit.{inside-stands}
 use Rattle.machine.specs.RowSteps.{altOf}
-use Rattle.machine.specs.Held.{HoldsState}
+use Rattle.machine.specs.Held.{HoldsState, KeptReadings}
 use Rattle.machine.proofs.RowReady.{alt-is}
 use Rattle.machine.proofs.RowKinds.{option-kind, no-process}
 use Rattle.machine.proofs.LiveRows.{intent-is}
@@ -32,23 +28,13 @@ use Rattle.machine.proofs.Unmoved.{live-row-works}
 use Rattle.run_kept.specs.Noting.{noted}
 use Rattle.run_values.specs.Cells.{cellsIn}
 use Rattle.run_intents.specs.Does.{optionDoes, doesOf}
-use Rattle.run_intents.specs.Held.{KeptReadings}
 use Rattle.run_intents.specs.Stands.{optionsOf, optionNotes, standsFor}
 use Rattle.run_intents.proofs.Standing.{row-stands}
 use Rattle.run_intents.proofs.Stores.{store-held}
 use Rattle.run_notes.specs.Notes.{noteNumbers, noteRow}
-use Rattle.run_noted.specs.Noted.{notedBy, NotesFit}
+use Rattle.run_noted.specs.Noted.{notedBy, NotesFit, Under}
 use Rattle.run_noted.proofs.RowNoted.{note-row}
-use Rattle.run_told.specs.Under.{Under}
-use Rattle.run_told.proofs.NotesFit.{notes-fit-under}
-
--- one more row is noted
-more-under : (v w : ℕ → Intent) → Under w v → (r : ℕ) → Under (noted r (v r) w) v
-more-under v w u r q = go (eqb r q) refl
-  where
-    go : (t : Bool) → eqb r q ≡ t → (ifElse t (v r) (w q) ≡ v q) ⊎ (ifElse t (v r) (w q) ≡ waits)
-    go true e = inl (ap v (eqb-true r q e))
-    go false e = u q
+use Rattle.run_noted.proofs.NotesFit.{noted-under, notes-fit-under}
 
 module _ (rows : List ℤ) (ok : check rows ≡ none) (sheet : Sheet) (l : List Label) (t : State) (o : OrderOf rows sheet l t) (r : ℕ) (live : isLive (program rows) sheet r t ≡ true) where
   -- a row at work is no option
@@ -73,5 +59,5 @@ module _ (rows : List ℤ) (ok : check rows ≡ none) (sheet : Sheet) (l : List 
         ≡ notedBy rows (noted r (intentAt (program rows) sheet t r) w)
     row-noted i w u bare =
         note-row rows ok w r i live-plain bare sheet (t .store) lines (cellsIn (b .cells) (b .marks)) (b .places) (b .counts)
-        (subst (λ (k : Intent). NotesFit rows (noted r k w)) found-is (notes-fit-under rows ok sheet l t o (noted r (intentAt (program rows) sheet t r) w) (more-under (intentAt (program rows) sheet t) w u r)))
+        (subst (λ (k : Intent). NotesFit rows (noted r k w)) found-is (notes-fit-under rows ok sheet l t o (noted r (intentAt (program rows) sheet t r) w) (noted-under (intentAt (program rows) sheet t) w u r)))
         ∙ ap (λ (k : Intent). notedBy rows (noted r k w)) (sym found-is)

@@ -3,44 +3,19 @@ use mathlib.Core.Path.{_≡_, refl, sym, ap, _∙_}
 use mathlib.Core.List.{List, [], _∷_, _++_, append-nil}
 use Prim.Native.Nat.{ℕ, zero, suc, _+_, _<_, _≤_}
 use native.Mathlib.Numerals.{add-one}
-use native.Mathlib.Decide.{decLt, ℕ-discrete}
 use native.Mathlib.Omega.{arith}
-use lib.ListN.{length, getD, set, drop, replicate, length-append, length-set, length-replicate, List·getD-append, List·getD-eq-default}
-use lib.Seq.{take-all, drop-cons, append-snoc, set-at, getD-append-seam, set-append-left, getD-set-same, getD-set-other, ext-getD}
+use lib.ListN.{length, getD, set, drop, replicate, length-append, length-replicate}
+use lib.Seq.{take-all, drop-cons, append-snoc, set-at, set-append-left}
 use Rattle.meaning.specs.Buffers.{sized, lent}
-use Rattle.meaning.proofs.LentLaws.{sized-length, sized-at}
-use Rattle.run_steps.specs.Showing.{storedFrom}
+use Rattle.meaning.proofs.LentLaws.{sized-length, sized-more}
+use Rattle.run_turns.specs.Showing.{storedFrom}
 
 module _ {A : Type 0} (d : A) where
-  -- at each place but the end a list with one more at its end has its own elements
-  but-at-end : (xs : List A) (v : A) (i : ℕ) → (i ≡ length xs → ⊥) → getD (xs ++ (v ∷ [])) i d ≡ getD xs i d
-  but-at-end xs v i h = go (decLt i (length xs))
-    where
-      go : Dec (i < length xs) → getD (xs ++ (v ∷ [])) i d ≡ getD xs i d
-      go (yes k) = List·getD-append xs (v ∷ []) d i k
-      go (no k) = List·getD-eq-default (xs ++ (v ∷ [])) d (omega (arith, length-append xs (v ∷ []))) ∙ sym (List·getD-eq-default xs d (omega arith))
-
-  sized-more : (n : ℕ) (xs : List A) (v : A) → length xs < n → set (sized n d xs) (length xs) v ≡ sized n d (xs ++ (v ∷ []))
-  sized-more n xs v h =
-      ext-getD d (set (sized n d xs) (length xs) v) (sized n d (xs ++ (v ∷ []))) (long ∙ sym (sized-length d n (xs ++ (v ∷ [])))) (λ i k. each i (omega (arith, long)) (ℕ-discrete i (length xs)))
-    where
-      long : length (set (sized n d xs) (length xs) v) ≡ n
-      long = length-set (sized n d xs) (length xs) v ∙ sized-length d n xs
-
-      each : (i : ℕ) → i < n → Dec (i ≡ length xs) → getD (set (sized n d xs) (length xs) v) i d ≡ getD (sized n d (xs ++ (v ∷ []))) i d
-      each i k (yes e) =
-          ap (λ (j : ℕ). getD (set (sized n d xs) (length xs) v) j d) e
-          ∙ getD-set-same (sized n d xs) (length xs) v d (omega (arith, sized-length d n xs))
-          ∙ sym (getD-append-seam xs v [] d)
-          ∙ ap (λ (j : ℕ). getD (xs ++ (v ∷ [])) j d) (sym e)
-          ∙ sym (sized-at d n i (xs ++ (v ∷ [])) k)
-      each i k (no e) = getD-set-other (sized n d xs) (length xs) i v d e ∙ sized-at d n i xs k ∙ sym (but-at-end xs v i e) ∙ sym (sized-at d n i (xs ++ (v ∷ [])) k)
-
   -- one number more
   lent-more : (n : ℕ) (xs old : List A) (v : A) → length xs < n → set (lent n d xs old) (length xs) v ≡ lent n d (xs ++ (v ∷ [])) old
   unfolding lent
   lent-more n xs old v h =
-      set-append-left (sized n d xs) (drop n old) (length xs) v (omega (arith, sized-length d n xs)) ∙ ap (λ (l : List A). l ++ drop n old) (sized-more n xs v h)
+      set-append-left (sized n d xs) (drop n old) (length xs) v (omega (arith, sized-length d n xs)) ∙ ap (λ (l : List A). l ++ drop n old) (sym (sized-more d n v xs h))
 
   -- nothing: the value of unused places up to the limit
   pub lent-nothing : (n : ℕ) (old : List A) → lent n d [] old ≡ replicate n d ++ drop n old

@@ -26,7 +26,7 @@ use Rattle.meaning.specs.TableBytes.{bytesFault, rowsOf}
 use Rattle.meaning.specs.Answers.{Result, ran, unless, check, Task, result, resultOfBytes}
 use Rattle.meaning.specs.Trace.{Shown, shownFrom, trace, TraceLists, listed, listsAfter}
 use Rattle.meaning.proofs.AnswerLaws.{result-stages, result-of-bytes}
-use Rattle.run_steps.specs.Showing.{storedFrom, listsLent, shownFromPlace}
+use Rattle.run_turns.specs.Showing.{storedFrom, listsLent, shownFromPlace}
 use Rattle.run_trace.specs.Cleared.{cleared, listsLeft}
 use Rattle.run_trace.proofs.Lists.{stored-lent}
 

@@ -8,7 +8,7 @@ use Rattle.meaning.specs.Limits.{maxBudget}
 use Rattle.meaning.specs.Buffers.{lent}
 use Rattle.meaning.specs.Answers.{Result, refused, ran}
 use Rattle.meaning.specs.Trace.{Shown, TraceLists}
-use Rattle.run_steps.specs.Showing.{listsLent, shownFromPlace}
+use Rattle.run_turns.specs.Showing.{listsLent, shownFromPlace}
 
 -- a list with nothing shown: 0 up to place 65,536; one that has no room for a trace is left as it is
 unfoldable pub cleared : List ℕ → List ℕ

@@ -2,7 +2,7 @@
 use mathlib.Core.Path.{_≡_, refl, sym, ap, ap₂, _∙_}
 use mathlib.Core.Bool.{Bool, true, false}
 use mathlib.Core.Option.{none}
-use mathlib.Core.List.{List, []}
+use mathlib.Core.List.{List}
 use Prim.Native.Nat.{ℕ, _+_, _<_, _≤_}
 use native.Mathlib.Omega.{arith}
 use lib.IntN.{ℤ}
@@ -20,16 +20,16 @@ use Rattle.meaning.specs.State.{program, processAt}
 use Rattle.meaning.specs.Values.{Message, isTrue, truth, operate, monadicOf, decides, whenNumber, dyadicOf, inArray, cellValue, readCell, value, index}
 use Rattle.agreement.proofs.TableTree.{process-is}
 use Rattle.run_code.specs.declared.Row.{Row}
-use Rattle.run_code.specs.Prepared.{referredRow, Prepared, entryAt, placeAt}
-use Rattle.run_code.proofs.Entries.{what-at, number-at, second-at}
+use Rattle.run_code.specs.Prepared.{referredRow, Prepared, placeAt, literalOf, firstOf, sizeOf}
+use Rattle.run_code.proofs.Entries.{what-at, second-at}
 use Rattle.run_code.proofs.RowKinds.{kindFrom}
 use Rattle.run_code.proofs.Referred.{referred-higher}
-use Rattle.run_code.proofs.Codes.{few, here, row-is, first-is, second-is, third-is, content-is, seen, assign-row}
+use Rattle.run_code.proofs.Codes.{subscripted, few, here, literal-is, first-is, second-is, third-is, content-is, seen, assign-row}
 use Rattle.run_values.specs.Targets.{targetIndex, assignedIndex}
 use Rattle.run_values.proofs.NoExpressions.{no-expr, no-target, no-assigned}
-use Rattle.run_values.proofs.Elements.{at, indexBy, named, element-second, element-content, element-row, element-found, assigned-found}
+use Rattle.run_values.proofs.Elements.{at, indexBy, element-content, element-row, element-found, assigned-found}
 
-module _ {rows code : List ℤ} (p : Prepared rows code) (r : ℕ) (h : r ≤ 1024) where
+module _ {rows : List ℤ} {code : List ℕ} (p : Prepared rows code) (r : ℕ) (h : r ≤ 1024) where
   -- what an expression's row refers to
   abbrev Above : ℕ → Type 0
   Above b = (r < b) × (b ≤ 1024)
@@ -41,7 +41,7 @@ module _ {rows code : List ℤ} (p : Prepared rows code) (r : ℕ) (h : r ≤ 10
   pub subscript-higher : {b : ℕ} → placeAt code r 0 ≡ 4 → b ≡ placeAt code r 2 → Above b
   subscript-higher e q =
       let w = element-row p r h 4 e refl in
-      rw (q ∙ second-at p r h ∙ ap (λ (w : Row). w .second) w ∙ element-second rows [] (named p r h) (referredRow rows r 2) (sym (what-at p r h ∙ ap (λ (w : Row). w .what) w) ∙ e)) (above 2 (here p r h 4 e (λ z. omega arith)))
+      rw (q ∙ second-at p r h ∙ ap (λ (w : Row). w .second) w ∙ subscripted rows (naturalAt rows r 1) (referredRow rows r 2) (sym (what-at p r h ∙ ap (λ (w : Row). w .what) w) ∙ e) .1) (above 2 (here p r h 4 e (λ z. omega arith)))
 
   pub operand-higher : {b : ℕ} → placeAt code r 0 ≡ 5 → b ≡ placeAt code r 2 → Above b
   operand-higher e q = rw (q ∙ second-is p r h 5 e (λ z. omega arith)) (above 2 (here p r h 5 e (λ z. omega arith)))
@@ -57,13 +57,13 @@ module _ {rows code : List ℤ} (p : Prepared rows code) (r : ℕ) (h : r ≤ 10
     of : {c : Content} → contentAt rows r ≡ c → at rows cells r ≡ value cells (c .expr)
     of e = ap (λ (c : Content). value cells (c .expr)) e
 
-    pub literal-value : placeAt code r 0 ≡ 1 → {x : ℤ} → x ≡ entryAt code r 1 → Number x ≡ at rows cells r
+    pub literal-value : placeAt code r 0 ≡ 1 → {x : ℤ} → x ≡ literalOf code r → Number x ≡ at rows cells r
     unfolding value
     literal-value e q =
-        ap Number (q ∙ number-at p r h ∙ ap (λ (w : Row). w .number) (row-is p r h 1 e (λ z. omega arith))) ∙ sym (of (content-is p r h 1 e (λ z. omega arith)))
+        ap Number (q ∙ literal-is p r h e) ∙ sym (of (content-is p r h 1 e (λ z. omega arith)))
 
     -- an element, by its numbers
-    element-at : (n : ℕ) → placeAt code r 0 ≡ n → kindFrom n ≡ 11 → at rows cells r ≡ readCell cells (indexBy rows cells n (entryAt code r 1) (placeAt code r 2) (placeAt code r 6))
+    element-at : (n : ℕ) → placeAt code r 0 ≡ n → kindFrom n ≡ 11 → at rows cells r ≡ readCell cells (indexBy rows cells n (placeAt code r 1) (placeAt code r 2) (firstOf code r) (sizeOf code r))
     unfolding value
     element-at n e i = of (element-content p r h n e i) ∙ ap (readCell cells) (element-found p r h n e i cells)
 
@@ -73,9 +73,9 @@ module _ {rows code : List ℤ} (p : Prepared rows code) (r : ℕ) (h : r ≤ 10
     pub outside-value : placeAt code r 0 ≡ 3 → Missing 2 ≡ at rows cells r
     outside-value e = sym (element-at 3 e refl)
 
-    pub element-value : placeAt code r 0 ≡ 4 → {first size b : ℕ} {u v : Value} → first ≡ placeAt code r 1 → size ≡ placeAt code r 6
+    pub element-value : placeAt code r 0 ≡ 4 → {d first size b : ℕ} {u v : Value} → d ≡ placeAt code r 1 → first ≡ placeAt code d 1 → size ≡ placeAt code d 2
         → b ≡ placeAt code r 2 → u ≡ at rows cells b → v ≡ readCell cells (inArray first size u) → v ≡ at rows cells r
-    element-value e q s m n t = t ∙ rw (q, s, n, m) (sym (element-at 4 e refl))
+    element-value e a q s m n t = t ∙ rw (q, s, a, n, m) (sym (element-at 4 e refl))
 
     pub monadic-value : placeAt code r 0 ≡ 5 → {op b : ℕ} {u v : Value} → op ≡ placeAt code r 1 → b ≡ placeAt code r 2 → u ≡ at rows cells b
         → v ≡ whenNumber u (monadicOf op) → v ≡ at rows cells r
@@ -116,7 +116,7 @@ module _ {rows code : List ℤ} (p : Prepared rows code) (r : ℕ) (h : r ≤ 10
           ∙ combined w (g ∙ ap (at rows cells) f)
 
     -- ---- the cell of a target
-    target-at : (n : ℕ) → placeAt code r 0 ≡ n → kindFrom n ≡ 11 → indexBy rows cells n (entryAt code r 1) (placeAt code r 2) (placeAt code r 6) ≡ targetIndex cells (contentAt rows r .target)
+    target-at : (n : ℕ) → placeAt code r 0 ≡ n → kindFrom n ≡ 11 → indexBy rows cells n (placeAt code r 1) (placeAt code r 2) (firstOf code r) (sizeOf code r) ≡ targetIndex cells (contentAt rows r .target)
     unfolding index
     target-at n e i = sym (element-found p r h n e i cells) ∙ sym (ap (λ (c : Content). targetIndex cells (c .target)) (element-content p r h n e i))
 
@@ -126,12 +126,12 @@ module _ {rows code : List ℤ} (p : Prepared rows code) (r : ℕ) (h : r ≤ 10
     pub outside-target : placeAt code r 0 ≡ 3 → Fails 2 ≡ targetIndex cells (contentAt rows r .target)
     outside-target e = target-at 3 e refl
 
-    pub element-target : placeAt code r 0 ≡ 4 → {i : Index} → i ≡ index cells (placeAt code r 1) (placeAt code r 6) (contentAt rows (placeAt code r 2) .expr) → i ≡ targetIndex cells (contentAt rows r .target)
+    pub element-target : placeAt code r 0 ≡ 4 → {i : Index} → i ≡ index cells (firstOf code r) (sizeOf code r) (contentAt rows (placeAt code r 2) .expr) → i ≡ targetIndex cells (contentAt rows r .target)
     unfolding index
     element-target e q = q ∙ target-at 4 e refl
 
     -- ---- the cell that is assigned to
-    assigned-at : (m : ℕ) → placeAt code r 0 ≡ 44 + m → kindFrom (44 + m) ≡ 22 → indexBy rows cells m (entryAt code r 1) (placeAt code r 2) (placeAt code r 6) ≡ assignedIndex cells (actionOf (processAt (program rows) r))
+    assigned-at : (m : ℕ) → placeAt code r 0 ≡ 44 + m → kindFrom (44 + m) ≡ 22 → indexBy rows cells m (placeAt code r 1) (placeAt code r 2) (firstOf code r) (sizeOf code r) ≡ assignedIndex cells (actionOf (processAt (program rows) r))
     unfolding index
     assigned-at m e i =
         sym (assigned-found p r h m e i cells)
@@ -141,7 +141,7 @@ module _ {rows code : List ℤ} (p : Prepared rows code) (r : ℕ) (h : r ≤ 10
     pub cell-assigned : placeAt code r 0 ≡ 46 → {n : ℕ} → n ≡ placeAt code r 1 → At n ≡ assignedIndex cells (actionOf (processAt (program rows) r))
     cell-assigned e q = ap At q ∙ assigned-at 2 e refl
 
-    pub element-assigned : placeAt code r 0 ≡ 48 → {i : Index} → i ≡ index cells (placeAt code r 1) (placeAt code r 6) (contentAt rows (placeAt code r 2) .expr) → i ≡ assignedIndex cells (actionOf (processAt (program rows) r))
+    pub element-assigned : placeAt code r 0 ≡ 48 → {i : Index} → i ≡ index cells (firstOf code r) (sizeOf code r) (contentAt rows (placeAt code r 2) .expr) → i ≡ assignedIndex cells (actionOf (processAt (program rows) r))
     unfolding index
     element-assigned e q = q ∙ assigned-at 4 e refl
 

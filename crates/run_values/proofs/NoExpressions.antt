@@ -12,7 +12,6 @@ use Rattle.meaning.specs.declared.Node.the-variants.{Literal, Element, Monadic,
 use Rattle.meaning.specs.declared.Value.the-variants.{Missing}
 use Rattle.meaning.specs.declared.Index.the-variants.{Fails}
 use Rattle.meaning.specs.Rows.{rowCount, naturalAt, kindAt}
-use Rattle.meaning.specs.Declarations.{variableAt}
 use Rattle.meaning.specs.Nodes.{nodeAt}
 use Rattle.meaning.specs.Tree.{Process, Content, contentOf, contentAt, actionOf, orStop}
 use Rattle.meaning.specs.State.{program, processAt}
@@ -72,7 +71,7 @@ kind-of rows r =
     (if-else (Kind k) (eqb k 43) (λ e. tt)
     tt)))))))))))))))))
 
-module _ {rows code : List ℤ} (p : Prepared rows code) (r : ℕ) (h : r ≤ 1024) (cells : List Message) where
+module _ {rows : List ℤ} {code : List ℕ} (p : Prepared rows code) (r : ℕ) (h : r ≤ 1024) (cells : List Message) where
   abbrev Not : ℕ → Type 0
   Not n = placeAt code r 0 ≡ n → ⊥
 
@@ -87,17 +86,17 @@ module _ {rows code : List ℤ} (p : Prepared rows code) (r : ℕ) (h : r ≤ 10
     what k e = what-at p r h ∙ ap (λ (w : Row). w .what) (row-of-kind rows r k (kind-in rows r k l e))
 
     an-element : kindAt rows r ≡ 11 → {A : Type 0} → Not 2 → Not 3 → Not 4 → A
-    an-element e x y z = go (element-what rows (variableAt rows (naturalAt rows r 1)) (referredRow rows r 2))
+    an-element e x y z = go (element-what rows (naturalAt rows r 1) (referredRow rows r 2))
       where
-        go : {A : Type 0} → IsElement (subscriptedRow rows (variableAt rows (naturalAt rows r 1)) (referredRow rows r 2) .what) → A
+        go : {A : Type 0} → IsElement (subscriptedRow rows (naturalAt rows r 1) (referredRow rows r 2) .what) → A
         go (isCell i) = absurd (x (what 11 e ∙ i))
         go (isOutside i) = absurd (y (what 11 e ∙ i))
         go (isSubscripted i) = absurd (z (what 11 e ∙ i))
 
     an-assignment : kindAt rows r ≡ 22 → {A : Type 0} → Not 46 → Not 47 → Not 48 → A
-    an-assignment e x y z = go (element-what rows (variableAt rows (naturalAt rows r 1)) (referredRow rows r 2))
+    an-assignment e x y z = go (element-what rows (naturalAt rows r 1) (referredRow rows r 2))
       where
-        go : {A : Type 0} → IsElement (subscriptedRow rows (variableAt rows (naturalAt rows r 1)) (referredRow rows r 2) .what) → A
+        go : {A : Type 0} → IsElement (subscriptedRow rows (naturalAt rows r 1) (referredRow rows r 2) .what) → A
         go (isCell i) = absurd (x (what 22 e ∙ ap (λ (n : ℕ). 44 + n) i))
         go (isOutside i) = absurd (y (what 22 e ∙ ap (λ (n : ℕ). 44 + n) i))
         go (isSubscripted i) = absurd (z (what 22 e ∙ ap (λ (n : ℕ). 44 + n) i))

@@ -1,6 +1,6 @@
 -- The cells that the machine's arrays hold, and the run's state as it holds them: a state with one cell changed.
 use mathlib.Core.List.{List, [], _∷_}
-use Prim.Native.Nat.{ℕ, zero, suc, _+_}
+use Prim.Native.Nat.{ℕ, zero, suc}
 use lib.IntN.{ℤ, pos}
 use lib.ListN.{getD, set, replicate, drop}
 use Rattle.meaning.specs.Values.{Message}

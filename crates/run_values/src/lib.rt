@@ -5,22 +5,19 @@ ghost use mathlib.Core.List.{List};
 ghost use Prim.Native.Nat.{_≤_};
 ghost use lib.IntN.{ℤ};
 ghost use lib.ListN.{getD};
-ghost use lib.Signed.{nonNeg};
-ghost use lib.Dec.{T};
 ghost use Rattle.meaning.specs.Tree.{contentAt, actionOf};
 ghost use Rattle.meaning.specs.Values.{isTrue, truth, operate, monadicOf, whenNumber, cellValue, readCell};
 ghost use Rattle.meaning.specs.Values as meaning;
 ghost use Rattle.run_values.specs.Cells.{cellsIn};
 ghost use Rattle.meaning.specs.State.{program, processAt};
-ghost use Rattle.run_code.specs.Prepared.{Prepared, entryAt, placeAt};
+ghost use Rattle.run_code.specs.Prepared.{Prepared, placeAt, firstOf, sizeOf};
 ghost use Rattle.run_values.specs.Targets.{targetIndex, assignedIndex};
 
 pub mod store; // store.rt: the cells, by value
 
 use meaning::Index;
 use meaning::Value;
-use run_code::first;
-use run_code::number;
+use run_code::literal;
 use run_code::place;
 
 // What a cell gives: its number if it is set, else reason 1.
@@ -78,7 +75,7 @@ pub fn decided(x: i32) -> Value
 
 // The value of the expression of row r, or the first reason met.
 pub fn eval<'a>(
-    code: &'a [i32; 10250],
+    code: &'a [u16; 6150],
     values: &'a [i32; 256],
     marks: &'a [u8; 256],
     r: usize,
@@ -88,23 +85,24 @@ pub fn eval<'a>(
     ensures { λ v. ⌜ ((rows : List ℤ) → Prepared rows (now (code .entry)) → v ≡ meaning.value (cellsIn (now (values .entry)) (now (marks .entry))) (contentAt rows r .expr)) ⌝ }
 {
     match place(code, r, 0) {
-        1 => Value::Number(number(code, r)),
-        2 => cell(values, marks, first(code, r) as usize),
+        1 => Value::Number(literal(code, r)),
+        2 => cell(values, marks, place(code, r, 1) as usize),
         3 => Value::Missing(2),
         4 => {
             let i = eval(code, values, marks, place(code, r, 2) as usize);
+            let d = place(code, r, 1) as usize;
             cell_at(
                 values,
                 marks,
-                base_numbers::subscript(first(code, r), place(code, r, 6), i),
+                base_numbers::subscript(place(code, d, 1), place(code, d, 2), i),
             )
         }
         5 => {
             let v = eval(code, values, marks, place(code, r, 2) as usize);
-            monadic(first(code, r), v)
+            monadic(place(code, r, 1), v)
         }
         6 => {
-            let op = first(code, r);
+            let op = place(code, r, 1);
             let v = eval(code, values, marks, place(code, r, 2) as usize);
             match v {
                 Value::Missing(k) => Value::Missing(k),
@@ -120,24 +118,25 @@ pub fn eval<'a>(
     }
 }
 
-// The cell or channel element of row r: its numbers 1 and 6 tell the first and how many, the expression of its second row is the subscript.
+// The cell or channel element of row r: its number 1 is the row of the declaration, which tells the first and how many, the expression of its second row is the subscript.
 pub fn index<'a>(
-    code: &'a [i32; 10250],
+    code: &'a [u16; 6150],
     values: &'a [i32; 256],
     marks: &'a [u8; 256],
     r: usize,
 ) -> Index
     requires table { ⌜ ((rows : List ℤ) × Prepared rows (now code)) ⌝ }
-    requires inside { ⌜ (r ≤ 1024) × T (nonNeg (entryAt (now code) r 1)) ⌝ }
-    ensures { λ i. ⌜ ((rows : List ℤ) → Prepared rows (now (code .entry)) → i ≡ meaning.index (cellsIn (now (values .entry)) (now (marks .entry))) (placeAt (now (code .entry)) r 1) (placeAt (now (code .entry)) r 6) (contentAt rows (placeAt (now (code .entry)) r 2) .expr)) ⌝ }
+    requires inside { ⌜ (r ≤ 1024) × (2 ≤ placeAt (now code) r 0) ⌝ }
+    ensures { λ i. ⌜ ((rows : List ℤ) → Prepared rows (now (code .entry)) → i ≡ meaning.index (cellsIn (now (values .entry)) (now (marks .entry))) (firstOf (now (code .entry)) r) (sizeOf (now (code .entry)) r) (contentAt rows (placeAt (now (code .entry)) r 2) .expr)) ⌝ }
 {
     let v = eval(code, values, marks, place(code, r, 2) as usize);
-    base_numbers::subscript(first(code, r), place(code, r, 6), v)
+    let d = place(code, r, 1) as usize;
+    base_numbers::subscript(place(code, d, 1), place(code, d, 2), v)
 }
 
 // The cell that the element of row r means as a target, or why there is none.
 pub fn target<'a>(
-    code: &'a [i32; 10250],
+    code: &'a [u16; 6150],
     values: &'a [i32; 256],
     marks: &'a [u8; 256],
     r: usize,
@@ -147,7 +146,7 @@ pub fn target<'a>(
     ensures { λ i. ⌜ ((rows : List ℤ) → Prepared rows (now (code .entry)) → i ≡ targetIndex (cellsIn (now (values .entry)) (now (marks .entry))) (contentAt rows r .target)) ⌝ }
 {
     match place(code, r, 0) {
-        2 => Index::At(first(code, r) as usize),
+        2 => Index::At(place(code, r, 1) as usize),
         3 => Index::Fails(2),
         4 => index(code, values, marks, r),
         _ => Index::Fails(0),
@@ -156,7 +155,7 @@ pub fn target<'a>(
 
 // The cell that the assignment of row r assigns to, or why there is none; reason 2 where row r is no assignment.
 pub fn assigned<'a>(
-    code: &'a [i32; 10250],
+    code: &'a [u16; 6150],
     values: &'a [i32; 256],
     marks: &'a [u8; 256],
     r: usize,
@@ -166,7 +165,7 @@ pub fn assigned<'a>(
     ensures { λ i. ⌜ ((rows : List ℤ) → Prepared rows (now (code .entry)) → i ≡ assignedIndex (cellsIn (now (values .entry)) (now (marks .entry))) (actionOf (processAt (program rows) r))) ⌝ }
 {
     match place(code, r, 0) {
-        46 => Index::At(first(code, r) as usize),
+        46 => Index::At(place(code, r, 1) as usize),
         48 => index(code, values, marks, r),
         _ => Index::Fails(2),
     }

@@ -2,4 +2,3 @@ pub mod Copies
 pub mod Packing
 pub mod Verdicts
 pub mod Values
-pub mod SheetAnswers

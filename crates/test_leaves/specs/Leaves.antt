@@ -13,9 +13,8 @@ use Rattle.meaning.specs.Buffers.{decoded}
 use Rattle.meaning.specs.Answers.{check}
 use Rattle.meaning.specs.declared.Value.{Value}
 use Rattle.meaning.specs.declared.Value.the-variants.{Missing}
-use Rattle.meaning.specs.declared.Verdict.{Verdict}
-use Rattle.meaning.specs.declared.Verdict.the-variants.{Accepted, Rejected}
 use Rattle.read_sheet.specs.declared.SheetRead.{SheetRead}
+use Rattle.read_sheet.specs.declared.SheetRead.the-variants.{Lines, Full, Refused}
 use Rattle.test_leaves.specs.Lent.{copied}
 
 -- the stages 3 to 6 of the verdict on rows
@@ -41,11 +40,12 @@ pub record SheetAnswer : Type 0 where
   pub marks : List ℕ
   pub place : List ℕ
 
--- a refusal with its line, or the readings with the count of lines
-abbrev pub sheetBy : Verdict → SheetRead → List ℤ → List ℕ → List ℕ → SheetAnswer
-sheetBy Accepted s values marks place =
-    record { answer = 0; values = copied (s .values) values; marks = copied (s .marks) marks; place = set place 0 (s .lines) }
-sheetBy (Rejected number p) s values marks place = record { answer = number; values = values; marks = marks; place = set place 0 p }
+-- a refusal with its line; that there is no room; or the count of lines
+abbrev pub sheetAnswer : SheetRead → List ℤ → List ℕ → List ℕ → SheetAnswer
+sheetAnswer (Lines n) values marks place = record { answer = 0; values = values; marks = marks; place = set place 0 n }
+sheetAnswer Full values marks place = record { answer = 1; values = values; marks = marks; place = place }
+sheetAnswer (Refused p) values marks place = record { answer = 10; values = values; marks = marks; place = set place 0 p }
 
-abbrev pub sheetLent : SheetRead → List ℤ → List ℕ → List ℕ → SheetAnswer
-sheetLent s values marks place = sheetBy (s .verdict) s values marks place
+-- with what the buffers hold
+abbrev pub sheetLent : SheetRead × List ℤ × List ℕ → List ℕ → SheetAnswer
+sheetLent w place = sheetAnswer (w .0) (w .1) (w .2) place

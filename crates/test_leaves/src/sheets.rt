@@ -1,12 +1,12 @@
-// A readings sheet: its verdict, and its readings in lent buffers of 1,024 places.
+// A readings sheet: its refusal, or its readings in two lent buffers, 128 places for each channel.
 ghost use mathlib.Core.Path.{_≡_};
 ghost use Rattle.read_sheet.specs.SheetRead.{sheetRead};
 ghost use Rattle.test_leaves.specs.Leaves.{sheetLent};
 use crate::lending;
-use meaning::Verdict;
+use read_sheet::SheetRead;
 
-// 10 and the line at the start of `place`, and nothing else, if the sheet is refused. Else 0, the count of lines of values at the
-// start of `place`, and the readings and their marks where a buffer has the length.
+// 10 and the line at the start of `place`, if the sheet is refused. 1 if a buffer has no room for the channels. Else 0 and the count of
+// lines of values at the start of `place`.
 #[no_mangle]
 pub extern "C" fn leaf_sheet(
     rows: &[i32],
@@ -15,21 +15,16 @@ pub extern "C" fn leaf_sheet(
     marks: &mut [u8],
     place: &mut [u32],
 ) -> u32
-    ensures { λ r. ⌜ record { answer = r; values = now (values .exit); marks = now (marks .exit); place = now (place .exit) } ≡ sheetLent (sheetRead (now (rows .entry)) (now (sheet .entry))) (now (values .entry)) (now (marks .entry)) (now (place .entry)) ⌝ }
+    ensures { λ r. ⌜ record { answer = r; values = now (values .exit); marks = now (marks .exit); place = now (place .exit) } ≡ sheetLent (sheetRead (now (rows .entry)) (now (sheet .entry)) (now (values .entry)) (now (marks .entry))) (now (place .entry)) ⌝ }
 {
-    let read = read_sheet::read_sheet(rows, sheet);
-    let verdict = read.verdict;
-    match verdict {
-        Verdict::Rejected(number, line) => {
+    match read_sheet::read_sheet(rows, sheet, values, marks) {
+        SheetRead::Refused(line) => {
             lending::put_place(line, place);
-            number as u32
+            10
         }
-        Verdict::Accepted => {
-            let readings = read.values;
-            lending::put_numbers(&readings, values);
-            let present = read.marks;
-            lending::put_marks(&present, marks);
-            lending::put_place(read.lines as u32, place);
+        SheetRead::Full => 1,
+        SheetRead::Lines(n) => {
+            lending::put_place(n as u32, place);
             0
         }
     }

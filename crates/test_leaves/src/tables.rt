@@ -11,20 +11,17 @@ ghost use Rattle.test_leaves.specs.Leaves.{formOfBytes, cellsLent, value
 use crate::lending;
 use meaning::Value;
 use meaning::Verdict;
+use read_table::TableRead;
 
 // The verdict on a table's bytes by the stages 2 to 6.
 fn form_of_bytes(bytes: &[u8]) -> Verdict
     ensures { λ v. ⌜ v ≡ verdictOf (formOfBytes (now (bytes .entry))) ⌝ }
 {
-    let read = read_table::read_table(bytes);
-    let verdict = read.verdict;
-    match verdict {
-        Verdict::Rejected(number, place) => Verdict::Rejected(number, place),
-        Verdict::Accepted => {
-            let n = 4 * read.count;
-            let rows = read.rows;
-            check_form::check_form(&rows[..n])
-        }
+    let mut rows = [0i32; 4096];
+    match read_table::read_table(bytes, &mut rows) {
+        TableRead::Refused(number, place) => Verdict::Rejected(number, place),
+        TableRead::Rows(n) => check_form::check_form(&rows[..4 * n]),
+        TableRead::Full => Verdict::Rejected(3, 1024),
     }
 }
 
@@ -42,7 +39,8 @@ fn value_in<'a>(rows: &'a [i32], values: &'a [i32], marks: &'a [u8], r: usize) -
     requires inside { ⌜ r < rowCount (now rows) ⌝ }
     ensures { λ v. ⌜ v ≡ value (cellsLent (now (values .entry)) (now (marks .entry))) (contentAt (now (rows .entry)) r .expr) ⌝ }
 {
-    let code = run_preparing::prepare(rows).numbers;
+    let mut code = [0u16; 6150];
+    run_preparing::prepare(rows, &mut code);
     let mut cells = [0i32; 256];
     lending::put_numbers(values, &mut cells);
     let mut given = [0u8; 256];

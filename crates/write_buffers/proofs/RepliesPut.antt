@@ -1,22 +1,22 @@
 -- A reply put into lent buffers is the reply to the call that lent them; and what holds of buffers that are not too short.
 use mathlib.Core.Path.{_≡_, refl, sym, ap, _∙_}
 use mathlib.Core.Bool.{Bool, true, false, _||_, false≢true}
-use mathlib.Core.List.{List, _++_, map, append-nil}
-use Prim.Native.Nat.{ℕ, _+_, _≤_}
-use native.Mathlib.Omega.{arith}
+use mathlib.Core.List.{List, map}
+use Prim.Native.Nat.{ℕ}
 use lib.IntN.{ℤ, pos}
-use lib.ListN.{length, replicate, length-append, length-replicate, length-take, drop-of-length-le}
+use lib.ListN.{length, replicate}
 use lib.Dec.{ltb}
 use borrow.Author.Tests.{ltb-false}
 use Rattle.meaning.specs.Limits.{maxRows, maxCells, maxHostChannels, maxCapacity}
 use Rattle.meaning.specs.State.{State}
-use Rattle.meaning.specs.Buffers.{Buffers, mark, numberIn, capacities, strips, sized, lent, encode}
+use Rattle.meaning.specs.Buffers.{Buffers, mark, numberIn, capacities, strips, lent, encode}
 use Rattle.meaning.specs.TableBytes.{rowsOf}
 use Rattle.meaning.specs.Stages.{bufferFault}
 use Rattle.meaning.specs.Answers.{Task, Result, Reply, refused, ran, replyOf, unless, result, resultOfBytes, reply, replyToBytes}
 use Rattle.meaning.specs.declared.Outcome.{Outcome}
 use Rattle.meaning.specs.declared.Answer.the-variants.{Refused, Ran}
 use Rattle.meaning.proofs.AnswerLaws.{reply-stages, reply-to-bytes}
+use Rattle.meaning.proofs.LentLaws.{sized-length, lent-blank}
 use Rattle.machine.specs.Held.{blank}
 use Rattle.write_buffers.specs.declared.Done.{Done}
 use Rattle.write_buffers.specs.Replies.{past, replyIn, over, putReply, anyShort, Long}
@@ -29,19 +29,10 @@ module _ (d : Done) (b : Buffers) where
   put-ran o k n r e h = rw (e, h)
 
 module _ {A : Type 0} where
-  sized-length : (n : ℕ) (d : A) (xs : List A) → length (sized n d xs) ≡ n
-  unfolding sized
-  sized-length n d xs = omega (arith, length-take n (xs ++ replicate n d), length-append xs (replicate n d), length-replicate n d)
-
-  -- over zeros as long as the limit nothing is past it
-  lent-blank : (n : ℕ) (d : A) (xs : List A) → lent n d xs (replicate n d) ≡ sized n d xs
-  unfolding lent
-  lent-blank n d xs = let whole : length (replicate n d) ≤ n = omega (arith, length-replicate n d) in rw (drop-of-length-le (replicate n d) {i = n} whole) (append-nil (sized n d xs))
-
-  -- so a list in a lent buffer is what it is over zeros, with what is past the limit
+  -- a list in a lent buffer is what it is over zeros, with what is past the limit
   lent-past : (n : ℕ) (d : A) (xs old : List A) → past (lent n d xs (replicate n d)) old ≡ lent n d xs old
   unfolding lent
-  lent-past n d xs old = rw (lent-blank n d xs, sized-length n d xs)
+  lent-past n d xs old = rw (lent-blank d n xs, sized-length d n xs)
 
 -- a run's arrays over the first places of the buffers are what the run leaves there
 over-encoded : (rows : List ℤ) (s : State) (b : Buffers) → over (encode rows s blank) b ≡ encode rows s b

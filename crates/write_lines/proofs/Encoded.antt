@@ -3,12 +3,12 @@ use mathlib.Core.Path.{_≡_, refl, sym, ap, ap₂, _∙_}
 use mathlib.Core.Bool.{true, false≢true}
 use mathlib.Core.List.{List, [], _∷_, _++_, map, append-assoc}
 use mathlib.Core.Option.{none, some}
-use Prim.Native.Nat.{ℕ, zero, suc, _+_, _-_, _*_, _≤_}
+use Prim.Native.Nat.{ℕ, zero, suc, _+_, _*_, _≤_}
 use native.Mathlib.Numerals.{add-one}
 use native.Mathlib.Omega.{arith}
 use lib.IntN.{ℤ, pos}
-use lib.ListN.{length, take, drop, replicate, length-append, length-take, length-drop, length-replicate, length-map}
-use lib.Seq.{take-all, take-append-le, take-append-add, take-append-seam, drop-append-le, take-at, drop-at}
+use lib.ListN.{length, take, drop, length-append, length-drop, length-map}
+use lib.Seq.{take-all, take-append-le, drop-append-le, take-at, drop-at}
 use Rattle.meaning.specs.declared.Outcome.{Outcome}
 use Rattle.meaning.specs.Limits.{maxRows, maxCells, maxHostChannels, maxCapacity}
 use Rattle.meaning.specs.Rows.{rowCount}
@@ -16,41 +16,14 @@ use Rattle.meaning.specs.Basics.{isSome}
 use Rattle.meaning.specs.Declarations.{declarations, sumBelow, cellsAt, capacityAt, totalCells, hostChannels, channels}
 use Rattle.meaning.specs.Values.{Message}
 use Rattle.meaning.specs.State.{State}
-use Rattle.meaning.specs.Buffers.{Buffers, sized, lent, mark, numberIn, decoded, capacities, strips, encode}
+use Rattle.meaning.specs.Buffers.{Buffers, sized, mark, numberIn, decoded, capacities, strips, encode}
 use Rattle.meaning.specs.Printing.{Line, varWord, numbered, cellsOf, cellLines, outLines, stopLines, outcomeLine, endLines, printedLines}
 use Rattle.meaning.specs.Answers.{ran}
 use Rattle.meaning.specs.Runner.{printedResult}
 use Rattle.meaning.specs.PrintedForms.{Each, each-none, each-more}
-use Rattle.meaning.specs.Run.{RunResult}
+use Rattle.meaning.proofs.LentLaws.{sized-length, sized-is, lent-front, lent-whole}
 use Rattle.write_lines.specs.Decoding.{outputsIn, tableRows, stateIn}
 use Rattle.write_lines.proofs.RowLines.{cellsBelow, cells-below-none, cells-below-all, cells-below-more, total, host-channels-below, capacities-below}
-
--- Lent buffers ----------------------------------------------------------------------------------------------------------------------
-
-module _ {A : Type 0} (limit : ℕ) (d : A) (xs old : List A) where
-  length-sized : length (sized limit d xs) ≡ limit
-  unfolding sized
-  length-sized = omega (arith, length-take limit (xs ++ replicate limit d), length-append xs (replicate limit d), length-replicate limit d)
-
-  -- what stands in the buffer up to its limit
-  lent-front : take limit (lent limit d xs old) ≡ sized limit d xs
-  unfolding lent
-  lent-front = take-at (sized limit d xs) (drop limit old) limit length-sized
-
-  -- a list that fits, and something behind it
-  sized-long : length xs ≤ limit → sized limit d xs ≡ xs ++ take (limit - length xs) (replicate limit d)
-  unfolding sized
-  sized-long h = ap (λ (n : ℕ). take n (xs ++ replicate limit d)) room ∙ take-append-add xs (replicate limit d) (limit - length xs)
-    where
-      room : limit ≡ length xs + (limit - length xs)
-      room = omega arith
-
-  lent-take : length xs ≤ limit → take (length xs) (lent limit d xs old) ≡ xs
-  unfolding lent
-  lent-take h =
-      take-append-le (length xs) (sized limit d xs) (drop limit old) (omega (arith, length-sized))
-      ∙ ap (take (length xs)) (sized-long h)
-      ∙ take-append-seam xs (take (limit - length xs) (replicate limit d))
 
 -- Cells -----------------------------------------------------------------------------------------------------------------------------
 
@@ -108,15 +81,15 @@ unfolding strips total
 length-strips f [] [] within-none = refl
 length-strips f (c ∷ cs) (xs ∷ xss) (within-more h n w) =
     length-append (sized (f c) (pos 0) (map numberIn xs)) (strips (map f cs) xss)
-    ∙ ap₂ (λ (i j : ℕ). i + j) (length-sized (f c) (pos 0) (map numberIn xs) []) (length-strips f cs xss w)
+    ∙ ap₂ (λ (i j : ℕ). i + j) (sized-length (pos 0) (f c) (map numberIn xs)) (length-strips f cs xss w)
 
 -- a strip's numbers, with whatever stands behind the strip
 strip-back : (k : ℕ) (xs : List Message) (zs : List ℤ) → length xs ≤ k → Numbers xs → map some (take (length xs) (sized k (pos 0) (map numberIn xs) ++ zs)) ≡ xs
 strip-back k xs zs h n =
     let e = length-map xs numberIn in
     ap (map some) (
-    take-append-le (length xs) (sized k (pos 0) (map numberIn xs)) zs (omega (arith, length-sized k (pos 0) (map numberIn xs) []))
-    ∙ ap (take (length xs)) (sized-long k (pos 0) (map numberIn xs) [] (omega (arith, e)))
+    take-append-le (length xs) (sized k (pos 0) (map numberIn xs)) zs (omega (arith, sized-length (pos 0) k (map numberIn xs)))
+    ∙ ap (take (length xs)) (sized-is (pos 0) k (map numberIn xs) (omega (arith, e)))
     ∙ take-at (map numberIn xs) _ (length xs) e
     )
     ∙ numbers-back xs n
@@ -126,7 +99,7 @@ unfolding outputsIn strips
 outputs-back [] [] counts zs within-none = refl
 outputs-back (k ∷ ks) (xs ∷ xss) counts zs (within-more h n w) =
     ap (λ (l : List ℤ). map some (take (length xs) l) ∷ outputsIn ks (map length xss ++ counts) (drop k l)) (append-assoc S (strips ks xss) zs)
-    ∙ ap₂ (λ (l : List Message) (m : List ℤ). l ∷ outputsIn ks (map length xss ++ counts) m) (strip-back k xs (strips ks xss ++ zs) h n) (drop-at S (strips ks xss ++ zs) k (length-sized k (pos 0) (map numberIn xs) []))
+    ∙ ap₂ (λ (l : List Message) (m : List ℤ). l ∷ outputsIn ks (map length xss ++ counts) m) (strip-back k xs (strips ks xss ++ zs) h n) (drop-at S (strips ks xss ++ zs) k (sized-length (pos 0) k (map numberIn xs)))
     ∙ ap {B = List (List Message)} (λ l. xs ∷ l) (outputs-back ks xss counts zs w)
   where
     S : List ℤ
@@ -157,8 +130,8 @@ module _ (rows : List ℤ) (s : State) (b : Buffers) (h : Held rows s) where
       let few : length (s .store .cells) ≤ maxCells = (let a = h .cells-all in let f = h .cells-few in omega arith) in
       ap (cellLines rows) (
       ap₂ decoded
-      (lent-front maxCells (pos 0) (map numberIn (s .store .cells)) (b .cells) ∙ sized-long maxCells (pos 0) (map numberIn (s .store .cells)) (b .cells) (omega (arith, length-map (s .store .cells) numberIn)))
-      (lent-front maxCells 0 (map mark (s .store .cells)) (b .marks) ∙ sized-long maxCells 0 (map mark (s .store .cells)) (b .marks) (omega (arith, length-map (s .store .cells) mark)))
+      (lent-front (pos 0) maxCells (map numberIn (s .store .cells)) (b .cells) ∙ sized-is (pos 0) maxCells (map numberIn (s .store .cells)) (omega (arith, length-map (s .store .cells) numberIn)))
+      (lent-front 0 maxCells (map mark (s .store .cells)) (b .marks) ∙ sized-is 0 maxCells (map mark (s .store .cells)) (omega (arith, length-map (s .store .cells) mark)))
       ∙ cells-back (s .store .cells) _ _
       )
       ∙ cell-lines-inside rows (s .store .cells) _ (h .cells-all)
@@ -180,13 +153,13 @@ module _ (rows : List ℤ) (s : State) (b : Buffers) (h : Held rows s) where
   unfolding encode
   outputs-said =
       ap₂ (outputsIn (capacities rows))
-      (lent-front maxHostChannels 0 (map length (s .store .outputs)) (b .counts) ∙ sized-long maxHostChannels 0 (map length (s .store .outputs)) (b .counts) lists-few)
-      (lent-front maxCapacity (pos 0) (strips (capacities rows) (s .store .outputs)) (b .numbers) ∙ sized-long maxCapacity (pos 0) (strips (capacities rows) (s .store .outputs)) (b .numbers) numbers-few)
+      (lent-front 0 maxHostChannels (map length (s .store .outputs)) (b .counts) ∙ sized-is 0 maxHostChannels (map length (s .store .outputs)) lists-few)
+      (lent-front (pos 0) maxCapacity (strips (capacities rows) (s .store .outputs)) (b .numbers) ∙ sized-is (pos 0) maxCapacity (strips (capacities rows) (s .store .outputs)) numbers-few)
       ∙ outputs-back (capacities rows) (s .store .outputs) _ _ (h .outputs-within)
 
   states-said : said .states ≡ s .states
   unfolding encode
-  states-said = ap (λ (k : ℕ). take k (lent maxRows 0 (s .states) (b .states))) (sym (h .states-all)) ∙ lent-take maxRows 0 (s .states) (b .states) (let f = h .rows-few in let a = h .states-all in omega arith)
+  states-said = lent-whole 0 maxRows (rowCount rows) (s .states) (b .states) (h .states-all) (h .rows-few)
 
   -- the lines of what is in the buffers are the lines of the run
   pub lines-said : (o : Outcome) (n : ℕ) → endLines rows o n said ≡ endLines rows o n s

@@ -1,10 +1,10 @@
 -- `change_of` meets its contract, by whether the row is an option.
-use mathlib.Core.Path.{refl, sym, ap, _∙_}
-use Prim.Native.Nat.{_≤_}
+use mathlib.Core.Path.{sym, ap, _∙_}
+use mathlib.Core.List.{List}
+use Prim.Native.Nat.{ℕ, _≤_}
 use native.Mathlib.Omega.{arith}
-use Rattle.meaning.specs.Rows.{naturalOf}
-use Rattle.run_code.proofs.Entries.{what-at, number-at, parent-at, strip-at}
-use Rattle.run_code.proofs.Inside.{first-natural}
+use Rattle.run_code.specs.Prepared.{stripAt}
+use Rattle.run_code.proofs.Entries.{what-at, first-at, parent-at}
 use Rattle.run_changes.specs.Changes.{rowNoted}
 use Rattle.run_changes.proofs.ChangesMade.{as-option, by-itself}
 use borrow.Author.Needs.{needs}
@@ -23,13 +23,8 @@ cast-owner c = search needs
 add-owner : tie.Need-add-owner
 add-owner c = search needs
 
-first-requires : tie.Need-first-requires
-first-requires c κs =
-    let at-if1 = c .before in
-    let start = at-if1 .before .before in
-    let (rows, P) = start .pre .0 in
-    let below = start .pre .1 in
-    (omega arith, first-natural P (start .args .j) (omega arith) 42 (sym (at-if1 .before .place .ensures) ∙ at-if1 .if1 .taken) refl)
+place-requires-3 : tie.Need-place-requires-3
+place-requires-3 c κs = search needs
 
 cast-option-change : tie.Need-cast-option-change
 cast-option-change c = search needs
@@ -48,29 +43,22 @@ returns c rows P =
     as-option (args .acts .now) (args .sent .now) (args .elements .now) (args .j) _ rows _ _
     (sym (what-at P (args .j) h) ∙ sym (at-if1 .before .place .ensures) ∙ at-if1 .if1 .taken)
     (ap rowNoted (at-place .place2 .ensures ∙ parent-at P (args .j) h))
-    (c .before .first .ensures ∙ ap naturalOf (number-at P (args .j) h))
+    (c .before .place3 .ensures ∙ first-at P (args .j) h)
     (c .option-change .ensures)
-
-place-requires-3 : tie.Need-place-requires-3
-place-requires-3 c κs = search needs
-
-cast-own-change : tie.Need-cast-own-change
-cast-own-change c = search needs
 
 own-change-requires : tie.Need-own-change-requires
 own-change-requires c κs = search needs
 
 returns-2 : tie.Need-returns-2
 returns-2 c rows P =
-    let at-place = c .before in
-    let at-if1 = at-place .before in
+    let at-if1 = c .before in
     let start = at-if1 .before .before in
     let args = start .args in
     let below = start .pre .1 in
     let h : _≤_ (args .j) 1024 = omega arith in
     by-itself (args .acts .now) (args .sent .now) (args .elements .now) (args .j) _ rows _
     (λ e. at-if1 .if1 .left (at-if1 .before .place .ensures ∙ what-at P (args .j) h ∙ e))
-    (at-place .place3 .ensures ∙ strip-at P (args .j) h)
+    (ap (λ (l : List ℕ). stripAt l (args .j)) (P .same))
     (c .own-change .ensures)
 
 pub change-of-spec : {M : Type 1} → statement M
@@ -81,11 +69,9 @@ change-of-spec =
     place-requires-2
     cast-owner
     add-owner
-    first-requires
+    place-requires-3
     cast-option-change
     option-change-requires
     returns
-    place-requires-3
-    cast-own-change
     own-change-requires
     returns-2)

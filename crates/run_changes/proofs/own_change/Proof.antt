@@ -2,6 +2,9 @@
 use mir.ValLaws.{toZ-ofZ}
 use mir.Val.{SFits}
 use mir.Syntax.{w32}
+use native.Mathlib.Omega.{arith}
+use Rattle.run_code.specs.Prepared.{stripAt}
+use Rattle.run_code.proofs.Inside.{first-inside}
 use Rattle.run_changes.proofs.ChangesMade.{own-made, own-rest}
 use borrow.Author.Needs.{needs}
 use Rattle.run_changes.proofs.own_change.Statement.{statement}
@@ -64,6 +67,21 @@ becomes-requires-4 c κs = search needs
 becomes-requires-5 : tie.Need-becomes-requires-5
 becomes-requires-5 c κs = search needs
 
+place-requires : tie.Need-place-requires
+place-requires c κs = search needs
+
+cast-d : tie.Need-cast-d
+cast-d c = search needs
+
+place-requires-2 : tie.Need-place-requires-2
+place-requires-2 c κs =
+    let start = c .before .before .before .before .before .before in
+    let below = start .pre .1 in
+    (rw (c .place .ensures) (first-inside (start .pre .0 .1) (start .args .j) (omega arith)), omega arith)
+
+cast-strip : tie.Need-cast-strip
+cast-strip c = search needs
+
 becomes-requires-6 : tie.Need-becomes-requires-6
 becomes-requires-6 c κs = search needs
 
@@ -78,7 +96,7 @@ returns c =
     let at = c .before in
     let start = at .before .before .before .before .before in
     let args = start .args in
-    own-made (args .acts .now) (args .sent .now) (args .elements .now) (args .j) _ (args .strip) 1 (at .match .keys1) (rw (← at .before .before .before .before .act .ensures) (c .becomes .ensures))
+    own-made (args .acts .now) (args .sent .now) (args .elements .now) (args .j) _ (stripAt (args .code .now) (args .j)) 1 (at .match .keys1) (rw (← at .before .before .before .before .act .ensures) (c .becomes .ensures))
 
 returns-2 : tie.Need-returns-2
 returns-2 c =
@@ -87,51 +105,51 @@ returns-2 c =
     let args = start .args in
     let x = at .before .before .handed .result in
     let f : SFits w32 x = search needs in
-    own-made (args .acts .now) (args .sent .now) (args .elements .now) (args .j) _ (args .strip) 2 (at .match .keys2) (rw (← at .before .before .before .act2 .ensures, ← at .before .before .handed .ensures) (rw (toZ-ofZ w32 x f) at (c .becomes2 .ensures)))
+    own-made (args .acts .now) (args .sent .now) (args .elements .now) (args .j) _ (stripAt (args .code .now) (args .j)) 2 (at .match .keys2) (rw (← at .before .before .before .act2 .ensures, ← at .before .before .handed .ensures) (rw (toZ-ofZ w32 x f) at (c .becomes2 .ensures)))
 
 returns-3 : tie.Need-returns-3
 returns-3 c =
     let at = c .before in
     let start = at .before .before .before .before .before in
     let args = start .args in
-    own-made (args .acts .now) (args .sent .now) (args .elements .now) (args .j) _ (args .strip) 3 (at .match .keys3) (c .becomes3 .ensures)
+    own-made (args .acts .now) (args .sent .now) (args .elements .now) (args .j) _ (stripAt (args .code .now) (args .j)) 3 (at .match .keys3) (c .becomes3 .ensures)
 
 returns-4 : tie.Need-returns-4
 returns-4 c =
     let at = c .before in
     let start = at .before .before .before .before .before in
     let args = start .args in
-    own-made (args .acts .now) (args .sent .now) (args .elements .now) (args .j) _ (args .strip) 4 (at .match .keys4) (rw (← at .before .before .before .before .act .ensures) (c .becomes4 .ensures))
+    own-made (args .acts .now) (args .sent .now) (args .elements .now) (args .j) _ (stripAt (args .code .now) (args .j)) 4 (at .match .keys4) (rw (← at .before .before .before .before .act .ensures) (c .becomes4 .ensures))
 
 returns-5 : tie.Need-returns-5
 returns-5 c =
     let at = c .before in
     let start = at .before .before .before .before .before in
     let args = start .args in
-    own-made (args .acts .now) (args .sent .now) (args .elements .now) (args .j) _ (args .strip) 5 (at .match .keys5) (rw (← at .before .before .before .before .act .ensures, ← at .before .before .before .act2 .ensures) (c .becomes5 .ensures))
+    own-made (args .acts .now) (args .sent .now) (args .elements .now) (args .j) _ (stripAt (args .code .now) (args .j)) 5 (at .match .keys5) (rw (← at .before .before .before .before .act .ensures, ← at .before .before .before .act2 .ensures) (c .becomes5 .ensures))
 
 returns-6 : tie.Need-returns-6
 returns-6 c =
-    let at = c .before in
+    let at = c .before .before .before in
     let start = at .before .before .before .before .before in
     let args = start .args in
     let x = at .before .before .handed .result in
     let f : SFits w32 x = search needs in
-    own-made (args .acts .now) (args .sent .now) (args .elements .now) (args .j) _ (args .strip) 6 (at .match .keys6) (rw (← at .before .before .before .before .act .ensures, ← at .before .before .handed .ensures) (rw (toZ-ofZ w32 x f) at (c .becomes6 .ensures)))
+    own-made (args .acts .now) (args .sent .now) (args .elements .now) (args .j) _ (stripAt (args .code .now) (args .j)) 6 (at .match .keys6) (rw (← at .before .before .before .before .act .ensures, ← at .before .before .handed .ensures, ← c .before .before .place .ensures, ← c .before .place2 .ensures) (rw (toZ-ofZ w32 x f) at (c .becomes6 .ensures)))
 
 returns-7 : tie.Need-returns-7
 returns-7 c =
     let at = c .before in
     let start = at .before .before .before .before .before in
     let args = start .args in
-    own-made (args .acts .now) (args .sent .now) (args .elements .now) (args .j) _ (args .strip) 7 (at .match .keys7) (rw (← at .before .before .before .before .act .ensures, ← at .before .before .before .act2 .ensures) (c .communicates .ensures))
+    own-made (args .acts .now) (args .sent .now) (args .elements .now) (args .j) _ (stripAt (args .code .now) (args .j)) 7 (at .match .keys7) (rw (← at .before .before .before .before .act .ensures, ← at .before .before .before .act2 .ensures) (c .communicates .ensures))
 
 returns-8 : tie.Need-returns-8
 returns-8 c =
     let at = c .before in
     let start = at .before .before .before .before .before in
     let args = start .args in
-    own-rest (args .acts .now) (args .sent .now) (args .elements .now) (args .j) _ (args .strip) (at .match .rest) (c .becomes7 .ensures)
+    own-rest (args .acts .now) (args .sent .now) (args .elements .now) (args .j) _ (stripAt (args .code .now) (args .j)) (at .match .rest) (c .becomes7 .ensures)
 
 pub own-change-spec : {M : Type 1} → statement M
 own-change-spec =
@@ -156,6 +174,10 @@ own-change-spec =
     becomes-requires-3
     becomes-requires-4
     becomes-requires-5
+    place-requires
+    cast-d
+    place-requires-2
+    cast-strip
     becomes-requires-6
     communicates-requires
     becomes-requires-7

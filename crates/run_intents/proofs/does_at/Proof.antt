@@ -1,8 +1,8 @@
 -- `does_at` meets its contract, by what the row is.
-use Rattle.run_code.proofs.Inside.{third-inside, first-natural, first-inside}
+use Rattle.run_code.proofs.Inside.{third-inside, first-inside}
 use Rattle.run_intents.proofs.Actions.{assigns, outside-stops, input-does, output-does, if-does, while-does, alt-does, other-does}
 use Rattle.run_values.specs.Cells.{cellsIn}
-use mathlib.Core.Path.{refl, sym, _∙_}
+use mathlib.Core.Path.{refl}
 use native.Mathlib.Omega.{arith}
 use borrow.Author.Needs.{needs}
 use Rattle.run_intents.proofs.does_at.Statement.{statement}
@@ -23,7 +23,7 @@ cast-eval c = search needs
 eval-requires : tie.Need-eval-requires
 eval-requires c κs =
     let s = c .before .before .before .before in
-    (s .pre .0, rw (c .place2 .ensures) (third-inside (s .pre .0 .1) (s .args .r) (s .pre .1)))
+    (s .pre .0, rw (c .place2 .ensures) (third-inside (s .pre .0 .1) (s .args .r) (s .pre .1) (omega (arith, c .before .before .before .place .ensures, c .before .before .match .keys1))))
 
 assignment-requires : tie.Need-assignment-requires
 assignment-requires c κs = search needs
@@ -40,7 +40,7 @@ cast-eval-2 c = search needs
 eval-requires-2 : tie.Need-eval-requires-2
 eval-requires-2 c κs =
     let s = c .before .before .before .before in
-    (s .pre .0, rw (c .place3 .ensures) (third-inside (s .pre .0 .1) (s .args .r) (s .pre .1)))
+    (s .pre .0, rw (c .place3 .ensures) (third-inside (s .pre .0 .1) (s .args .r) (s .pre .1) (omega (arith, c .before .before .before .place .ensures, c .before .before .match .keys3))))
 
 assignment-requires-2 : tie.Need-assignment-requires-2
 assignment-requires-2 c κs = search needs
@@ -51,10 +51,8 @@ input-does-requires c κs = search needs
 output-does-requires : tie.Need-output-does-requires
 output-does-requires c κs = search needs
 
-first-requires : tie.Need-first-requires
-first-requires c κs =
-    let s = c .before .before in
-    (s .pre .1, first-natural (s .pre .0 .1) (s .args .r) (s .pre .1) 32 (sym (c .before .place .ensures) ∙ c .match .keys6) refl)
+place-requires-4 : tie.Need-place-requires-4
+place-requires-4 c κs = search needs
 
 cast-choices-do : tie.Need-cast-choices-do
 cast-choices-do c = search needs
@@ -62,18 +60,16 @@ cast-choices-do c = search needs
 choices-do-requires : tie.Need-choices-do-requires
 choices-do-requires c κs =
     let s = c .before .before .before in
-    (s .pre .0, rw (c .first .ensures) (first-inside (s .pre .0 .1) (s .args .r) (s .pre .1) 32 (sym (c .before .before .place .ensures) ∙ c .before .match .keys6) (omega arith) (omega arith)))
+    (s .pre .0, rw (c .place4 .ensures) (first-inside (s .pre .0 .1) (s .args .r) (s .pre .1)))
 
-place-requires-4 : tie.Need-place-requires-4
-place-requires-4 c κs = search needs
+place-requires-5 : tie.Need-place-requires-5
+place-requires-5 c κs = search needs
 
 cast-tested : tie.Need-cast-tested
 cast-tested c = search needs
 
-first-requires-2 : tie.Need-first-requires-2
-first-requires-2 c κs =
-    let s = c .before .before .before in
-    (s .pre .1, first-natural (s .pre .0 .1) (s .args .r) (s .pre .1) 33 (sym (c .before .before .place .ensures) ∙ c .before .match .keys7) refl)
+place-requires-6 : tie.Need-place-requires-6
+place-requires-6 c κs = search needs
 
 cast-eval-3 : tie.Need-cast-eval-3
 cast-eval-3 c = search needs
@@ -81,7 +77,7 @@ cast-eval-3 c = search needs
 eval-requires-3 : tie.Need-eval-requires-3
 eval-requires-3 c κs =
     let s = c .before .before .before .before in
-    (s .pre .0, rw (c .first2 .ensures) (first-inside (s .pre .0 .1) (s .args .r) (s .pre .1) 33 (sym (c .before .before .before .place .ensures) ∙ c .before .before .match .keys7) (omega arith) (omega arith)))
+    (s .pre .0, rw (c .place6 .ensures) (first-inside (s .pre .0 .1) (s .args .r) (s .pre .1)))
 
 tested-requires : tie.Need-tested-requires
 tested-requires c κs = search needs
@@ -114,12 +110,12 @@ returns-5 c =
 returns-6 : tie.Need-returns-6
 returns-6 c =
     let s = c .before .before .before .before in
-    λ rows p. if-does p (s .args .lines) (cellsIn (s .args .values .now) (s .args .marks .now)) (s .args .places .now) (s .args .counts .now) (s .args .r) (s .pre .1) (c .before .before .before .place .ensures) (c .before .before .match .keys6) (c .before .first .ensures) (c .choices-do .ensures rows p)
+    λ rows p. if-does p (s .args .lines) (cellsIn (s .args .values .now) (s .args .marks .now)) (s .args .places .now) (s .args .counts .now) (s .args .r) (s .pre .1) (c .before .before .before .place .ensures) (c .before .before .match .keys6) (c .before .place4 .ensures) (c .choices-do .ensures rows p)
 
 returns-7 : tie.Need-returns-7
 returns-7 c =
     let s = c .before .before .before .before .before .before in
-    λ rows p. while-does p (s .args .lines) (cellsIn (s .args .values .now) (s .args .marks .now)) (s .args .places .now) (s .args .counts .now) (s .args .r) (s .pre .1) (c .before .before .before .before .before .place .ensures) (c .before .before .before .before .match .keys7) (c .before .before .before .place4 .ensures) (c .before .before .first2 .ensures) (c .before .eval3 .ensures rows p) (c .tested .ensures)
+    λ rows p. while-does p (s .args .lines) (cellsIn (s .args .values .now) (s .args .marks .now)) (s .args .places .now) (s .args .counts .now) (s .args .r) (s .pre .1) (c .before .before .before .before .before .place .ensures) (c .before .before .before .before .match .keys7) (c .before .before .before .place5 .ensures) (c .before .before .place6 .ensures) (c .before .eval3 .ensures rows p) (c .tested .ensures)
 
 returns-8 : tie.Need-returns-8
 returns-8 c =
@@ -148,12 +144,12 @@ does-at-spec =
     assignment-requires-2
     input-does-requires
     output-does-requires
-    first-requires
+    place-requires-4
     cast-choices-do
     choices-do-requires
-    place-requires-4
+    place-requires-5
     cast-tested
-    first-requires-2
+    place-requires-6
     cast-eval-3
     eval-requires-3
     tested-requires

@@ -1,8 +1,8 @@
 -- `option_does` meets its contract, by what the guard's row is and by its boolean.
 use Rattle.run_intents.proofs.Guards.{guard-inside, guarded-bare, option-bare, option-stops, option-closed, option-open}
-use Rattle.run_code.proofs.Inside.{first-natural, first-inside}
+use Rattle.run_code.proofs.Inside.{first-inside}
 use Rattle.run_values.specs.Cells.{cellsIn}
-use mathlib.Core.Path.{refl, sym, _∙_}
+use mathlib.Core.Path.{sym, _∙_}
 use native.Mathlib.Omega.{arith}
 use mir.ValLaws.{toZ-ofZ}
 use mir.Val.{SFits}
@@ -17,34 +17,31 @@ place-requires c κs = search needs
 cast-g : tie.Need-cast-g
 cast-g c = search needs
 
-first-requires : tie.Need-first-requires
-first-requires c κs =
-    let s = c .before in
-    (s .pre .1 .0, first-natural (s .pre .0 .1) (s .args .j) (s .pre .1 .0) 42 (s .pre .1 .1) refl)
+place-requires-2 : tie.Need-place-requires-2
+place-requires-2 c κs = search needs
 
 cast-process : tie.Need-cast-process
 cast-process c = search needs
 
-place-requires-2 : tie.Need-place-requires-2
-place-requires-2 c κs =
+place-requires-3 : tie.Need-place-requires-3
+place-requires-3 c κs =
     let s = c .before .before in
-    (s .pre .0, (guard-inside (s .pre .0 .1) (s .args .j) (s .pre .1 .0) (s .pre .1 .1) (c .before .place .ensures), omega arith, refl))
+    (guard-inside (s .pre .0 .1) (s .args .j) (s .pre .1 .0) (s .pre .1 .1) (c .before .place .ensures), omega arith)
 
 guarded-requires : tie.Need-guarded-requires
 guarded-requires c κs =
     let s = c .before .before .before .before in
-    (s .pre .0, (guard-inside (s .pre .0 .1) (s .args .j) (s .pre .1 .0) (s .pre .1 .1) (c .before .before .before .place .ensures), λ e. c .if1 .taken (c .before .place2 .ensures ∙ e)))
+    (s .pre .0, (guard-inside (s .pre .0 .1) (s .args .j) (s .pre .1 .0) (s .pre .1 .1) (c .before .before .before .place .ensures), λ e. c .if1 .taken (c .before .place3 .ensures ∙ e)))
 
 returns : tie.Need-returns
 returns c =
     let s = c .before .before .before .before .before in
-    λ rows p. option-bare p (s .args .lines) (cellsIn (s .args .values .now) (s .args .marks .now)) (s .args .places .now) (s .args .j) (s .pre .1 .0) (s .pre .1 .1) (c .before .before .before .before .place .ensures) (c .before .before .before .first .ensures) (c .guarded .ensures rows p)
+    λ rows p. option-bare p (s .args .lines) (cellsIn (s .args .values .now) (s .args .marks .now)) (s .args .places .now) (s .args .j) (s .pre .1 .0) (s .pre .1 .1) (c .before .before .before .before .place .ensures) (c .before .before .before .place2 .ensures) (c .guarded .ensures rows p)
 
-first-requires-2 : tie.Need-first-requires-2
-first-requires-2 c κs =
+place-requires-4 : tie.Need-place-requires-4
+place-requires-4 c κs =
     let s = c .before .before .before .before in
-    let l = guard-inside (s .pre .0 .1) (s .args .j) (s .pre .1 .0) (s .pre .1 .1) (c .before .before .before .place .ensures) in
-    (l, first-natural (s .pre .0 .1) _ l 43 (sym (c .before .place2 .ensures) ∙ c .if1 .left) refl)
+    (guard-inside (s .pre .0 .1) (s .args .j) (s .pre .1 .0) (s .pre .1 .1) (c .before .before .before .place .ensures), omega arith)
 
 cast-eval : tie.Need-cast-eval
 cast-eval c = search needs
@@ -52,7 +49,7 @@ cast-eval c = search needs
 eval-requires : tie.Need-eval-requires
 eval-requires c κs =
     let s = c .before .before .before .before .before in
-    (s .pre .0, rw (c .first2 .ensures) (first-inside (s .pre .0 .1) _ (guard-inside (s .pre .0 .1) (s .args .j) (s .pre .1 .0) (s .pre .1 .1) (c .before .before .before .before .place .ensures)) 43 (sym (c .before .before .place2 .ensures) ∙ c .before .if1 .left) (omega arith) (omega arith)))
+    (s .pre .0, rw (c .place4 .ensures) (first-inside (s .pre .0 .1) _ (guard-inside (s .pre .0 .1) (s .args .j) (s .pre .1 .0) (s .pre .1 .1) (c .before .before .before .before .place .ensures))))
 
 enum-known-v : tie.Need-enum-known-v
 enum-known-v c = search needs
@@ -63,10 +60,10 @@ enum-known-v-2 c = search needs
 is-true-requires : tie.Need-is-true-requires
 is-true-requires c κs = search needs
 
-place-requires-3 : tie.Need-place-requires-3
-place-requires-3 c κs =
+place-requires-5 : tie.Need-place-requires-5
+place-requires-5 c κs =
     let s = c .before .before .before .before .before .before .before .before .before .before .before in
-    (s .pre .0, (guard-inside (s .pre .0 .1) (s .args .j) (s .pre .1 .0) (s .pre .1 .1) (c .before .before .before .before .before .before .before .before .before .before .place .ensures), omega arith, refl))
+    (guard-inside (s .pre .0 .1) (s .args .j) (s .pre .1 .0) (s .pre .1 .1) (c .before .before .before .before .before .before .before .before .before .before .place .ensures), omega arith)
 
 cast-guarded : tie.Need-cast-guarded
 cast-guarded c = search needs
@@ -74,7 +71,7 @@ cast-guarded c = search needs
 guarded-requires-2 : tie.Need-guarded-requires-2
 guarded-requires-2 c κs =
     let s = c .before .before .before .before .before .before .before .before .before .before .before .before in
-    (s .pre .0, guarded-bare (s .pre .0 .1) _ (guard-inside (s .pre .0 .1) (s .args .j) (s .pre .1 .0) (s .pre .1 .1) (c .before .before .before .before .before .before .before .before .before .before .before .place .ensures)) (c .before .before .before .before .before .before .before .before .before .place2 .ensures) (c .before .before .before .before .before .before .before .before .if1 .left) (c .place3 .ensures))
+    (s .pre .0, guarded-bare (s .pre .0 .1) _ (guard-inside (s .pre .0 .1) (s .args .j) (s .pre .1 .0) (s .pre .1 .1) (c .before .before .before .before .before .before .before .before .before .before .before .place .ensures)) (c .before .before .before .before .before .before .before .before .before .place3 .ensures) (c .before .before .before .before .before .before .before .before .if1 .left) (c .place5 .ensures))
 
 returns-2 : tie.Need-returns-2
 returns-2 c =
@@ -82,12 +79,12 @@ returns-2 c =
     let x = c .before .before .before .before .before .v2 .given in
     let f : SFits w32 (x .0 .0) = search needs in
     let d = rw (toZ-ofZ w32 (x .0 .0) f) at (c .before .before .before .is-true .ensures) in
-    λ rows p. option-open p (s .args .lines) (cellsIn (s .args .values .now) (s .args .marks .now)) (s .args .places .now) (s .args .j) (s .pre .1 .0) (s .pre .1 .1) (c .before .before .before .before .before .before .before .before .before .before .before .before .place .ensures) (c .before .before .before .before .before .before .before .before .before .before .before .first .ensures) (guard-inside (s .pre .0 .1) (s .args .j) (s .pre .1 .0) (s .pre .1 .1) (c .before .before .before .before .before .before .before .before .before .before .before .before .place .ensures)) (c .before .before .before .before .before .before .before .before .before .before .place2 .ensures) (c .before .before .before .before .before .before .before .before .before .if1 .left) (c .before .before .before .before .before .before .before .before .first2 .ensures) (c .before .before .before .before .before .before .before .eval .ensures rows p) (x .1) (sym d ∙ c .before .before .if2 .taken) (c .before .place3 .ensures) (c .guarded2 .ensures rows p)
+    λ rows p. option-open p (s .args .lines) (cellsIn (s .args .values .now) (s .args .marks .now)) (s .args .places .now) (s .args .j) (s .pre .1 .0) (s .pre .1 .1) (c .before .before .before .before .before .before .before .before .before .before .before .before .place .ensures) (c .before .before .before .before .before .before .before .before .before .before .before .place2 .ensures) (guard-inside (s .pre .0 .1) (s .args .j) (s .pre .1 .0) (s .pre .1 .1) (c .before .before .before .before .before .before .before .before .before .before .before .before .place .ensures)) (c .before .before .before .before .before .before .before .before .before .before .place3 .ensures) (c .before .before .before .before .before .before .before .before .before .if1 .left) (c .before .before .before .before .before .before .before .before .place4 .ensures) (c .before .before .before .before .before .before .before .eval .ensures rows p) (x .1) (sym d ∙ c .before .before .if2 .taken) (c .before .place5 .ensures) (c .guarded2 .ensures rows p)
 
 returns-3 : tie.Need-returns-3
 returns-3 c =
     let s = c .before .before .before .before .before .before .before .before .before in
-    λ rows p. option-stops p (s .args .lines) (cellsIn (s .args .values .now) (s .args .marks .now)) (s .args .places .now) (s .args .j) (s .pre .1 .0) (s .pre .1 .1) (c .before .before .before .before .before .before .before .before .place .ensures) (c .before .before .before .before .before .before .before .first .ensures) (guard-inside (s .pre .0 .1) (s .args .j) (s .pre .1 .0) (s .pre .1 .1) (c .before .before .before .before .before .before .before .before .place .ensures)) (c .before .before .before .before .before .before .place2 .ensures) (c .before .before .before .before .before .if1 .left) (c .before .before .before .before .first2 .ensures) (c .before .before .before .eval .ensures rows p) (c .before .v .given .1)
+    λ rows p. option-stops p (s .args .lines) (cellsIn (s .args .values .now) (s .args .marks .now)) (s .args .places .now) (s .args .j) (s .pre .1 .0) (s .pre .1 .1) (c .before .before .before .before .before .before .before .before .place .ensures) (c .before .before .before .before .before .before .before .place2 .ensures) (guard-inside (s .pre .0 .1) (s .args .j) (s .pre .1 .0) (s .pre .1 .1) (c .before .before .before .before .before .before .before .before .place .ensures)) (c .before .before .before .before .before .before .place3 .ensures) (c .before .before .before .before .before .if1 .left) (c .before .before .before .before .place4 .ensures) (c .before .before .before .eval .ensures rows p) (c .before .v .given .1)
 
 returns-4 : tie.Need-returns-4
 returns-4 c =
@@ -95,7 +92,7 @@ returns-4 c =
     let x = c .before .before .before .v2 .given in
     let f : SFits w32 (x .0 .0) = search needs in
     let d = rw (toZ-ofZ w32 (x .0 .0) f) at (c .before .is-true .ensures) in
-    λ rows p. option-closed p (s .args .lines) (cellsIn (s .args .values .now) (s .args .marks .now)) (s .args .places .now) (s .args .j) (s .pre .1 .0) (s .pre .1 .1) (c .before .before .before .before .before .before .before .before .before .before .place .ensures) (c .before .before .before .before .before .before .before .before .before .first .ensures) (guard-inside (s .pre .0 .1) (s .args .j) (s .pre .1 .0) (s .pre .1 .1) (c .before .before .before .before .before .before .before .before .before .before .place .ensures)) (c .before .before .before .before .before .before .before .before .place2 .ensures) (c .before .before .before .before .before .before .before .if1 .left) (c .before .before .before .before .before .before .first2 .ensures) (c .before .before .before .before .before .eval .ensures rows p) (x .1) (sym d ∙ c .if2 .left)
+    λ rows p. option-closed p (s .args .lines) (cellsIn (s .args .values .now) (s .args .marks .now)) (s .args .places .now) (s .args .j) (s .pre .1 .0) (s .pre .1 .1) (c .before .before .before .before .before .before .before .before .before .before .place .ensures) (c .before .before .before .before .before .before .before .before .before .place2 .ensures) (guard-inside (s .pre .0 .1) (s .args .j) (s .pre .1 .0) (s .pre .1 .1) (c .before .before .before .before .before .before .before .before .before .before .place .ensures)) (c .before .before .before .before .before .before .before .before .place3 .ensures) (c .before .before .before .before .before .before .before .if1 .left) (c .before .before .before .before .before .before .place4 .ensures) (c .before .before .before .before .before .eval .ensures rows p) (x .1) (sym d ∙ c .if2 .left)
 
 pub option-does-spec : {M : Type 1} → statement M
 option-does-spec =
@@ -103,18 +100,18 @@ option-does-spec =
     (tie.spec
     place-requires
     cast-g
-    first-requires
-    cast-process
     place-requires-2
+    cast-process
+    place-requires-3
     guarded-requires
     returns
-    first-requires-2
+    place-requires-4
     cast-eval
     eval-requires
     enum-known-v
     enum-known-v-2
     is-true-requires
-    place-requires-3
+    place-requires-5
     cast-guarded
     guarded-requires-2
     returns-2

@@ -1,6 +1,5 @@
 -- `note_of` meets its contract: each thing that a row would do has its numbers.
 use mathlib.Core.Path.{refl}
-use Rattle.run_notes.proofs.Changes.{same-note}
 use mir.Syntax.{w32}
 use mir.Val.{SFits}
 use mir.ValLaws.{toZ-ofZ}

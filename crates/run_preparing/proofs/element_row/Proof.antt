@@ -1,41 +1,64 @@
--- `element_row` meets its contract: its callees' contracts, one after another.
+-- `element_row` meets its contract: the variable that it names stands in the list.
 use borrow.Author.Needs.{needs}
-use mathlib.Core.Path.{ap, _∙_}
+use mathlib.Core.Path.{_≡_, ap, ap₂, _∙_}
+use mathlib.Core.List.{List}
+use Prim.Native.Nat.{ℕ, _<_, _≤_}
 use native.Mathlib.Omega.{arith}
-use lib.IntN.{ℤ, pos}
+use lib.IntN.{ℤ}
+use lib.ListN.{getD}
 use mir.Syntax.{w32}
-use mir.Val.{SFits}
 use mir.ValLaws.{toZ-ofZ}
-use Rattle.base_layout.specs.declared.Extent.{Extent}
-use Rattle.run_code.specs.Prepared.{row}
-use Rattle.run_preparing.proofs.RowLaws.{small-variable, fixed-element, other-element}
+use Rattle.meaning.specs.Rows.{naturalAt}
+use Rattle.meaning.specs.Declarations.{variableAt}
+use Rattle.agreement.proofs.TableFit.{rows-limit}
+use Rattle.run_code.specs.declared.Row.{Row}
+use Rattle.run_code.specs.Prepared.{variableRow, subscriptedRow, numbersOf, placeAt}
+use Rattle.run_code.proofs.Names.{variable-row}
+use Rattle.run_preparing.proofs.Filling.{filled-at}
+use Rattle.run_preparing.proofs.RowLaws.{variable-small, fixed-element, other-element}
 use Rattle.run_preparing.proofs.element_row.Statement.{statement}
 use Rattle.run_preparing.proofs.element_row.Tie as tie
+
+-- the variable that it names
+module _ (c : tie.After-natural) where
+  abbrev rows : List ℤ
+  rows = c .before .args .rows .now
+
+  abbrev a : ℕ
+  a = naturalAt rows (c .before .args .r) 1
+
+  inside : c .natural .result ≤ 1024
+  inside = omega (arith, c .natural .ensures, c .before .pre .1 .1 .0, c .before .pre .1 .0 .0, c .before .pre .1 .0 .1, rows-limit rows (c .before .pre .0))
+
+  there : (j : ℕ) → j < 6 → placeAt (c .before .args .code .now) (c .natural .result) j ≡ getD (numbersOf (variableRow (variableAt rows a))) j 0
+  there j k =
+      let s = c .before in
+      ap (λ (i : ℕ). placeAt (s .args .code .now) i j) (c .natural .ensures)
+      ∙ filled-at rows (s .args .code .now) (s .args .r) a j (s .pre .1 .0 .2) (omega (arith, s .pre .1 .1 .0, s .pre .1 .0 .0)) k
+      ∙ ap (λ (w : Row). getD (numbersOf w) j 0) (variable-row rows a (s .pre .1 .1))
 
 natural-requires : tie.Need-natural-requires
 natural-requires c κs = search needs
 
-variable-at-requires : tie.Need-variable-at-requires
-variable-at-requires c κs = search needs
-
-cast-first : tie.Need-cast-first
-cast-first c =
-    let e = ap (λ (e : Extent). e .first) (c .before .variable-at .ensures) in
-    record { fits = omega (arith, e, small-variable (c .before .before .before .before .args .names .now) (c .before .before .natural .result) (λ i. c .before .before .before .shared-slice-known .given i .fits)) }
-
-cast-size : tie.Need-cast-size
-cast-size c =
-    let e = ap (λ (e : Extent). e .size) (c .before .before .variable-at .ensures) in
-    record { fits = omega (arith, e, small-variable (c .before .before .before .before .before .args .names .now) (c .before .before .before .natural .result) (λ i. c .before .before .before .before .shared-slice-known .given i .fits)) }
+cast-a : tie.Need-cast-a
+cast-a c = search needs
 
 referred-requires : tie.Need-referred-requires
-referred-requires c κs = search needs
+referred-requires c κs =
+    let s = c .before in
+    (rows-limit (s .args .rows .now) (s .pre .0), (s .pre .1 .0 .1, omega arith))
 
 cast-kind-in : tie.Need-cast-kind-in
 cast-kind-in c = search needs
 
 kind-in-requires : tie.Need-kind-in-requires
 kind-in-requires c κs = search needs
+
+place-requires : tie.Need-place-requires
+place-requires c κs = (inside (c .before .before .before), omega arith)
+
+place-requires-2 : tie.Need-place-requires-2
+place-requires-2 c κs = (inside (c .before .before .before .before), omega arith)
 
 cast-field : tie.Need-cast-field
 cast-field c = search needs
@@ -44,40 +67,48 @@ field-requires : tie.Need-field-requires
 field-requires c κs = search needs
 
 fixed-requires : tie.Need-fixed-requires
-fixed-requires c κs = search needs
+fixed-requires c κs =
+    let s = c .before .before .before .before .before .before .before in
+    let n = c .before .before .before .before .before .before in
+    omega (arith, c .before .before .place .ensures ∙ there n 1 (omega arith), c .before .place2 .ensures ∙ there n 2 (omega arith), variable-small (s .args .rows .now) (s .pre .0) (naturalAt (s .args .rows .now) (s .args .r) 1) (s .pre .1 .1 .0) (s .pre .1 .1 .1))
 
 returns : tie.Need-returns
 returns c =
-    let s = c .before .before .before .before .before .before .before .before .before .before in
-    fixed-element (s .pre .1 .1) (s .args .r) (c .before .before .before .before .before .before .before .before .natural .ensures) (c .before .before .before .before .before .before .before .variable-at .ensures) (c .before .before .before .before .referred .ensures) (c .before .before .before .kind-in .ensures) (c .before .before .if1 .taken) (toZ-ofZ w32 (c .before .field .result) (record { sfits = c .before .field .ok }) ∙ c .before .field .ensures) (c .fixed .ensures)
+    let n = c .before .before .before .before .before .before .before in
+    let f = c .before .field in
+    let b = c .before .before .before .before .before .before .referred in
+    (rw (toZ-ofZ w32 (f .result) (record { sfits = f .ok }), c .before .before .before .place .ensures ∙ there n 1 (omega arith), c .before .before .place2 .ensures ∙ there n 2 (omega arith), f .ensures) at (c .fixed .ensures))
+    ∙ fixed-element (rows n) (a n) (b .result) (c .before .before .before .before .before .kind-in .ensures) (c .before .before .before .before .if1 .taken)
+    ∙ ap (subscriptedRow (rows n) (a n)) (b .ensures)
 
-cast-t13 : tie.Need-cast-t13
-cast-t13 c =
-    let e = ap (λ (e : Extent). e .first) (c .before .before .before .before .before .variable-at .ensures) in
-    record { sfits = omega (arith, e, small-variable (c .before .before .before .before .before .before .before .before .args .names .now) (c .before .before .before .before .before .before .natural .result) (λ i. c .before .before .before .before .before .before .before .shared-slice-known .given i .fits)) }
+cast-plain : tie.Need-cast-plain
+cast-plain c = record { fits = omega (arith, inside (c .before .before .before)) }
+
+plain-requires : tie.Need-plain-requires
+plain-requires c κs = search needs
 
 returns-2 : tie.Need-returns-2
 returns-2 c =
-    let s = c .before .before .before .before .before .before .before .before in
-    let e = ap (λ (e : Extent). e .first) (c .before .before .before .before .before .variable-at .ensures) in
-    let f : SFits w32 (pos (c .before .before .before .before .before .variable-at .result .first)) = record { sfits = omega (arith, e, small-variable (c .before .before .before .before .before .before .before .before .args .names .now) (c .before .before .before .before .before .before .natural .result) (λ i. c .before .before .before .before .before .before .before .shared-slice-known .given i .fits)) } in
-    ap (λ (x : ℤ). row 4 x (c .before .before .referred .result) 0 (c .before .before .before .before .before .variable-at .result .size)) (toZ-ofZ w32 (pos (c .before .before .before .before .before .variable-at .result .first)) f)
-    ∙ other-element (s .pre .1 .1) (s .args .r) (c .before .before .before .before .before .before .natural .ensures) (c .before .before .before .before .before .variable-at .ensures) (c .before .before .referred .ensures) (c .before .kind-in .ensures) (c .if1 .left)
+    let s = c .before .before .before .before .before in
+    c .plain .ensures
+    ∙ other-element (s .args .rows .now) (c .before .before .before .before .natural .result) (c .before .before .before .referred .result) (c .before .before .kind-in .ensures) (c .before .if1 .left)
+    ∙ ap₂ (subscriptedRow (s .args .rows .now)) (c .before .before .before .before .natural .ensures) (c .before .before .before .referred .ensures)
 
 pub element-row-spec : {M : Type 1} → statement M
 element-row-spec =
     tie.close
     (tie.spec
     natural-requires
-    variable-at-requires
-    cast-first
-    cast-size
+    cast-a
     referred-requires
     cast-kind-in
     kind-in-requires
+    place-requires
+    place-requires-2
     cast-field
     field-requires
     fixed-requires
     returns
-    cast-t13
+    cast-plain
+    plain-requires
     returns-2)

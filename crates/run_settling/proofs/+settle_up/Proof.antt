@@ -58,9 +58,9 @@ settle-up-go-on-requires t c κs =
     let start = at-place .before .before .before in
     let P = start .pre .1 .0 in
     let l = start .pre .1 .1 in
-    let w = note-below (P .1) (start .args .r) l (at-place .place .ensures) in
+    let w = note-below (P .1 .0) (start .args .r) l (at-place .place .ensures) (P .1 .1) in
     let z = at-if2 .if2 .left in
-    (P, (omega arith, l))
+    ((P .0, P .1 .0), (omega arith, l))
 
 settle-up-settle-up-requires : (t : ℕ) → settle-up-lts.Need-settle-up-requires (settle-up-claims t) (settle-up-at t) settle-up.Post
 settle-up-settle-up-requires t c κs =
@@ -69,9 +69,10 @@ settle-up-settle-up-requires t c κs =
     let start = at-place .before .before .before in
     let P = start .pre .1 .0 in
     let l = start .pre .1 .1 in
-    let w = note-below (P .1) (start .args .r) l (at-place .place .ensures) in
+    let w = note-below (P .1 .0) (start .args .r) l (at-place .place .ensures) (P .1 .1) in
     let z = at-if2 .if2 .left in
-    (rw (← start .pre .0) (omega arith), (P, omega arith))
+    let parent = parent-noted (P .1 .0) (start .args .r) l (at-place .place .ensures) (P .1 .1) z in
+    (rw (← start .pre .0) (omega arith), ((P .0, (P .1 .0, parent-process (P .0) _ (start .args .r) parent)), omega arith))
 
 settle-up-returns-3 : (t : ℕ) → settle-up-lts.Need-returns-3 (settle-up-claims t) (settle-up-at t) settle-up.Post
 settle-up-returns-3 t c =

@@ -13,7 +13,9 @@ element-write-states : tie.Need-element-write-states
 element-write-states c = search needs
 
 start-if-requires : tie.Need-start-if-requires
-start-if-requires c κs = search needs
+start-if-requires c κs =
+    let start = c .before .before .before in
+    ((start .pre .0 .0, start .pre .0 .1 .0), start .pre .1)
 
 settle-up-requires : tie.Need-settle-up-requires
 settle-up-requires c κs = search needs

@@ -79,7 +79,9 @@ returns-3 c =
     let at-match = at-place3 .before in
     let at-place = at-match .before in
     let start = at-place .before in
-    λ rows P i. repeating-goes-on rows (start .args .q) (start .args .r) (keptOf (start .args .states .now) (start .args .left .now) (start .args .came .now)) (found-in P (start .args .q) (while-shape-in P (start .args .q) (omega (arith, start .pre .1 .0)) (at-place .place .ensures) (at-match .match .keys3) (at-place3 .place3 .ensures)) refl) (at-reset .reset .ensures rows P) (c .comes .ensures)
+    λ rows P i.
+    let h = found-in P (start .args .q) (while-shape-in P (start .args .q) (omega (arith, start .pre .1 .0)) (at-place .place .ensures) (at-match .match .keys3) (at-place3 .place3 .ensures)) refl in
+    repeating-goes-on rows (start .args .q) (start .args .r) (keptOf (start .args .states .now) (start .args .left .now) (start .args .came .now)) h (at-reset .reset .ensures rows P (h .body-is)) (c .comes .ensures)
 
 returns-4 : tie.Need-returns-4
 returns-4 c =

@@ -1,6 +1,6 @@
 -- `eval` meets its contract: by what the row is, from the values of its operands. An operand is a higher row, so the distance to row 1,025 falls.
 use borrow.Author.Needs.{needs}
-use mathlib.Core.Path.{refl, sym, ap, _∙_}
+use mathlib.Core.Path.{sym, ap, _∙_}
 use Prim.Native.Nat.{_-_}
 use native.Mathlib.Omega.{arith}
 use mir.Syntax.{w32}
@@ -8,7 +8,7 @@ use mir.Val.{SFits}
 use mir.ValLaws.{toZ-ofZ}
 use Rattle.meaning.specs.Values.{readCell}
 use Rattle.run_values.specs.Cells.{cellsIn}
-use Rattle.run_code.proofs.Inside.{first-natural}
+use Rattle.run_code.proofs.Inside.{first-inside}
 use Rattle.run_values.proofs.CodeValues as values
 use Prim.Native.Nat.{ℕ, _<_}
 use borrow.Fn.Kinds.{In}
@@ -18,8 +18,7 @@ use Rattle.run_values.proofs.eval.Kinds as eval-kinds
 use Rattle.run_values.proofs.+eval.Lts-eval as eval-lts
 use Rattle.base_numbers.proofs.decides.Reads as decides-reads
 use Rattle.base_numbers.proofs.subscript.Reads as subscript-reads
-use Rattle.run_code.proofs.first.Reads as first-reads
-use Rattle.run_code.proofs.number.Reads as number-reads
+use Rattle.run_code.proofs.literal.Reads as literal-reads
 use Rattle.run_code.proofs.place.Reads as place-reads
 use Rattle.run_values.proofs.cell.Reads as cell-reads
 use Rattle.run_values.proofs.cell_at.Reads as cell-at-reads
@@ -39,18 +38,16 @@ abbrev eval-below : ℕ → In 1 eval-kinds.ps
 eval-below t = and 1 eval-kinds.ps (falls 1 eval-kinds.ps _<_ μ-eval t) eval.Pre
 
 abbrev eval-claims : ℕ → eval-lts.Claims
-eval-claims t = (place-reads.Asked, place-reads.Learnt, number-reads.Asked, number-reads.Learnt, first-reads.Asked, first-reads.Learnt, cell-reads.Asked, cell-reads.Learnt, eval-below t, eval.Post, subscript-reads.Asked, subscript-reads.Learnt, cell-at-reads.Asked, cell-at-reads.Learnt, monadic-reads.Asked, monadic-reads.Learnt, decides-reads.Asked, decides-reads.Learnt, decided-reads.Asked, decided-reads.Learnt, dyadic-reads.Asked, dyadic-reads.Learnt)
+eval-claims t = (place-reads.Asked, place-reads.Learnt, literal-reads.Asked, literal-reads.Learnt, cell-reads.Asked, cell-reads.Learnt, eval-below t, eval.Post, subscript-reads.Asked, subscript-reads.Learnt, cell-at-reads.Asked, cell-at-reads.Learnt, monadic-reads.Asked, monadic-reads.Learnt, decides-reads.Asked, decides-reads.Learnt, decided-reads.Asked, decided-reads.Learnt, dyadic-reads.Asked, dyadic-reads.Learnt)
 
 eval-place-requires : (t : ℕ) → eval-lts.Need-place-requires (eval-claims t) (eval-at t) eval.Post
 eval-place-requires t c κs = search needs
 
-eval-number-requires : (t : ℕ) → eval-lts.Need-number-requires (eval-claims t) (eval-at t) eval.Post
-eval-number-requires t c κs = search needs
+eval-literal-requires : (t : ℕ) → eval-lts.Need-literal-requires (eval-claims t) (eval-at t) eval.Post
+eval-literal-requires t c κs = search needs
 
-eval-first-requires : (t : ℕ) → eval-lts.Need-first-requires (eval-claims t) (eval-at t) eval.Post
-eval-first-requires t c κs =
-    let s = c .before .before in
-    (s .pre .1 .1, first-natural (s .pre .1 .0 .1) (s .args .r) (s .pre .1 .1) 2 (sym (c .before .place .ensures) ∙ c .match .keys2) refl)
+eval-place-requires-2 : (t : ℕ) → eval-lts.Need-place-requires-2 (eval-claims t) (eval-at t) eval.Post
+eval-place-requires-2 t c κs = search needs
 
 eval-cast-cell : (t : ℕ) → eval-lts.Need-cast-cell (eval-claims t) (eval-at t) eval.Post
 eval-cast-cell t c = search needs
@@ -58,8 +55,8 @@ eval-cast-cell t c = search needs
 eval-cell-requires : (t : ℕ) → eval-lts.Need-cell-requires (eval-claims t) (eval-at t) eval.Post
 eval-cell-requires t c κs = search needs
 
-eval-place-requires-2 : (t : ℕ) → eval-lts.Need-place-requires-2 (eval-claims t) (eval-at t) eval.Post
-eval-place-requires-2 t c κs = search needs
+eval-place-requires-3 : (t : ℕ) → eval-lts.Need-place-requires-3 (eval-claims t) (eval-at t) eval.Post
+eval-place-requires-3 t c κs = search needs
 
 eval-cast-eval : (t : ℕ) → eval-lts.Need-cast-eval (eval-claims t) (eval-at t) eval.Post
 eval-cast-eval t c = search needs
@@ -67,16 +64,24 @@ eval-cast-eval t c = search needs
 eval-eval-requires : (t : ℕ) → eval-lts.Need-eval-requires (eval-claims t) (eval-at t) eval.Post
 eval-eval-requires t c κs =
     let s = c .before .before .before in
-    let a = values.subscript-higher (s .pre .1 .0 .1) (s .args .r) (s .pre .1 .1) (sym (c .before .before .place .ensures) ∙ c .before .match .keys4) (c .place2 .ensures) in
+    let a = values.subscript-higher (s .pre .1 .0 .1) (s .args .r) (s .pre .1 .1) (sym (c .before .before .place .ensures) ∙ c .before .match .keys4) (c .place3 .ensures) in
     (omega (arith, s .pre .0, a), (s .pre .1 .0, a .1))
 
-eval-first-requires-2 : (t : ℕ) → eval-lts.Need-first-requires-2 (eval-claims t) (eval-at t) eval.Post
-eval-first-requires-2 t c κs =
-    let s = c .before .before .before .before in
-    (s .pre .1 .1, first-natural (s .pre .1 .0 .1) (s .args .r) (s .pre .1 .1) 4 (sym (c .before .before .before .place .ensures) ∙ c .before .before .match .keys4) refl)
+eval-place-requires-4 : (t : ℕ) → eval-lts.Need-place-requires-4 (eval-claims t) (eval-at t) eval.Post
+eval-place-requires-4 t c κs = search needs
 
-eval-place-requires-3 : (t : ℕ) → eval-lts.Need-place-requires-3 (eval-claims t) (eval-at t) eval.Post
-eval-place-requires-3 t c κs = search needs
+eval-cast-d : (t : ℕ) → eval-lts.Need-cast-d (eval-claims t) (eval-at t) eval.Post
+eval-cast-d t c = search needs
+
+eval-place-requires-5 : (t : ℕ) → eval-lts.Need-place-requires-5 (eval-claims t) (eval-at t) eval.Post
+eval-place-requires-5 t c κs =
+    let s = c .before .before .before .before .before in
+    (rw (c .place4 .ensures) (first-inside (s .pre .1 .0 .1) (s .args .r) (s .pre .1 .1)), omega arith)
+
+eval-place-requires-6 : (t : ℕ) → eval-lts.Need-place-requires-6 (eval-claims t) (eval-at t) eval.Post
+eval-place-requires-6 t c κs =
+    let s = c .before .before .before .before .before .before in
+    (rw (c .before .place4 .ensures) (first-inside (s .pre .1 .0 .1) (s .args .r) (s .pre .1 .1)), omega arith)
 
 eval-subscript-requires : (t : ℕ) → eval-lts.Need-subscript-requires (eval-claims t) (eval-at t) eval.Post
 eval-subscript-requires t c κs = search needs
@@ -84,8 +89,8 @@ eval-subscript-requires t c κs = search needs
 eval-cell-at-requires : (t : ℕ) → eval-lts.Need-cell-at-requires (eval-claims t) (eval-at t) eval.Post
 eval-cell-at-requires t c κs = search needs
 
-eval-place-requires-4 : (t : ℕ) → eval-lts.Need-place-requires-4 (eval-claims t) (eval-at t) eval.Post
-eval-place-requires-4 t c κs = search needs
+eval-place-requires-7 : (t : ℕ) → eval-lts.Need-place-requires-7 (eval-claims t) (eval-at t) eval.Post
+eval-place-requires-7 t c κs = search needs
 
 eval-cast-eval-2 : (t : ℕ) → eval-lts.Need-cast-eval-2 (eval-claims t) (eval-at t) eval.Post
 eval-cast-eval-2 t c = search needs
@@ -93,24 +98,20 @@ eval-cast-eval-2 t c = search needs
 eval-eval-requires-2 : (t : ℕ) → eval-lts.Need-eval-requires-2 (eval-claims t) (eval-at t) eval.Post
 eval-eval-requires-2 t c κs =
     let s = c .before .before .before in
-    let a = values.operand-higher (s .pre .1 .0 .1) (s .args .r) (s .pre .1 .1) (sym (c .before .before .place .ensures) ∙ c .before .match .keys5) (c .place4 .ensures) in
+    let a = values.operand-higher (s .pre .1 .0 .1) (s .args .r) (s .pre .1 .1) (sym (c .before .before .place .ensures) ∙ c .before .match .keys5) (c .place7 .ensures) in
     (omega (arith, s .pre .0, a), (s .pre .1 .0, a .1))
 
-eval-first-requires-3 : (t : ℕ) → eval-lts.Need-first-requires-3 (eval-claims t) (eval-at t) eval.Post
-eval-first-requires-3 t c κs =
-    let s = c .before .before .before .before in
-    (s .pre .1 .1, first-natural (s .pre .1 .0 .1) (s .args .r) (s .pre .1 .1) 5 (sym (c .before .before .before .place .ensures) ∙ c .before .before .match .keys5) refl)
+eval-place-requires-8 : (t : ℕ) → eval-lts.Need-place-requires-8 (eval-claims t) (eval-at t) eval.Post
+eval-place-requires-8 t c κs = search needs
 
 eval-monadic-requires : (t : ℕ) → eval-lts.Need-monadic-requires (eval-claims t) (eval-at t) eval.Post
 eval-monadic-requires t c κs = search needs
 
-eval-first-requires-4 : (t : ℕ) → eval-lts.Need-first-requires-4 (eval-claims t) (eval-at t) eval.Post
-eval-first-requires-4 t c κs =
-    let s = c .before .before in
-    (s .pre .1 .1, first-natural (s .pre .1 .0 .1) (s .args .r) (s .pre .1 .1) 6 (sym (c .before .place .ensures) ∙ c .match .keys6) refl)
+eval-place-requires-9 : (t : ℕ) → eval-lts.Need-place-requires-9 (eval-claims t) (eval-at t) eval.Post
+eval-place-requires-9 t c κs = search needs
 
-eval-place-requires-5 : (t : ℕ) → eval-lts.Need-place-requires-5 (eval-claims t) (eval-at t) eval.Post
-eval-place-requires-5 t c κs = search needs
+eval-place-requires-10 : (t : ℕ) → eval-lts.Need-place-requires-10 (eval-claims t) (eval-at t) eval.Post
+eval-place-requires-10 t c κs = search needs
 
 eval-cast-eval-3 : (t : ℕ) → eval-lts.Need-cast-eval-3 (eval-claims t) (eval-at t) eval.Post
 eval-cast-eval-3 t c = search needs
@@ -118,7 +119,7 @@ eval-cast-eval-3 t c = search needs
 eval-eval-requires-3 : (t : ℕ) → eval-lts.Need-eval-requires-3 (eval-claims t) (eval-at t) eval.Post
 eval-eval-requires-3 t c κs =
     let s = c .before .before .before .before in
-    let a = values.first-higher (s .pre .1 .0 .1) (s .args .r) (s .pre .1 .1) (sym (c .before .before .before .place .ensures) ∙ c .before .before .match .keys6) (c .place5 .ensures) in
+    let a = values.first-higher (s .pre .1 .0 .1) (s .args .r) (s .pre .1 .1) (sym (c .before .before .before .place .ensures) ∙ c .before .before .match .keys6) (c .place10 .ensures) in
     (omega (arith, s .pre .0, a), (s .pre .1 .0, a .1))
 
 eval-enum-known-v : (t : ℕ) → eval-lts.Need-enum-known-v (eval-claims t) (eval-at t) eval.Post
@@ -140,10 +141,10 @@ eval-returns t c =
     let f : SFits w32 (x .0 .0) = search needs in
     let d = rw (toZ-ofZ w32 (x .0 .0) f) at (c .before .before .decides .ensures) in
     let e = rw (toZ-ofZ w32 (x .0 .0) f) at (c .decided .ensures) in
-    λ rows p. values.first-decides p (s .args .r) (s .pre .1 .1) (cellsIn (s .args .values .now) (s .args .marks .now)) (sym (c .before .before .before .before .before .before .before .before .before .before .place .ensures) ∙ c .before .before .before .before .before .before .before .before .before .match .keys6) (c .before .before .before .before .before .before .before .before .first4 .ensures) (c .before .before .before .before .before .before .before .place5 .ensures) (c .before .before .before .before .before .before .eval3 .ensures rows p) (x .1) (sym d ∙ c .before .if1 .taken) e
+    λ rows p. values.first-decides p (s .args .r) (s .pre .1 .1) (cellsIn (s .args .values .now) (s .args .marks .now)) (sym (c .before .before .before .before .before .before .before .before .before .before .place .ensures) ∙ c .before .before .before .before .before .before .before .before .before .match .keys6) (c .before .before .before .before .before .before .before .before .place9 .ensures) (c .before .before .before .before .before .before .before .place10 .ensures) (c .before .before .before .before .before .before .eval3 .ensures rows p) (x .1) (sym d ∙ c .before .if1 .taken) e
 
-eval-place-requires-6 : (t : ℕ) → eval-lts.Need-place-requires-6 (eval-claims t) (eval-at t) eval.Post
-eval-place-requires-6 t c κs = search needs
+eval-place-requires-11 : (t : ℕ) → eval-lts.Need-place-requires-11 (eval-claims t) (eval-at t) eval.Post
+eval-place-requires-11 t c κs = search needs
 
 eval-cast-eval-4 : (t : ℕ) → eval-lts.Need-cast-eval-4 (eval-claims t) (eval-at t) eval.Post
 eval-cast-eval-4 t c = search needs
@@ -151,7 +152,7 @@ eval-cast-eval-4 t c = search needs
 eval-eval-requires-4 : (t : ℕ) → eval-lts.Need-eval-requires-4 (eval-claims t) (eval-at t) eval.Post
 eval-eval-requires-4 t c κs =
     let s = c .before .before .before .before .before .before .before .before .before .before .before in
-    let a = values.second-higher (s .pre .1 .0 .1) (s .args .r) (s .pre .1 .1) (sym (c .before .before .before .before .before .before .before .before .before .before .place .ensures) ∙ c .before .before .before .before .before .before .before .before .before .match .keys6) (c .place6 .ensures) in
+    let a = values.second-higher (s .pre .1 .0 .1) (s .args .r) (s .pre .1 .1) (sym (c .before .before .before .before .before .before .before .before .before .before .place .ensures) ∙ c .before .before .before .before .before .before .before .before .before .match .keys6) (c .place11 .ensures) in
     (omega (arith, s .pre .0, a), (s .pre .1 .0, a .1))
 
 eval-dyadic-requires : (t : ℕ) → eval-lts.Need-dyadic-requires (eval-claims t) (eval-at t) eval.Post
@@ -160,12 +161,12 @@ eval-dyadic-requires t c κs = search needs
 eval-returns-2 : (t : ℕ) → eval-lts.Need-returns-2 (eval-claims t) (eval-at t) eval.Post
 eval-returns-2 t c =
     let s = c .before .before .before in
-    λ rows p. values.literal-value p (s .args .r) (s .pre .1 .1) (cellsIn (s .args .values .now) (s .args .marks .now)) (sym (c .before .before .place .ensures) ∙ c .before .match .keys1) (toZ-ofZ w32 (c .number .result) (record { sfits = c .number .ok }) ∙ c .number .ensures)
+    λ rows p. values.literal-value p (s .args .r) (s .pre .1 .1) (cellsIn (s .args .values .now) (s .args .marks .now)) (sym (c .before .before .place .ensures) ∙ c .before .match .keys1) (toZ-ofZ w32 (c .literal .result) (record { sfits = c .literal .ok }) ∙ c .literal .ensures)
 
 eval-returns-3 : (t : ℕ) → eval-lts.Need-returns-3 (eval-claims t) (eval-at t) eval.Post
 eval-returns-3 t c =
     let s = c .before .before .before .before in
-    λ rows p. values.cell-value p (s .args .r) (s .pre .1 .1) (cellsIn (s .args .values .now) (s .args .marks .now)) (sym (c .before .before .before .place .ensures) ∙ c .before .before .match .keys2) (c .before .first .ensures) (c .cell .ensures)
+    λ rows p. values.cell-value p (s .args .r) (s .pre .1 .1) (cellsIn (s .args .values .now) (s .args .marks .now)) (sym (c .before .before .before .place .ensures) ∙ c .before .before .match .keys2) (c .before .place2 .ensures) (c .cell .ensures)
 
 eval-returns-4 : (t : ℕ) → eval-lts.Need-returns-4 (eval-claims t) (eval-at t) eval.Post
 eval-returns-4 t c =
@@ -174,18 +175,18 @@ eval-returns-4 t c =
 
 eval-returns-5 : (t : ℕ) → eval-lts.Need-returns-5 (eval-claims t) (eval-at t) eval.Post
 eval-returns-5 t c =
-    let s = c .before .before .before .before .before .before .before .before in
-    λ rows p. values.element-value p (s .args .r) (s .pre .1 .1) (cellsIn (s .args .values .now) (s .args .marks .now)) (sym (c .before .before .before .before .before .before .before .place .ensures) ∙ c .before .before .before .before .before .before .match .keys4) (c .before .before .before .first2 .ensures) (c .before .before .place3 .ensures) (c .before .before .before .before .before .place2 .ensures) (c .before .before .before .before .eval .ensures rows p) (c .cell-at .ensures ∙ ap (readCell (cellsIn (s .args .values .now) (s .args .marks .now))) (c .before .subscript .ensures))
+    let s = c .before .before .before .before .before .before .before .before .before in
+    λ rows p. values.element-value p (s .args .r) (s .pre .1 .1) (cellsIn (s .args .values .now) (s .args .marks .now)) (sym (c .before .before .before .before .before .before .before .before .place .ensures) ∙ c .before .before .before .before .before .before .before .match .keys4) (c .before .before .before .before .place4 .ensures) (c .before .before .before .place5 .ensures) (c .before .before .place6 .ensures) (c .before .before .before .before .before .before .place3 .ensures) (c .before .before .before .before .before .eval .ensures rows p) (c .cell-at .ensures ∙ ap (readCell (cellsIn (s .args .values .now) (s .args .marks .now))) (c .before .subscript .ensures))
 
 eval-returns-6 : (t : ℕ) → eval-lts.Need-returns-6 (eval-claims t) (eval-at t) eval.Post
 eval-returns-6 t c =
     let s = c .before .before .before .before .before .before in
-    λ rows p. values.monadic-value p (s .args .r) (s .pre .1 .1) (cellsIn (s .args .values .now) (s .args .marks .now)) (sym (c .before .before .before .before .before .place .ensures) ∙ c .before .before .before .before .match .keys5) (c .before .first3 .ensures) (c .before .before .before .place4 .ensures) (c .before .before .eval2 .ensures rows p) (c .monadic .ensures)
+    λ rows p. values.monadic-value p (s .args .r) (s .pre .1 .1) (cellsIn (s .args .values .now) (s .args .marks .now)) (sym (c .before .before .before .before .before .place .ensures) ∙ c .before .before .before .before .match .keys5) (c .before .place8 .ensures) (c .before .before .before .place7 .ensures) (c .before .before .eval2 .ensures rows p) (c .monadic .ensures)
 
 eval-returns-7 : (t : ℕ) → eval-lts.Need-returns-7 (eval-claims t) (eval-at t) eval.Post
 eval-returns-7 t c =
     let s = c .before .before .before .before .before .before .before .before in
-    λ rows p. values.first-missing p (s .args .r) (s .pre .1 .1) (cellsIn (s .args .values .now) (s .args .marks .now)) (sym (c .before .before .before .before .before .before .before .place .ensures) ∙ c .before .before .before .before .before .before .match .keys6) (c .before .before .before .before .before .first4 .ensures) (c .before .before .before .before .place5 .ensures) (c .before .before .before .eval3 .ensures rows p) (c .before .v .given .1)
+    λ rows p. values.first-missing p (s .args .r) (s .pre .1 .1) (cellsIn (s .args .values .now) (s .args .marks .now)) (sym (c .before .before .before .before .before .before .before .place .ensures) ∙ c .before .before .before .before .before .before .match .keys6) (c .before .before .before .before .before .place9 .ensures) (c .before .before .before .before .place10 .ensures) (c .before .before .before .eval3 .ensures rows p) (c .before .v .given .1)
 
 eval-returns-8 : (t : ℕ) → eval-lts.Need-returns-8 (eval-claims t) (eval-at t) eval.Post
 eval-returns-8 t c =
@@ -194,7 +195,7 @@ eval-returns-8 t c =
     let f : SFits w32 (x .0 .0) = search needs in
     let d = rw (toZ-ofZ w32 (x .0 .0) f) at (c .before .before .before .before .decides .ensures) in
     let e = rw (toZ-ofZ w32 (x .0 .0) f) at (c .dyadic .ensures) in
-    λ rows p. values.both-operands p (s .args .r) (s .pre .1 .1) (cellsIn (s .args .values .now) (s .args .marks .now)) (sym (c .before .before .before .before .before .before .before .before .before .before .before .before .place .ensures) ∙ c .before .before .before .before .before .before .before .before .before .before .before .match .keys6) (c .before .before .before .before .before .before .before .before .before .before .first4 .ensures) (c .before .before .before .before .before .before .before .before .before .place5 .ensures) (c .before .before .before .before .before .before .before .before .eval3 .ensures rows p) (x .1) (sym d ∙ c .before .before .before .if1 .left) (c .before .before .place6 .ensures) (c .before .eval4 .ensures rows p) e
+    λ rows p. values.both-operands p (s .args .r) (s .pre .1 .1) (cellsIn (s .args .values .now) (s .args .marks .now)) (sym (c .before .before .before .before .before .before .before .before .before .before .before .before .place .ensures) ∙ c .before .before .before .before .before .before .before .before .before .before .before .match .keys6) (c .before .before .before .before .before .before .before .before .before .before .place9 .ensures) (c .before .before .before .before .before .before .before .before .before .place10 .ensures) (c .before .before .before .before .before .before .before .before .eval3 .ensures rows p) (x .1) (sym d ∙ c .before .before .before .if1 .left) (c .before .before .place11 .ensures) (c .before .eval4 .ensures rows p) e
 
 eval-returns-9 : (t : ℕ) → eval-lts.Need-returns-9 (eval-claims t) (eval-at t) eval.Post
 eval-returns-9 t c =
@@ -204,24 +205,26 @@ eval-returns-9 t c =
 pub +eval-spec : {M : Type 1} → statement M
 +eval-spec = close μ-eval λ t. eval-lts.spec (eval-claims t) (eval-at t) eval.Post
     (eval-place-requires t)
-    (eval-number-requires t)
-    (eval-first-requires t)
+    (eval-literal-requires t)
+    (eval-place-requires-2 t)
     (eval-cast-cell t)
     (eval-cell-requires t)
-    (eval-place-requires-2 t)
+    (eval-place-requires-3 t)
     (eval-cast-eval t)
     (eval-eval-requires t)
-    (eval-first-requires-2 t)
-    (eval-place-requires-3 t)
+    (eval-place-requires-4 t)
+    (eval-cast-d t)
+    (eval-place-requires-5 t)
+    (eval-place-requires-6 t)
     (eval-subscript-requires t)
     (eval-cell-at-requires t)
-    (eval-place-requires-4 t)
+    (eval-place-requires-7 t)
     (eval-cast-eval-2 t)
     (eval-eval-requires-2 t)
-    (eval-first-requires-3 t)
+    (eval-place-requires-8 t)
     (eval-monadic-requires t)
-    (eval-first-requires-4 t)
-    (eval-place-requires-5 t)
+    (eval-place-requires-9 t)
+    (eval-place-requires-10 t)
     (eval-cast-eval-3 t)
     (eval-eval-requires-3 t)
     (eval-enum-known-v t)
@@ -229,7 +232,7 @@ pub +eval-spec : {M : Type 1} → statement M
     (eval-decides-requires t)
     (eval-decided-requires t)
     (eval-returns t)
-    (eval-place-requires-6 t)
+    (eval-place-requires-11 t)
     (eval-cast-eval-4 t)
     (eval-eval-requires-4 t)
     (eval-dyadic-requires t)

@@ -1,7 +1,7 @@
 -- `target` meets its contract, by what the row is.
 use borrow.Author.Needs.{needs}
-use mathlib.Core.Path.{refl, sym, _∙_}
-use Rattle.run_code.proofs.Inside.{first-natural}
+use mathlib.Core.Path.{sym, _∙_}
+use native.Mathlib.Omega.{arith}
 use Rattle.run_values.specs.Cells.{cellsIn}
 use Rattle.run_values.proofs.CodeValues.{cell-target, outside-target, element-target, other-target}
 use Rattle.run_values.proofs.target.Statement.{statement}
@@ -10,10 +10,8 @@ use Rattle.run_values.proofs.target.Tie as tie
 place-requires : tie.Need-place-requires
 place-requires c κs = search needs
 
-first-requires : tie.Need-first-requires
-first-requires c κs =
-    let s = c .before .before in
-    (s .pre .1, first-natural (s .pre .0 .1) (s .args .r) (s .pre .1) 2 (sym (c .before .place .ensures) ∙ c .match .keys1) refl)
+place-requires-2 : tie.Need-place-requires-2
+place-requires-2 c κs = search needs
 
 cast-t8 : tie.Need-cast-t8
 cast-t8 c = search needs
@@ -21,12 +19,14 @@ cast-t8 c = search needs
 index-requires : tie.Need-index-requires
 index-requires c κs =
     let s = c .before .before in
-    (s .pre .0, (s .pre .1, first-natural (s .pre .0 .1) (s .args .r) (s .pre .1) 4 (sym (c .before .place .ensures) ∙ c .match .keys3) refl))
+    let what = c .before .place .ensures in
+    let is = c .match .keys3 in
+    (s .pre .0, (s .pre .1, omega arith))
 
 returns : tie.Need-returns
 returns c rows p =
     let s = c .before .before .before in
-    cell-target p (s .args .r) (s .pre .1) (cellsIn (s .args .values .now) (s .args .marks .now)) (sym (c .before .before .place .ensures) ∙ c .before .match .keys1) (c .first .ensures)
+    cell-target p (s .args .r) (s .pre .1) (cellsIn (s .args .values .now) (s .args .marks .now)) (sym (c .before .before .place .ensures) ∙ c .before .match .keys1) (c .place2 .ensures)
 
 returns-2 : tie.Need-returns-2
 returns-2 c rows p =
@@ -48,7 +48,7 @@ target-spec =
     tie.close
     (tie.spec
     place-requires
-    first-requires
+    place-requires-2
     cast-t8
     index-requires
     returns

@@ -1,7 +1,8 @@
 -- The loop keeps how far the line is read. Assumes nothing.
-use mathlib.Core.Path.{_∙_}
-use Prim.Native.Nat.{_-_}
-use lib.ListN.{drop}
+use mathlib.Core.Path.{refl}
+use Prim.Native.Nat.{_+_, _-_, _*_, _<_}
+use native.Mathlib.Omega.{arith}
+use lib.ListN.{length, drop}
 use borrow.Author.Tests.{not-true, not-false}
 use mir.Syntax.{w32}
 use mir.Val.{SFits}
@@ -55,17 +56,37 @@ returns-2 c =
     (c .before .before .before .stop-of .result) (c .before .before .before .stop-of .ensures) (c .before .before .read-field .result) (c .before .before .read-field .ensures)
     (not-true _ (c .if2 .taken))
 
-put-value-requires : tie.Need-put-value-requires Inv-loop μ-loop
-put-value-requires c κs =
-    let l = c .before .before .before .before .before .before .before in
+-- the place of a reading is inside both lists
+inside : (c : tie.After-struct-told Inv-loop μ-loop) → let l = c .before .before .before .before .before .before in let i = l .loop .j * 128 + l .before .before .before .before .args .line in (i < length (l .loop .values)) × (i < length (l .loop .marks))
+inside c =
+    let l = c .before .before .before .before .before .before in
+    let p = l .before .before .before .before .pre in
     let a = l .before .before .before .before .args in
-    (l .before .before .before .before .pre .0, values-length (a .sheet .now) (a .from) (a .count) (a .line) (a .values .now) (a .marks .now) (l .loop .values) (l .loop .marks) (l .loop .at) (l .loop .j) (l .loop .inv) ∙ l .before .before .before .before .pre .1)
+    let v = values-length (a .sheet .now) (a .from) (a .count) (a .line) (a .values .now) (a .marks .now) (l .loop .values) (l .loop .marks) (l .loop .at) (l .loop .j) (l .loop .inv) in
+    let m = marks-length (a .sheet .now) (a .from) (a .count) (a .line) (a .values .now) (a .marks .now) (l .loop .values) (l .loop .marks) (l .loop .at) (l .loop .j) (l .loop .inv) in
+    let less = c .before .before .before .before .before .loop-test .taken in
+    (omega (arith, p .0, p .1), omega (arith, p .0, p .2))
 
-put-mark-requires : tie.Need-put-mark-requires Inv-loop μ-loop
-put-mark-requires c κs =
-    let l = c .before .before .before .before .before .before .before .before .before .before in
-    let a = l .before .before .before .before .args in
-    (l .before .before .before .before .pre .0, marks-length (a .sheet .now) (a .from) (a .count) (a .line) (a .values .now) (a .marks .now) (l .loop .values) (l .loop .marks) (l .loop .at) (l .loop .j) (l .loop .inv) ∙ l .before .before .before .before .pre .2)
+mul-value : tie.Need-mul-value Inv-loop μ-loop
+mul-value c = let (i, j) = inside c in search needs
+
+add-value : tie.Need-add-value Inv-loop μ-loop
+add-value c = let (i, j) = inside c in search needs
+
+mul-value-2 : tie.Need-mul-value-2 Inv-loop μ-loop
+mul-value-2 c = let (i, j) = inside c in search needs
+
+slice-set-from-value : tie.Need-slice-set-from-value Inv-loop μ-loop
+slice-set-from-value c = inside c .0
+
+mul-marks : tie.Need-mul-marks Inv-loop μ-loop
+mul-marks c = let (i, j) = inside c in search needs
+
+add-marks : tie.Need-add-marks Inv-loop μ-loop
+add-marks c = let (i, j) = inside c in search needs
+
+slice-write-marks : tie.Need-slice-write-marks Inv-loop μ-loop
+slice-write-marks c = inside c .1
 
 add-j : tie.Need-add-j Inv-loop μ-loop
 add-j c = search needs
@@ -75,17 +96,17 @@ loop-less c = search needs
 
 loop-again : tie.Need-loop-again Inv-loop μ-loop
 loop-again c =
-    let f = c .before .before .before .before .before .before .before .before .before .before in
+    let f = c .before .before .before in
     let l = f .before .before .before in
     let a = l .before .before .before .before .args in
     let fits : SFits w32 (f .read-field .result .value) = search needs in
     passed (a .sheet .now) (a .from) (a .count) (a .line) (a .values .now) (a .marks .now) (l .loop .values) (l .loop .marks) (l .loop .at) (l .loop .j) (l .loop .inv) (f .before .before .loop-test .taken)
     (f .before .stop-of .result) (f .before .stop-of .ensures) (f .read-field .result) (f .read-field .ensures)
-    (not-false _ (c .before .before .before .before .before .before .before .before .if2 .left))
+    (not-false _ (c .before .if2 .left))
     _ _ _
     (toZ-ofZ w32 _ fits)
-    (c .before .before .before .before .before .put-value .ensures)
-    (c .before .before .put-mark .ensures)
+    refl
+    refl
 
 same-length-3 : tie.Need-same-length-3 Inv-loop μ-loop
 same-length-3 c =
@@ -120,8 +141,13 @@ read-line-spec =
     same-length
     same-length-2
     returns-2
-    put-value-requires
-    put-mark-requires
+    mul-value
+    add-value
+    mul-value-2
+    slice-set-from-value
+    mul-marks
+    add-marks
+    slice-write-marks
     add-j
     loop-less
     loop-again

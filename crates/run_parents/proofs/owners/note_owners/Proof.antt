@@ -1,21 +1,19 @@
 -- `note_owners` meets its contract. The invariant: each row has the note of its lowest ALT below r.
 use mathlib.Core.Path.{_≡_, refl, sym, ap, _∙_}
 use mathlib.Core.Logic.{⊎-elim}
-use mathlib.Core.Bool.{Bool}
 use mathlib.Core.List.{List}
-use Prim.Native.Nat.{ℕ, _+_, _-_, _<_, _≤_}
+use Prim.Native.Nat.{ℕ, _-_, _<_, _≤_}
 use native.Mathlib.Omega.{arith}
-use lib.IntN.{ℤ}
-use lib.ListN.{length, getD, replicate, length-replicate}
+use lib.ListN.{length, getD, length-replicate}
 use borrow.Author.Needs.{needs}
-use Rattle.meaning.specs.Basics.{among, lowest}
+use Rattle.meaning.specs.Basics.{lowest}
 use Rattle.meaning.specs.Rows.{rowCount}
 use Rattle.meaning.specs.State.{program}
+use Rattle.meaning.proofs.LentLaws.{defaults-at}
 use Rattle.machine.specs.RowSteps.{altOf}
-use Rattle.run_parents.specs.Marks.{rowNote, firstNote, ownerNotes}
+use Rattle.run_parents.specs.Marks.{rowNote, ownerNotes}
 use Rattle.run_parents.proofs.Below.{lowest-none}
 use Rattle.run_parents.proofs.OptionLinks.{isOptionOf, alt-lowest}
-use Rattle.run_parents.proofs.Noting.{zeros-at}
 use Rattle.run_parents.proofs.ByRow.{by-row}
 use Rattle.run_parents.proofs.OwnerNotes.{with-alt, with-other}
 use Rattle.run_parents.proofs.owners.note_owners.Statement.{statement}
@@ -34,7 +32,7 @@ loop-holds : tie.Need-loop-holds Inv-loop μ-loop
 loop-holds c =
     let at-clear = c .before .before in
     let args = at-clear .before .before .before .args in
-    (omega arith, refl, λ j l. ap (λ (o : List ℕ). getD o j 0) (at-clear .clear-notes .ensures) ∙ zeros-at (length (args .owners .now)) j ∙ sym (lowest-none (isOptionOf (args .rows .now) j)))
+    (omega arith, refl, λ j l. ap (λ (o : List ℕ). getD o j 0) (at-clear .clear-notes .ensures) ∙ defaults-at 0 (length (args .owners .now)) j ∙ sym (lowest-none (isOptionOf (args .rows .now) j)))
 
 natural-requires : tie.Need-natural-requires Inv-loop μ-loop
 natural-requires c κs = search needs

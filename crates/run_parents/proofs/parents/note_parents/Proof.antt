@@ -6,8 +6,8 @@ use native.Mathlib.Omega.{arith}
 use lib.ListN.{length, getD, length-replicate}
 use borrow.Author.Needs.{needs}
 use Rattle.meaning.specs.Rows.{rowCount}
+use Rattle.meaning.proofs.LentLaws.{defaults-at}
 use Rattle.agreement.proofs.TableFit.{rows-limit}
-use Rattle.run_parents.proofs.Noting.{zeros-at}
 use Rattle.run_parents.specs.Parents.{ParentsNumbered, NextOf}
 use Rattle.run_parents.proofs.MemberNotes.{NotedBelow, noted-first, noted-next, noted-parent}
 use Rattle.run_parents.proofs.NextLinks.{numbered-none, numbered-then, parents-are, nexts-are}
@@ -27,7 +27,7 @@ loop-holds : tie.Need-loop-holds Inv-loop μ-loop
 loop-holds c =
     let at-clear = c .before .before in
     let a = at-clear .before .before .before .before .args in
-    (zero-le, refl, refl, noted-first (a .rows .now) _ (λ j. ap (λ (o : List ℕ). getD o j 0) (at-clear .clear-notes .ensures) ∙ zeros-at (length (a .parents .now)) j), numbered-none (NextOf (a .rows .now)) (at-clear .clear-notes .last .0) (a .nexts .now))
+    (zero-le, refl, refl, noted-first (a .rows .now) _ (λ j. ap (λ (o : List ℕ). getD o j 0) (at-clear .clear-notes .ensures) ∙ defaults-at 0 (length (a .parents .now)) j), numbered-none (NextOf (a .rows .now)) (at-clear .clear-notes .last .0) (a .nexts .now))
 
 note-row-requires : tie.Need-note-row-requires Inv-loop μ-loop
 note-row-requires c κs =
@@ -69,7 +69,7 @@ returns c =
     let size : length (l .parents) ≡ length (start .args .parents .now) = l .inv .1 ∙ ap (λ (o : List ℕ). length o) (at-clear .clear-notes .ensures) ∙ length-replicate (length (start .args .parents .now)) 0 in (
       parents-are rows (l .parents) each (length (start .args .parents .now)) size,
       nexts-are rows (l .parents) each (start .pre .0) (at-clear .clear-notes .last .0) (start .args .nexts .now) (l .nexts)
-          (λ j. ap (λ (o : List ℕ). getD o j 0) (at-clear .clear-notes .ensures) ∙ zeros-at (length (start .args .parents .now)) j)
+          (λ j. ap (λ (o : List ℕ). getD o j 0) (at-clear .clear-notes .ensures) ∙ defaults-at 0 (length (start .args .parents .now)) j)
           (l .inv .2)
           (l .inv .4),
     )

@@ -1,9 +1,9 @@
 -- `start_beneath`, `start_members` and `start_row` meet their contracts. The measure is what is left of 1,025 rows.
 use Rattle.run_starting.proofs.Starting.{ending-starts, comes-itself, none-starts, next-starts, more-starts, one-starts}
-use Rattle.run_starting.proofs.Standing.{found-in, links-in, no-members, link-in, next-links, first-of-link, skip-shape, seq-shape, par-shape, first-of}
+use Rattle.run_starting.proofs.Standing.{found-in, links-in, no-members, link-in, next-links, skip-shape, seq-shape, par-shape}
 use Rattle.machine.specs.Counts.{keptOf}
 use native.Mathlib.Omega.{arith}
-use Prim.Native.Nat.{_+_, _*_, _-_, _≤_}
+use Prim.Native.Nat.{_+_, _*_, _-_}
 use mathlib.Core.Path.{refl}
 use borrow.Author.Needs.{needs}
 use Prim.Native.Nat.{ℕ, _<_}
@@ -18,7 +18,6 @@ use Rattle.run_starting.proofs.start.+start_beneath+start_members+start
 use Rattle.run_starting.proofs.start.start_row.Reads as start-row
 use Rattle.run_starting.proofs.start.start_row.Kinds as start-row-kinds
 use Rattle.run_starting.proofs.start.+start_beneath+start_members+start_row.Lts-start_row as start-row-lts
-use Rattle.run_code.proofs.first.Reads as first-reads
 use Rattle.run_code.proofs.place.Reads as place-reads
 use Rattle.run_starting.proofs.counts.comes.Reads as comes-reads
 use Rattle.run_starting.proofs.counts.remain.Reads as remain-reads
@@ -66,10 +65,10 @@ start-row-below t =
     and 4 start-row-kinds.ps (falls 4 start-row-kinds.ps _<_ μ-start-row t) start-row.Pre
 
 abbrev start-beneath-claims : ℕ → start-beneath-lts.Claims
-start-beneath-claims t = (place-reads.Asked, place-reads.Learnt, start-members-below t, start-members.Post, first-reads.Asked, first-reads.Learnt, comes-reads.Asked, comes-reads.Learnt)
+start-beneath-claims t = (place-reads.Asked, place-reads.Learnt, start-members-below t, start-members.Post, comes-reads.Asked, comes-reads.Learnt)
 
 abbrev start-members-claims : ℕ → start-members-lts.Claims
-start-members-claims t = (place-reads.Asked, place-reads.Learnt, remain-reads.Asked, remain-reads.Learnt, first-reads.Asked, first-reads.Learnt, start-row-below t, start-row.Post, start-members-below t, start-members.Post)
+start-members-claims t = (place-reads.Asked, place-reads.Learnt, remain-reads.Asked, remain-reads.Learnt, start-row-below t, start-row.Post, start-members-below t, start-members.Post)
 
 abbrev start-row-claims : ℕ → start-row-lts.Claims
 start-row-claims t = (start-beneath-below t, start-beneath.Post)
@@ -87,47 +86,37 @@ start-beneath-start-members-requires t c κs =
     let h = found-in (P .1) (start .args .r) s refl in
     (rw (← start .pre .0) (omega (arith, h .higher, start .pre .1 .1)), (P, ((h .inside, start .pre .1 .1, omega arith), links-in (P .1) (start .args .r) s refl)))
 
-start-beneath-first-requires : (t : ℕ) → start-beneath-lts.Need-first-requires (start-beneath-claims t) (start-beneath-at t) start-beneath.Post
-start-beneath-first-requires t c κs =
-    let at-match = c in
-    let at-place = at-match .before in
-    let start = at-place .before in
-    let l : start .args .r ≤ 1024 = omega (arith, start .pre .1 .1) in
-    (l, first-of (start .pre .1 .0 .1) (start .args .r) l (at-place .place .ensures) 30 (at-match .match .keys2) refl)
+start-beneath-place-requires-2 : (t : ℕ) → start-beneath-lts.Need-place-requires-2 (start-beneath-claims t) (start-beneath-at t) start-beneath.Post
+start-beneath-place-requires-2 t c κs = search needs
 
 start-beneath-cast-start-members : (t : ℕ) → start-beneath-lts.Need-cast-start-members (start-beneath-claims t) (start-beneath-at t) start-beneath.Post
 start-beneath-cast-start-members t c = search needs
 
 start-beneath-start-members-requires-2 : (t : ℕ) → start-beneath-lts.Need-start-members-requires-2 (start-beneath-claims t) (start-beneath-at t) start-beneath.Post
 start-beneath-start-members-requires-2 t c κs =
-    let at-first = c .before .before .before in
-    let at-match = at-first .before in
+    let at-place2 = c .before .before .before in
+    let at-match = at-place2 .before in
     let at-place = at-match .before in
     let start = at-place .before in
     let P = start .pre .1 .0 in
-    let s = seq-shape (P .1) (start .args .r) (omega (arith, start .pre .1 .1)) (at-place .place .ensures) (at-match .match .keys2) (at-first .first .ensures) in
+    let s = seq-shape (P .1) (start .args .r) (omega (arith, start .pre .1 .1)) (at-place .place .ensures) (at-match .match .keys2) (at-place2 .place2 .ensures) in
     let h = found-in (P .1) (start .args .r) s refl in
     (rw (← start .pre .0) (omega (arith, h .higher, start .pre .1 .1)), (P, ((h .inside, start .pre .1 .1, omega arith), links-in (P .1) (start .args .r) s refl)))
 
-start-beneath-first-requires-2 : (t : ℕ) → start-beneath-lts.Need-first-requires-2 (start-beneath-claims t) (start-beneath-at t) start-beneath.Post
-start-beneath-first-requires-2 t c κs =
-    let at-match = c in
-    let at-place = at-match .before in
-    let start = at-place .before in
-    let l : start .args .r ≤ 1024 = omega (arith, start .pre .1 .1) in
-    (l, first-of (start .pre .1 .0 .1) (start .args .r) l (at-place .place .ensures) 31 (at-match .match .keys3) refl)
+start-beneath-place-requires-3 : (t : ℕ) → start-beneath-lts.Need-place-requires-3 (start-beneath-claims t) (start-beneath-at t) start-beneath.Post
+start-beneath-place-requires-3 t c κs = search needs
 
 start-beneath-cast-start-members-2 : (t : ℕ) → start-beneath-lts.Need-cast-start-members-2 (start-beneath-claims t) (start-beneath-at t) start-beneath.Post
 start-beneath-cast-start-members-2 t c = search needs
 
 start-beneath-start-members-requires-3 : (t : ℕ) → start-beneath-lts.Need-start-members-requires-3 (start-beneath-claims t) (start-beneath-at t) start-beneath.Post
 start-beneath-start-members-requires-3 t c κs =
-    let at-first = c .before .before .before in
-    let at-match = at-first .before in
+    let at-place2 = c .before .before .before in
+    let at-match = at-place2 .before in
     let at-place = at-match .before in
     let start = at-place .before in
     let P = start .pre .1 .0 in
-    let s = par-shape (P .1) (start .args .r) (omega (arith, start .pre .1 .1)) (at-place .place .ensures) (at-match .match .keys3) (at-first .first2 .ensures) in
+    let s = par-shape (P .1) (start .args .r) (omega (arith, start .pre .1 .1)) (at-place .place .ensures) (at-match .match .keys3) (at-place2 .place3 .ensures) in
     let h = found-in (P .1) (start .args .r) s refl in
     (rw (← start .pre .0) (omega (arith, h .higher, start .pre .1 .1)), (P, ((h .inside, start .pre .1 .1, omega arith), links-in (P .1) (start .args .r) s refl)))
 
@@ -143,19 +132,19 @@ start-beneath-returns t c =
 
 start-beneath-returns-2 : (t : ℕ) → start-beneath-lts.Need-returns-2 (start-beneath-claims t) (start-beneath-at t) start-beneath.Post
 start-beneath-returns-2 t c =
-    let at-first = c .before .before .before .before in
-    let at-match = at-first .before in
+    let at-place2 = c .before .before .before .before in
+    let at-match = at-place2 .before in
     let at-place = at-match .before in
     let start = at-place .before in
-    λ rows P. ending-starts rows (start .args .r) (keptOf (start .args .states .now) (start .args .left .now) (start .args .came .now)) (found-in P (start .args .r) (seq-shape P (start .args .r) (omega (arith, start .pre .1 .1)) (at-place .place .ensures) (at-match .match .keys2) (at-first .first .ensures)) refl) (c .start-members2 .ensures rows P)
+    λ rows P. ending-starts rows (start .args .r) (keptOf (start .args .states .now) (start .args .left .now) (start .args .came .now)) (found-in P (start .args .r) (seq-shape P (start .args .r) (omega (arith, start .pre .1 .1)) (at-place .place .ensures) (at-match .match .keys2) (at-place2 .place2 .ensures)) refl) (c .start-members2 .ensures rows P)
 
 start-beneath-returns-3 : (t : ℕ) → start-beneath-lts.Need-returns-3 (start-beneath-claims t) (start-beneath-at t) start-beneath.Post
 start-beneath-returns-3 t c =
-    let at-first = c .before .before .before .before in
-    let at-match = at-first .before in
+    let at-place2 = c .before .before .before .before in
+    let at-match = at-place2 .before in
     let at-place = at-match .before in
     let start = at-place .before in
-    λ rows P. ending-starts rows (start .args .r) (keptOf (start .args .states .now) (start .args .left .now) (start .args .came .now)) (found-in P (start .args .r) (par-shape P (start .args .r) (omega (arith, start .pre .1 .1)) (at-place .place .ensures) (at-match .match .keys3) (at-first .first2 .ensures)) refl) (c .start-members3 .ensures rows P)
+    λ rows P. ending-starts rows (start .args .r) (keptOf (start .args .states .now) (start .args .left .now) (start .args .came .now)) (found-in P (start .args .r) (par-shape P (start .args .r) (omega (arith, start .pre .1 .1)) (at-place .place .ensures) (at-match .match .keys3) (at-place2 .place3 .ensures)) refl) (c .start-members3 .ensures rows P)
 
 start-beneath-returns-4 : (t : ℕ) → start-beneath-lts.Need-returns-4 (start-beneath-claims t) (start-beneath-at t) start-beneath.Post
 start-beneath-returns-4 t c =
@@ -178,116 +167,109 @@ start-members-returns t c =
     let start = at-place .before in
     λ rows P. none-starts rows (start .args .m) (start .args .all) (start .args .r) (start .args .n) (keptOf (start .args .states .now) (start .args .left .now) (start .args .came .now)) (no-members P (start .args .m) (start .pre .1 .1 .0 .0) (at-place .place .ensures) (at-if .if1 .taken)) (c .remain .ensures (start .args .came .now))
 
-start-members-first-requires : (t : ℕ) → start-members-lts.Need-first-requires (start-members-claims t) (start-members-at t) start-members.Post
-start-members-first-requires t c κs =
-    let at-if = c in
-    let at-place = at-if .before in
-    let start = at-place .before in
-    let P = start .pre .1 .0 in
-    let l = start .pre .1 .1 .0 .0 in
-    let u = start .pre .1 .1 .1 in
-    (l, first-of-link (P .1) (start .args .m) l (at-place .place .ensures) u (at-if .if1 .left))
+start-members-place-requires-2 : (t : ℕ) → start-members-lts.Need-place-requires-2 (start-members-claims t) (start-members-at t) start-members.Post
+start-members-place-requires-2 t c κs = search needs
 
 start-members-cast-p : (t : ℕ) → start-members-lts.Need-cast-p (start-members-claims t) (start-members-at t) start-members.Post
 start-members-cast-p t c = search needs
 
 start-members-start-row-requires : (t : ℕ) → start-members-lts.Need-start-row-requires (start-members-claims t) (start-members-at t) start-members.Post
 start-members-start-row-requires t c κs =
-    let at-first = c .before .before .before in
-    let at-if = at-first .before in
+    let at-place2 = c .before .before .before in
+    let at-if = at-place2 .before in
     let at-place = at-if .before in
     let start = at-place .before in
     let P = start .pre .1 .0 in
     let l = start .pre .1 .1 .0 .0 in
     let u = start .pre .1 .1 .1 in
-    let h = link-in (P .1) (start .args .m) l (at-place .place .ensures) u (at-if .if1 .left) (at-first .first .ensures) refl in
+    let h = link-in (P .1) (start .args .m) l (at-place .place .ensures) u (at-if .if1 .left) (at-place2 .place2 .ensures) refl in
     (rw (← start .pre .0) (omega (arith, h .higher, l)), (P, h .inside))
 
-start-members-place-requires-2 : (t : ℕ) → start-members-lts.Need-place-requires-2 (start-members-claims t) (start-members-at t) start-members.Post
-start-members-place-requires-2 t c κs = search needs
+start-members-place-requires-3 : (t : ℕ) → start-members-lts.Need-place-requires-3 (start-members-claims t) (start-members-at t) start-members.Post
+start-members-place-requires-3 t c κs = search needs
 
 start-members-cast-next : (t : ℕ) → start-members-lts.Need-cast-next (start-members-claims t) (start-members-at t) start-members.Post
 start-members-cast-next t c = search needs
 
 start-members-element-copy-out-if2 : (t : ℕ) → start-members-lts.Need-element-copy-out-if2 (start-members-claims t) (start-members-at t) start-members.Post
 start-members-element-copy-out-if2 t c =
-    let at-first = c .before .before .before .before .before in
-    let at-if = at-first .before in
+    let at-place2 = c .before .before .before .before .before in
+    let at-if = at-place2 .before in
     let at-place = at-if .before in
     let start = at-place .before in
     let P = start .pre .1 .0 in
     let l = start .pre .1 .1 .0 .0 in
     let u = start .pre .1 .1 .1 in
-    (link-in (P .1) (start .args .m) l (at-place .place .ensures) u (at-if .if1 .left) (at-first .first .ensures) refl) .inside
+    (link-in (P .1) (start .args .m) l (at-place .place .ensures) u (at-if .if1 .left) (at-place2 .place2 .ensures) refl) .inside
 
 start-members-start-members-requires : (t : ℕ) → start-members-lts.Need-start-members-requires (start-members-claims t) (start-members-at t) start-members.Post
 start-members-start-members-requires t c κs =
-    let at-place2 = c .before .before .before .before .before in
-    let at-first = at-place2 .before .before .before .before .before in
-    let at-if = at-first .before in
+    let at-place3 = c .before .before .before .before .before in
+    let at-place2 = at-place3 .before .before .before .before .before in
+    let at-if = at-place2 .before in
     let at-place = at-if .before in
     let start = at-place .before in
     let P = start .pre .1 .0 in
     let l = start .pre .1 .1 .0 .0 in
     let u = start .pre .1 .1 .1 in
-    let h = link-in (P .1) (start .args .m) l (at-place .place .ensures) u (at-if .if1 .left) (at-first .first .ensures) (at-place2 .place2 .ensures) in
-    (rw (← start .pre .0) (omega (arith, h .higher-next, l)), (P, ((h .inside-next, start .pre .1 .1 .0 .1, omega (arith, h .higher-next, start .pre .1 .1 .0 .2)), next-links (P .1) (start .args .m) l (at-place .place .ensures) u (at-if .if1 .left) (at-place2 .place2 .ensures))))
+    let h = link-in (P .1) (start .args .m) l (at-place .place .ensures) u (at-if .if1 .left) (at-place2 .place2 .ensures) (at-place3 .place3 .ensures) in
+    (rw (← start .pre .0) (omega (arith, h .higher-next, l)), (P, ((h .inside-next, start .pre .1 .1 .0 .1, omega (arith, h .higher-next, start .pre .1 .1 .0 .2)), next-links (P .1) (start .args .m) l (at-place .place .ensures) u (at-if .if1 .left) (at-place3 .place3 .ensures))))
 
 start-members-returns-2 : (t : ℕ) → start-members-lts.Need-returns-2 (start-members-claims t) (start-members-at t) start-members.Post
 start-members-returns-2 t c =
     let at-if2 = c .before .before .before .before in
-    let at-place2 = at-if2 .before .before in
-    let at-row = at-place2 .before in
-    let at-first = at-row .before .before .before .before in
-    let at-if = at-first .before in
+    let at-place3 = at-if2 .before .before in
+    let at-row = at-place3 .before in
+    let at-place2 = at-row .before .before .before .before in
+    let at-if = at-place2 .before in
     let at-place = at-if .before in
     let start = at-place .before in
     let l = start .pre .1 .1 .0 .0 in
     let u = start .pre .1 .1 .1 in
-    λ rows P. next-starts rows (start .args .m) (start .args .all) (start .args .r) (start .args .n) (keptOf (start .args .states .now) (start .args .left .now) (start .args .came .now)) (link-in P (start .args .m) l (at-place .place .ensures) u (at-if .if1 .left) (at-first .first .ensures) (at-place2 .place2 .ensures)) (at-row .start-row .ensures rows P) (at-if2 .if2 .taken) (c .start-members .ensures rows P)
+    λ rows P. next-starts rows (start .args .m) (start .args .all) (start .args .r) (start .args .n) (keptOf (start .args .states .now) (start .args .left .now) (start .args .came .now)) (link-in P (start .args .m) l (at-place .place .ensures) u (at-if .if1 .left) (at-place2 .place2 .ensures) (at-place3 .place3 .ensures)) (at-row .start-row .ensures rows P) (at-if2 .if2 .taken) (c .start-members .ensures rows P)
 
 start-members-add-start-members : (t : ℕ) → start-members-lts.Need-add-start-members (start-members-claims t) (start-members-at t) start-members.Post
 start-members-add-start-members t c = search needs
 
 start-members-start-members-requires-2 : (t : ℕ) → start-members-lts.Need-start-members-requires-2 (start-members-claims t) (start-members-at t) start-members.Post
 start-members-start-members-requires-2 t c κs =
-    let at-place2 = c .before .before .before .before .before .before in
-    let at-first = at-place2 .before .before .before .before .before in
-    let at-if = at-first .before in
+    let at-place3 = c .before .before .before .before .before .before in
+    let at-place2 = at-place3 .before .before .before .before .before in
+    let at-if = at-place2 .before in
     let at-place = at-if .before in
     let start = at-place .before in
     let P = start .pre .1 .0 in
     let l = start .pre .1 .1 .0 .0 in
     let u = start .pre .1 .1 .1 in
-    let h = link-in (P .1) (start .args .m) l (at-place .place .ensures) u (at-if .if1 .left) (at-first .first .ensures) (at-place2 .place2 .ensures) in
-    (rw (← start .pre .0) (omega (arith, h .higher-next, l)), (P, ((h .inside-next, start .pre .1 .1 .0 .1, omega (arith, h .higher-next, start .pre .1 .1 .0 .2)), next-links (P .1) (start .args .m) l (at-place .place .ensures) u (at-if .if1 .left) (at-place2 .place2 .ensures))))
+    let h = link-in (P .1) (start .args .m) l (at-place .place .ensures) u (at-if .if1 .left) (at-place2 .place2 .ensures) (at-place3 .place3 .ensures) in
+    (rw (← start .pre .0) (omega (arith, h .higher-next, l)), (P, ((h .inside-next, start .pre .1 .1 .0 .1, omega (arith, h .higher-next, start .pre .1 .1 .0 .2)), next-links (P .1) (start .args .m) l (at-place .place .ensures) u (at-if .if1 .left) (at-place3 .place3 .ensures))))
 
 start-members-returns-3 : (t : ℕ) → start-members-lts.Need-returns-3 (start-members-claims t) (start-members-at t) start-members.Post
 start-members-returns-3 t c =
     let at-if3 = c .before .before .before .before in
     let at-if2 = at-if3 .before in
-    let at-place2 = at-if2 .before .before in
-    let at-row = at-place2 .before in
-    let at-first = at-row .before .before .before .before in
-    let at-if = at-first .before in
+    let at-place3 = at-if2 .before .before in
+    let at-row = at-place3 .before in
+    let at-place2 = at-row .before .before .before .before in
+    let at-if = at-place2 .before in
     let at-place = at-if .before in
     let start = at-place .before in
     let l = start .pre .1 .1 .0 .0 in
     let u = start .pre .1 .1 .1 in
-    λ rows P. more-starts rows (start .args .m) (start .args .all) (start .args .r) (start .args .n) (keptOf (start .args .states .now) (start .args .left .now) (start .args .came .now)) (link-in P (start .args .m) l (at-place .place .ensures) u (at-if .if1 .left) (at-first .first .ensures) (at-place2 .place2 .ensures)) (at-row .start-row .ensures rows P) (at-if2 .if2 .left) (at-if3 .if3 .taken) (c .start-members2 .ensures rows P)
+    λ rows P. more-starts rows (start .args .m) (start .args .all) (start .args .r) (start .args .n) (keptOf (start .args .states .now) (start .args .left .now) (start .args .came .now)) (link-in P (start .args .m) l (at-place .place .ensures) u (at-if .if1 .left) (at-place2 .place2 .ensures) (at-place3 .place3 .ensures)) (at-row .start-row .ensures rows P) (at-if2 .if2 .left) (at-if3 .if3 .taken) (c .start-members2 .ensures rows P)
 
 start-members-returns-4 : (t : ℕ) → start-members-lts.Need-returns-4 (start-members-claims t) (start-members-at t) start-members.Post
 start-members-returns-4 t c =
     let at-if2 = c .before in
-    let at-place2 = at-if2 .before .before in
-    let at-row = at-place2 .before in
-    let at-first = at-row .before .before .before .before in
-    let at-if = at-first .before in
+    let at-place3 = at-if2 .before .before in
+    let at-row = at-place3 .before in
+    let at-place2 = at-row .before .before .before .before in
+    let at-if = at-place2 .before in
     let at-place = at-if .before in
     let start = at-place .before in
     let l = start .pre .1 .1 .0 .0 in
     let u = start .pre .1 .1 .1 in
-    λ rows P. one-starts rows (start .args .m) (start .args .all) (start .args .r) (start .args .n) (keptOf (start .args .states .now) (start .args .left .now) (start .args .came .now)) (link-in P (start .args .m) l (at-place .place .ensures) u (at-if .if1 .left) (at-first .first .ensures) (at-place2 .place2 .ensures)) (at-row .start-row .ensures rows P) (at-if2 .if2 .left) (c .if3 .left)
+    λ rows P. one-starts rows (start .args .m) (start .args .all) (start .args .r) (start .args .n) (keptOf (start .args .states .now) (start .args .left .now) (start .args .came .now)) (link-in P (start .args .m) l (at-place .place .ensures) u (at-if .if1 .left) (at-place2 .place2 .ensures) (at-place3 .place3 .ensures)) (at-row .start-row .ensures rows P) (at-if2 .if2 .left) (c .if3 .left)
 
 start-row-element-write-states : (t : ℕ) → start-row-lts.Need-element-write-states (start-row-claims t) (start-row-at t) start-row.Post
 start-row-element-write-states t c = search needs
@@ -305,10 +287,10 @@ pub +start-beneath+start-members+start-row-spec : {M : Type 1} → statement M
     close μ-start-beneath μ-start-members μ-start-row (λ t. start-beneath-lts.spec (start-beneath-claims t) (start-beneath-at t) start-beneath.Post
     (start-beneath-place-requires t)
     (start-beneath-start-members-requires t)
-    (start-beneath-first-requires t)
+    (start-beneath-place-requires-2 t)
     (start-beneath-cast-start-members t)
     (start-beneath-start-members-requires-2 t)
-    (start-beneath-first-requires-2 t)
+    (start-beneath-place-requires-3 t)
     (start-beneath-cast-start-members-2 t)
     (start-beneath-start-members-requires-3 t)
     (start-beneath-comes-requires t)
@@ -320,10 +302,10 @@ pub +start-beneath+start-members+start-row-spec : {M : Type 1} → statement M
     (start-members-place-requires t)
     (start-members-remain-requires t)
     (start-members-returns t)
-    (start-members-first-requires t)
+    (start-members-place-requires-2 t)
     (start-members-cast-p t)
     (start-members-start-row-requires t)
-    (start-members-place-requires-2 t)
+    (start-members-place-requires-3 t)
     (start-members-cast-next t)
     (start-members-element-copy-out-if2 t)
     (start-members-start-members-requires t)

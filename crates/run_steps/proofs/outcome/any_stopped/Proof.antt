@@ -7,7 +7,7 @@ use lib.ListN.{take}
 use Rattle.meaning.specs.State.{anyOf}
 use Rattle.meaning.specs.Order.{isStopped}
 use borrow.Author.Tests.{le-leb, lt-leb}
-use Rattle.run_steps.proofs.Outcomes.{none-yet, one-passes}
+use Rattle.run_turns.proofs.Outcomes.{none-yet, one-passes}
 use Rattle.run_steps.proofs.outcome.any_stopped.Statement.{statement}
 use Rattle.run_steps.proofs.outcome.any_stopped.Tie as tie
 

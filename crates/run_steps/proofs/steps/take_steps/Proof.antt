@@ -1,31 +1,27 @@
 -- `take_steps` meets its contract. The loop's invariant: on every sheet whose readings are kept the run stands at a state of its order, n steps taken. The measure is what is left of the budget.
-use mathlib.Core.Path.{_≡_, refl, sym, ap, ap₂, _∙_}
+use mathlib.Core.Path.{_≡_, refl, sym, ap₂, _∙_}
 use mathlib.Core.Logic.{⊎-elim}
-use mathlib.Core.List.{List}
-use Prim.Native.Nat.{ℕ, _-_, _<_, _≤_}
+use Prim.Native.Nat.{_-_, _≤_}
 use native.Mathlib.Omega.{arith}
-use lib.IntN.{ℤ}
 use lib.ListN.{length}
 use borrow.Author.Needs.{needs}
 use mir.ValLaws.{toZ-ofZ}
 use mir.Val.{SFits}
 use mir.Syntax.{w32}
-use Rattle.meaning.specs.Rows.{rowCount}
 use Rattle.meaning.specs.Readings.{Sheet}
 use Rattle.agreement.proofs.TableFit.{rows-limit}
-use Rattle.run_code.specs.Prepared.{Prepared}
-use Rattle.run_values.specs.declared.store.State.{State}
-use Rattle.run_intents.specs.Held.{KeptReadings}
+use Rattle.machine.specs.Held.{KeptReadings}
 use Rattle.run_notes.specs.Notes.{listsOf}
-use Rattle.run_steps.specs.Showing.{listsLent}
-use Rattle.run_steps.specs.Ran.{arraysOf}
-use Rattle.run_steps.specs.Turns.{withPut, hostOf}
+use Rattle.run_turns.specs.Showing.{listsLent}
+use Rattle.run_turns.specs.Results.{arraysOf}
+use Rattle.run_turns.specs.Turns.{withPut, hostOf}
 use Rattle.machine.proofs.HeldLaws.{states-long}
-use Rattle.run_steps.proofs.Ending.{not-last}
-use Rattle.run_steps.proofs.ChangedRows.{root-is, root-is-process, root-below}
-use Rattle.run_steps.proofs.TurnLaws.{host-fits, turned-arrays}
-use Rattle.run_steps.proofs.Laws.{note-laws}
-use Rattle.run_steps.proofs.Stands.{Stands, stands-first, began-below, total-is, stands-ends, picked-below, change-within, change-fits, change-processes, came-below, stands-further, total-few}
+use Rattle.run_turns.proofs.Ending.{not-last}
+use Rattle.run_turns.proofs.ChangedRows.{root-is, root-is-process, root-below}
+use Rattle.run_turns.proofs.TurnLaws.{host-fits, reading-fits, turned-arrays}
+use Rattle.run_turns.proofs.Laws.{note-laws}
+use Rattle.run_turns.specs.Machine.{machineOf, Stands}
+use Rattle.run_turns.proofs.Stands.{stands-first, began-below, stands-ends, picked-below, change-within, change-fits, change-processes, came-below, stands-further, total-few}
 use Rattle.run_steps.proofs.steps.take_steps.Statement.{statement}
 use Rattle.run_steps.proofs.steps.take_steps.Tie as tie
 
@@ -33,7 +29,7 @@ abbrev Inv-loop : tie.InvT-loop
 Inv-loop rows code readings given lines choices budget readied₀ taken₀ root states₀ numbers₀ counts₀ left₀ came₀ acts₀ sent₀ elements₀ bits₀ state₀ n₀ readied taken states numbers counts left came acts sent elements bits state n =
     (n ≤ budget) × (length readied ≡ length readied₀) × (length taken ≡ length taken₀)
     × ((sheet : Sheet) → KeptReadings rows sheet readings given lines
-    → Stands rows sheet choices budget (listsLent readied₀ taken₀) n (listsLent readied taken) (arraysOf state states numbers counts) left came (listsOf acts sent elements bits))
+    → Stands rows sheet choices budget (listsLent readied₀ taken₀) n (listsLent readied taken) (machineOf (arraysOf state states numbers counts) left came (listsOf acts sent elements bits)))
 
 abbrev μ-loop : tie.MeasureT-loop
 μ-loop rows code readings given lines choices budget readied₀ taken₀ root states₀ numbers₀ counts₀ left₀ came₀ acts₀ sent₀ elements₀ bits₀ state₀ n₀ readied taken states numbers counts left came acts sent elements bits state n =
@@ -50,7 +46,7 @@ fresh-requires c κs = search needs
 
 begin-requires : tie.Need-begin-requires Inv-loop μ-loop
 begin-requires c κs =
-    let s0 = c .before .before .before .before .before .before .before .before .before in
+    let s0 = c .before .before .before .before .before .before .before .before .before .before in
     let p = s0 .pre in
     let P = p .0 in
     let (sheet, K) = p .1 .0 in
@@ -59,7 +55,7 @@ begin-requires c κs =
 
 note-all-requires : tie.Need-note-all-requires Inv-loop μ-loop
 note-all-requires c κs =
-    let s0 = c .before .before .before .before .before .before .before .before .before .before .before .before .before .before .before .before .before .before .before .before in
+    let s0 = c .before .before .before .before .before .before .before .before .before .before .before .before .before .before .before .before .before .before .before .before .before in
     let p = s0 .pre in
     let P = p .0 in
     let (sheet, K) = p .1 .0 in
@@ -67,7 +63,7 @@ note-all-requires c κs =
 
 loop-holds : tie.Need-loop-holds Inv-loop μ-loop
 loop-holds c =
-    let s0 = c .before .before .before .before .before .before .before .before .before .before .before .before .before .before .before .before .before .before .before .before .before in
+    let s0 = c .before .before .before .before .before .before .before .before .before .before .before .before .before .before .before .before .before .before .before .before .before .before in
     let p = s0 .pre in
     let P = p .0 in (
       omega arith,
@@ -84,7 +80,7 @@ is-last-requires c κs = search needs
 
 slice-aggregate-outcome-with : tie.Need-slice-aggregate-outcome-with Inv-loop μ-loop
 slice-aggregate-outcome-with c =
-    let s0 = c .before .before .before .before .before .before .before .before .before .before .before .before .before .before .before .before .before .before .before .before .before .before .before .before .before .before .before in
+    let s0 = c .before .before .before .before .before .before .before .before .before .before .before .before .before .before .before .before .before .before .before .before .before .before .before .before .before .before .before .before in
     let p = s0 .pre in
     let P = p .0 in
     let (sheet, K) = p .1 .0 in
@@ -94,7 +90,7 @@ slice-aggregate-outcome-with c =
 
 outcome-with-requires : tie.Need-outcome-with-requires Inv-loop μ-loop
 outcome-with-requires c κs =
-    let s0 = c .before .before .before .before .before .before .before .before .before .before .before .before .before .before .before .before .before .before .before .before .before .before .before .before .before .before .before in
+    let s0 = c .before .before .before .before .before .before .before .before .before .before .before .before .before .before .before .before .before .before .before .before .before .before .before .before .before .before .before .before in
     let p = s0 .pre in
     let P = p .0 in
     let (sheet, K) = p .1 .0 in
@@ -104,7 +100,7 @@ outcome-with-requires c κs =
 
 cast-t56 : tie.Need-cast-t56 Inv-loop μ-loop
 cast-t56 c =
-    let s0 = c .before .before .before .before .before .before .before .before .before .before .before .before .before .before .before .before .before .before .before .before .before .before .before .before .before .before .before .before .before .before .before in
+    let s0 = c .before .before .before .before .before .before .before .before .before .before .before .before .before .before .before .before .before .before .before .before .before .before .before .before .before .before .before .before .before .before .before .before in
     let p = s0 .pre in
     let P = p .0 in
     let (sheet, K) = p .1 .0 in
@@ -123,7 +119,7 @@ same-length-2 c =
 
 returns : tie.Need-returns Inv-loop μ-loop
 returns c =
-    let s0 = c .before .before .before .before .before .before .before .before .before .before .before .before .before .before .before .before .before .before .before .before .before .before .before .before .before .before .before .before .before .before .before in
+    let s0 = c .before .before .before .before .before .before .before .before .before .before .before .before .before .before .before .before .before .before .before .before .before .before .before .before .before .before .before .before .before .before .before .before in
     let p = s0 .pre in
     let P = p .0 in
     let l = c .before .before .before .before .before .before .before .before .before .loop in
@@ -139,7 +135,7 @@ choose-requires c κs = search needs
 
 cast-show : tie.Need-cast-show Inv-loop μ-loop
 cast-show c =
-    let s0 = c .before .before .before .before .before .before .before .before .before .before .before .before .before .before .before .before .before .before .before .before .before .before .before .before .before .before .before .before .before .before in
+    let s0 = c .before .before .before .before .before .before .before .before .before .before .before .before .before .before .before .before .before .before .before .before .before .before .before .before .before .before .before .before .before .before .before in
     let p = s0 .pre in
     let P = p .0 in
     let (sheet, K) = p .1 .0 in
@@ -153,7 +149,7 @@ show-requires c κs = search needs
 
 cast-show-2 : tie.Need-cast-show-2 Inv-loop μ-loop
 cast-show-2 c =
-    let s0 = c .before .before .before .before .before .before .before .before .before .before .before .before .before .before .before .before .before .before .before .before .before .before .before .before .before .before .before .before .before .before .before .before .before .before in
+    let s0 = c .before .before .before .before .before .before .before .before .before .before .before .before .before .before .before .before .before .before .before .before .before .before .before .before .before .before .before .before .before .before .before .before .before .before .before in
     let p = s0 .pre in
     let P = p .0 in
     let (sheet, K) = p .1 .0 in
@@ -168,7 +164,7 @@ show-requires-2 c κs = search needs
 
 change-of-requires : tie.Need-change-of-requires Inv-loop μ-loop
 change-of-requires c κs =
-    let s0 = c .before .before .before .before .before .before .before .before .before .before .before .before .before .before .before .before .before .before .before .before .before .before .before .before .before .before .before .before .before .before .before .before .before .before .before .before .before .before .before .before in
+    let s0 = c .before .before .before .before .before .before .before .before .before .before .before .before .before .before .before .before .before .before .before .before .before .before .before .before .before .before .before .before .before .before .before .before .before .before .before .before .before .before .before .before .before in
     let p = s0 .pre in
     let P = p .0 in
     let (sheet, K) = p .1 .0 in
@@ -180,7 +176,7 @@ change-of-requires c κs =
 
 leave-step-requires : tie.Need-leave-step-requires Inv-loop μ-loop
 leave-step-requires c κs =
-    let s0 = c .before .before .before .before .before .before .before .before .before .before .before .before .before .before .before .before .before .before .before .before .before .before .before .before .before .before .before .before .before .before .before .before .before .before .before .before .before .before .before .before .before .before .before .before .before in
+    let s0 = c .before .before .before .before .before .before .before .before .before .before .before .before .before .before .before .before .before .before .before .before .before .before .before .before .before .before .before .before .before .before .before .before .before .before .before .before .before .before .before .before .before .before .before .before .before .before in
     let p = s0 .pre in
     let P = p .0 in
     let (sheet, K) = p .1 .0 in
@@ -193,25 +189,25 @@ leave-step-requires c κs =
 
 written-by-requires : tie.Need-written-by-requires Inv-loop μ-loop
 written-by-requires c κs =
-    let s0 = c .before .before .before .before .before .before .before .before .before .before .before .before .before .before .before .before .before .before .before .before .before .before .before .before .before .before .before .before .before .before .before .before .before .before .before .before .before .before .before .before .before .before .before .before .before .before .before .before in
+    let s0 = c .before .before .before .before .before .before .before .before .before .before .before .before .before .before .before .before .before .before .before .before .before .before .before .before .before .before .before .before .before .before .before .before .before .before .before .before .before .before .before .before .before .before .before .before .before .before .before .before .before in
     let p = s0 .pre in
     let P = p .0 in
     let (sheet, K) = p .1 .0 in
     let l = c .before .before .before .before .before .before .before .before .before .before .before .before .before .before .before .before .before .before .before .before .before .before .before .before .before .before .loop in
     let S = l .inv .3 sheet K in
     let q = not-last (c .before .before .before .before .before .before .before .before .before .before .before .before .before .before .before .before .before .before .before .before .before .before .before .before .total .result) (l .n) (s0 .args .budget) (l .inv .0) (sym (c .before .before .before .before .before .before .before .before .before .before .before .before .before .before .before .before .before .before .before .before .before .before .before .is-last .ensures) ∙ c .before .before .before .before .before .before .before .before .before .before .before .before .before .before .before .before .before .before .before .before .before .before .if1 .left) in
-    (l .counts, host-fits (c .before .before .before .before .before .before .before .change-of .result .written) (arraysOf (l .state) (l .states) (l .numbers) (l .counts)) (change-fits _ (P .accepted) sheet _ _ _ K (p .1 .1) (note-laws _ (P .accepted) sheet _ _ _ K) _ _ _ _ _ _ _ _ _ S (c .before .before .before .before .before .before .before .before .before .before .before .before .before .before .before .before .before .before .before .before .before .before .before .before .total .result) (c .before .before .before .before .before .before .before .before .before .before .before .before .before .before .before .before .before .before .before .before .before .before .before .before .total .ensures) (q .0) (q .1) _ _ (c .before .before .before .before .before .before .before .before .before .before .before .before .before .before .before .before .before .before .before .before .choice-at .ensures) (c .before .before .before .before .before .before .before .before .before .before .before .before .before .before .before .before .before .before .before .choose .ensures .1) (c .before .before .before .before .before .before .before .change-of .result) (c .before .before .before .before .before .before .before .change-of .ensures (s0 .args .rows .now) P)))
+    reading-fits _ _ (c .before .before .before .before .before .before .before .change-of .result .written) (arraysOf (l .state) (l .states) (l .numbers) (l .counts)) (change-fits _ (P .accepted) sheet _ _ _ K (p .1 .1) (note-laws _ (P .accepted) sheet _ _ _ K) _ _ _ _ _ _ _ _ _ S (c .before .before .before .before .before .before .before .before .before .before .before .before .before .before .before .before .before .before .before .before .before .before .before .before .total .result) (c .before .before .before .before .before .before .before .before .before .before .before .before .before .before .before .before .before .before .before .before .before .before .before .before .total .ensures) (q .0) (q .1) _ _ (c .before .before .before .before .before .before .before .before .before .before .before .before .before .before .before .before .before .before .before .before .choice-at .ensures) (c .before .before .before .before .before .before .before .before .before .before .before .before .before .before .before .before .before .before .before .choose .ensures .1) (c .before .before .before .before .before .before .before .change-of .result) (c .before .before .before .before .before .before .before .change-of .ensures (s0 .args .rows .now) P))
 
 put-host-requires : tie.Need-put-host-requires Inv-loop μ-loop
 put-host-requires c κs =
-    let s0 = c .before .before .before .before .before .before .before .before .before .before .before .before .before .before .before .before .before .before .before .before .before .before .before .before .before .before .before .before .before .before .before .before .before .before .before .before .before .before .before .before .before .before .before .before .before .before .before .before .before .before .before .before in
+    let s0 = c .before .before .before .before .before .before .before .before .before .before .before .before .before .before .before .before .before .before .before .before .before .before .before .before .before .before .before .before .before .before .before .before .before .before .before .before .before .before .before .before .before .before .before .before .before .before .before .before .before .before .before .before .before in
     let p = s0 .pre in
     let P = p .0 in
     let (sheet, K) = p .1 .0 in
     let l = c .before .before .before .before .before .before .before .before .before .before .before .before .before .before .before .before .before .before .before .before .before .before .before .before .before .before .before .before .before .before .loop in
     let S = l .inv .3 sheet K in
     let q = not-last (c .before .before .before .before .before .before .before .before .before .before .before .before .before .before .before .before .before .before .before .before .before .before .before .before .before .before .before .before .total .result) (l .n) (s0 .args .budget) (l .inv .0) (sym (c .before .before .before .before .before .before .before .before .before .before .before .before .before .before .before .before .before .before .before .before .before .before .before .before .before .before .before .is-last .ensures) ∙ c .before .before .before .before .before .before .before .before .before .before .before .before .before .before .before .before .before .before .before .before .before .before .before .before .before .before .if1 .left) in
-    host-fits (c .before .before .before .before .before .before .before .before .before .before .before .change-of .result .written) (arraysOf (l .state) (l .states) (l .numbers) (l .counts)) (change-fits _ (P .accepted) sheet _ _ _ K (p .1 .1) (note-laws _ (P .accepted) sheet _ _ _ K) _ _ _ _ _ _ _ _ _ S (c .before .before .before .before .before .before .before .before .before .before .before .before .before .before .before .before .before .before .before .before .before .before .before .before .before .before .before .before .total .result) (c .before .before .before .before .before .before .before .before .before .before .before .before .before .before .before .before .before .before .before .before .before .before .before .before .before .before .before .before .total .ensures) (q .0) (q .1) _ _ (c .before .before .before .before .before .before .before .before .before .before .before .before .before .before .before .before .before .before .before .before .before .before .before .before .choice-at .ensures) (c .before .before .before .before .before .before .before .before .before .before .before .before .before .before .before .before .before .before .before .before .before .before .before .choose .ensures .1) (c .before .before .before .before .before .before .before .before .before .before .before .change-of .result) (c .before .before .before .before .before .before .before .before .before .before .before .change-of .ensures (s0 .args .rows .now) P))
+    host-fits _ _ (c .before .before .before .before .before .before .before .before .before .before .before .change-of .result .written) (arraysOf (l .state) (l .states) (l .numbers) (l .counts)) (change-fits _ (P .accepted) sheet _ _ _ K (p .1 .1) (note-laws _ (P .accepted) sheet _ _ _ K) _ _ _ _ _ _ _ _ _ S (c .before .before .before .before .before .before .before .before .before .before .before .before .before .before .before .before .before .before .before .before .before .before .before .before .before .before .before .before .total .result) (c .before .before .before .before .before .before .before .before .before .before .before .before .before .before .before .before .before .before .before .before .before .before .before .before .before .before .before .before .total .ensures) (q .0) (q .1) _ _ (c .before .before .before .before .before .before .before .before .before .before .before .before .before .before .before .before .before .before .before .before .before .before .before .before .choice-at .ensures) (c .before .before .before .before .before .before .before .before .before .before .before .before .before .before .before .before .before .before .before .before .before .before .before .choose .ensures .1) (c .before .before .before .before .before .before .before .before .before .before .before .change-of .result) (c .before .before .before .before .before .before .before .before .before .before .before .change-of .ensures (s0 .args .rows .now) P))
 
 enum-told : tie.Need-enum-told Inv-loop μ-loop
 enum-told c = search needs
@@ -230,7 +226,7 @@ unset-requires c κs = search needs
 
 change-states-requires : tie.Need-change-states-requires Inv-loop μ-loop
 change-states-requires c κs =
-    let s0 = c .before .before .before .before .before .before .before .before .before .before .before .before .before .before .before .before .before .before .before .before .before .before .before .before .before .before .before .before .before .before .before .before .before .before .before .before .before .before .before .before .before .before .before .before .before .before .before .before .before .before .before .before .before .before .before .before .before in
+    let s0 = c .before .before .before .before .before .before .before .before .before .before .before .before .before .before .before .before .before .before .before .before .before .before .before .before .before .before .before .before .before .before .before .before .before .before .before .before .before .before .before .before .before .before .before .before .before .before .before .before .before .before .before .before .before .before .before .before .before .before in
     let p = s0 .pre in
     let P = p .0 in
     let (sheet, K) = p .1 .0 in
@@ -238,30 +234,31 @@ change-states-requires c κs =
     let S = l .inv .3 sheet K in
     let q = not-last (c .before .before .before .before .before .before .before .before .before .before .before .before .before .before .before .before .before .before .before .before .before .before .before .before .before .before .before .before .before .before .before .before .before .total .result) (l .n) (s0 .args .budget) (l .inv .0) (sym (c .before .before .before .before .before .before .before .before .before .before .before .before .before .before .before .before .before .before .before .before .before .before .before .before .before .before .before .before .before .before .before .before .is-last .ensures) ∙ c .before .before .before .before .before .before .before .before .before .before .before .before .before .before .before .before .before .before .before .before .before .before .before .before .before .before .before .before .before .before .before .if1 .left) in
     let w = change-within _ (P .accepted) sheet _ _ _ K (p .1 .1) (note-laws _ (P .accepted) sheet _ _ _ K) _ _ _ _ _ _ _ _ _ S (c .before .before .before .before .before .before .before .before .before .before .before .before .before .before .before .before .before .before .before .before .before .before .before .before .before .before .before .before .before .before .before .before .before .total .result) (c .before .before .before .before .before .before .before .before .before .before .before .before .before .before .before .before .before .before .before .before .before .before .before .before .before .before .before .before .before .before .before .before .before .total .ensures) (q .0) (q .1) _ _ (c .before .before .before .before .before .before .before .before .before .before .before .before .before .before .before .before .before .before .before .before .before .before .before .before .before .before .before .before .before .choice-at .ensures) (c .before .before .before .before .before .before .before .before .before .before .before .before .before .before .before .before .before .before .before .before .before .before .before .before .before .before .before .before .choose .ensures .1) (c .before .before .before .before .before .before .before .before .before .before .before .before .before .before .before .before .change-of .result) (c .before .before .before .before .before .before .before .before .before .before .before .before .before .before .before .before .change-of .ensures (s0 .args .rows .now) P) in
+    let i = change-processes _ (P .accepted) sheet _ _ _ K (p .1 .1) (note-laws _ (P .accepted) sheet _ _ _ K) _ _ _ _ _ _ _ _ _ S (c .before .before .before .before .before .before .before .before .before .before .before .before .before .before .before .before .before .before .before .before .before .before .before .before .before .before .before .before .before .before .before .before .before .total .result) (c .before .before .before .before .before .before .before .before .before .before .before .before .before .before .before .before .before .before .before .before .before .before .before .before .before .before .before .before .before .before .before .before .before .total .ensures) (q .0) (q .1) _ _ (c .before .before .before .before .before .before .before .before .before .before .before .before .before .before .before .before .before .before .before .before .before .before .before .before .before .before .before .before .before .choice-at .ensures) (c .before .before .before .before .before .before .before .before .before .before .before .before .before .before .before .before .before .before .before .before .before .before .before .before .before .before .before .before .choose .ensures .1) (c .before .before .before .before .before .before .before .before .before .before .before .before .before .before .before .before .change-of .result) (c .before .before .before .before .before .before .before .before .before .before .before .before .before .before .before .before .change-of .ensures (s0 .args .rows .now) P) in
     let f = rows-limit _ (P .accepted) in
-    ((s0 .args .rows .now, P), (omega (arith, w .1, f), omega (arith, w .2, f)))
+    ((s0 .args .rows .now, (P, i)), (omega (arith, w .1, f), omega (arith, w .2, f)))
 
 note-all-requires-2 : tie.Need-note-all-requires-2 Inv-loop μ-loop
 note-all-requires-2 c κs =
-    let s0 = c .before .before .before .before .before .before .before .before .before .before .before .before .before .before .before .before .before .before .before .before .before .before .before .before .before .before .before .before .before .before .before .before .before .before .before .before .before .before .before .before .before .before .before .before .before .before .before .before .before .before .before .before .before .before .before .before .before .before .before .before .before .before .before .before .before .before .before .before in
+    let s0 = c .before .before .before .before .before .before .before .before .before .before .before .before .before .before .before .before .before .before .before .before .before .before .before .before .before .before .before .before .before .before .before .before .before .before .before .before .before .before .before .before .before .before .before .before .before .before .before .before .before .before .before .before .before .before .before .before .before .before .before .before .before .before .before .before .before .before .before .before .before in
     let p = s0 .pre in
     let P = p .0 in
     let (sheet, K) = p .1 .0 in
     let l = c .before .before .before .before .before .before .before .before .before .before .before .before .before .before .before .before .before .before .before .before .before .before .before .before .before .before .before .before .before .before .before .before .before .before .before .before .before .before .before .before .before .before .before .before .before .before .loop in
     let S = l .inv .3 sheet K in
     let q = not-last (c .before .before .before .before .before .before .before .before .before .before .before .before .before .before .before .before .before .before .before .before .before .before .before .before .before .before .before .before .before .before .before .before .before .before .before .before .before .before .before .before .before .before .before .before .total .result) (l .n) (s0 .args .budget) (l .inv .0) (sym (c .before .before .before .before .before .before .before .before .before .before .before .before .before .before .before .before .before .before .before .before .before .before .before .before .before .before .before .before .before .before .before .before .before .before .before .before .before .before .before .before .before .before .before .is-last .ensures) ∙ c .before .before .before .before .before .before .before .before .before .before .before .before .before .before .before .before .before .before .before .before .before .before .before .before .before .before .before .before .before .before .before .before .before .before .before .before .before .before .before .before .before .before .if1 .left) in
-    ((s0 .args .rows .now, P), came-below _ (P .accepted) sheet _ _ _ K (p .1 .1) (note-laws _ (P .accepted) sheet _ _ _ K) _ _ _ _ _ _ _ _ _ S (c .before .before .before .before .before .before .before .before .before .before .before .before .before .before .before .before .before .before .before .before .before .before .before .before .before .before .before .before .before .before .before .before .before .before .before .before .before .before .before .before .before .before .before .before .total .result) (c .before .before .before .before .before .before .before .before .before .before .before .before .before .before .before .before .before .before .before .before .before .before .before .before .before .before .before .before .before .before .before .before .before .before .before .before .before .before .before .before .before .before .before .before .total .ensures) (q .0) (q .1) _ _ (c .before .before .before .before .before .before .before .before .before .before .before .before .before .before .before .before .before .before .before .before .before .before .before .before .before .before .before .before .before .before .before .before .before .before .before .before .before .before .before .before .choice-at .ensures) (c .before .before .before .before .before .before .before .before .before .before .before .before .before .before .before .before .before .before .before .before .before .before .before .before .before .before .before .before .before .before .before .before .before .before .before .before .before .before .before .choose .ensures .1) (c .before .before .before .before .before .before .before .before .before .before .before .before .before .before .before .before .before .before .before .before .before .before .before .before .before .before .before .change-of .result) (c .before .before .before .before .before .before .before .before .before .before .before .before .before .before .before .before .before .before .before .before .before .before .before .before .before .before .before .change-of .ensures (s0 .args .rows .now) P) _ _ _ (c .before .before .before .before .before .before .before .before .before .before .change-states .ensures (s0 .args .rows .now) P (change-processes _ (P .accepted) sheet _ _ _ K (p .1 .1) (note-laws _ (P .accepted) sheet _ _ _ K) _ _ _ _ _ _ _ _ _ S (c .before .before .before .before .before .before .before .before .before .before .before .before .before .before .before .before .before .before .before .before .before .before .before .before .before .before .before .before .before .before .before .before .before .before .before .before .before .before .before .before .before .before .before .before .total .result) (c .before .before .before .before .before .before .before .before .before .before .before .before .before .before .before .before .before .before .before .before .before .before .before .before .before .before .before .before .before .before .before .before .before .before .before .before .before .before .before .before .before .before .before .before .total .ensures) (q .0) (q .1) _ _ (c .before .before .before .before .before .before .before .before .before .before .before .before .before .before .before .before .before .before .before .before .before .before .before .before .before .before .before .before .before .before .before .before .before .before .before .before .before .before .before .before .choice-at .ensures) (c .before .before .before .before .before .before .before .before .before .before .before .before .before .before .before .before .before .before .before .before .before .before .before .before .before .before .before .before .before .before .before .before .before .before .before .before .before .before .before .choose .ensures .1) (c .before .before .before .before .before .before .before .before .before .before .before .before .before .before .before .before .before .before .before .before .before .before .before .before .before .before .before .change-of .result) (c .before .before .before .before .before .before .before .before .before .before .before .before .before .before .before .before .before .before .before .before .before .before .before .before .before .before .before .change-of .ensures (s0 .args .rows .now) P) .0) (change-processes _ (P .accepted) sheet _ _ _ K (p .1 .1) (note-laws _ (P .accepted) sheet _ _ _ K) _ _ _ _ _ _ _ _ _ S (c .before .before .before .before .before .before .before .before .before .before .before .before .before .before .before .before .before .before .before .before .before .before .before .before .before .before .before .before .before .before .before .before .before .before .before .before .before .before .before .before .before .before .before .before .total .result) (c .before .before .before .before .before .before .before .before .before .before .before .before .before .before .before .before .before .before .before .before .before .before .before .before .before .before .before .before .before .before .before .before .before .before .before .before .before .before .before .before .before .before .before .before .total .ensures) (q .0) (q .1) _ _ (c .before .before .before .before .before .before .before .before .before .before .before .before .before .before .before .before .before .before .before .before .before .before .before .before .before .before .before .before .before .before .before .before .before .before .before .before .before .before .before .before .choice-at .ensures) (c .before .before .before .before .before .before .before .before .before .before .before .before .before .before .before .before .before .before .before .before .before .before .before .before .before .before .before .before .before .before .before .before .before .before .before .before .before .before .before .choose .ensures .1) (c .before .before .before .before .before .before .before .before .before .before .before .before .before .before .before .before .before .before .before .before .before .before .before .before .before .before .before .change-of .result) (c .before .before .before .before .before .before .before .before .before .before .before .before .before .before .before .before .before .before .before .before .before .before .before .before .before .before .before .change-of .ensures (s0 .args .rows .now) P) .1)))
+    ((s0 .args .rows .now, P), came-below _ (P .accepted) sheet _ _ _ K (p .1 .1) (note-laws _ (P .accepted) sheet _ _ _ K) _ _ _ _ _ _ _ _ _ S (c .before .before .before .before .before .before .before .before .before .before .before .before .before .before .before .before .before .before .before .before .before .before .before .before .before .before .before .before .before .before .before .before .before .before .before .before .before .before .before .before .before .before .before .before .total .result) (c .before .before .before .before .before .before .before .before .before .before .before .before .before .before .before .before .before .before .before .before .before .before .before .before .before .before .before .before .before .before .before .before .before .before .before .before .before .before .before .before .before .before .before .before .total .ensures) (q .0) (q .1) _ _ (c .before .before .before .before .before .before .before .before .before .before .before .before .before .before .before .before .before .before .before .before .before .before .before .before .before .before .before .before .before .before .before .before .before .before .before .before .before .before .before .before .choice-at .ensures) (c .before .before .before .before .before .before .before .before .before .before .before .before .before .before .before .before .before .before .before .before .before .before .before .before .before .before .before .before .before .before .before .before .before .before .before .before .before .before .before .choose .ensures .1) (c .before .before .before .before .before .before .before .before .before .before .before .before .before .before .before .before .before .before .before .before .before .before .before .before .before .before .before .change-of .result) (c .before .before .before .before .before .before .before .before .before .before .before .before .before .before .before .before .before .before .before .before .before .before .before .before .before .before .before .change-of .ensures (s0 .args .rows .now) P) _ _ _ (c .before .before .before .before .before .before .before .before .before .before .change-states .ensures (s0 .args .rows .now) P (change-processes _ (P .accepted) sheet _ _ _ K (p .1 .1) (note-laws _ (P .accepted) sheet _ _ _ K) _ _ _ _ _ _ _ _ _ S (c .before .before .before .before .before .before .before .before .before .before .before .before .before .before .before .before .before .before .before .before .before .before .before .before .before .before .before .before .before .before .before .before .before .before .before .before .before .before .before .before .before .before .before .before .total .result) (c .before .before .before .before .before .before .before .before .before .before .before .before .before .before .before .before .before .before .before .before .before .before .before .before .before .before .before .before .before .before .before .before .before .before .before .before .before .before .before .before .before .before .before .before .total .ensures) (q .0) (q .1) _ _ (c .before .before .before .before .before .before .before .before .before .before .before .before .before .before .before .before .before .before .before .before .before .before .before .before .before .before .before .before .before .before .before .before .before .before .before .before .before .before .before .before .choice-at .ensures) (c .before .before .before .before .before .before .before .before .before .before .before .before .before .before .before .before .before .before .before .before .before .before .before .before .before .before .before .before .before .before .before .before .before .before .before .before .before .before .before .choose .ensures .1) (c .before .before .before .before .before .before .before .before .before .before .before .before .before .before .before .before .before .before .before .before .before .before .before .before .before .before .before .change-of .result) (c .before .before .before .before .before .before .before .before .before .before .before .before .before .before .before .before .before .before .before .before .before .before .before .before .before .before .before .change-of .ensures (s0 .args .rows .now) P))))
 
 add-n : tie.Need-add-n Inv-loop μ-loop
 add-n c =
-    let s0 = c .before .before .before .before .before .before .before .before .before .before .before .before .before .before .before .before .before .before .before .before .before .before .before .before .before .before .before .before .before .before .before .before .before .before .before .before .before .before .before .before .before .before .before .before .before .before .before .before .before .before .before .before .before .before .before .before .before .before .before .before .before .before .before .before .before .before .before .before .before in
+    let s0 = c .before .before .before .before .before .before .before .before .before .before .before .before .before .before .before .before .before .before .before .before .before .before .before .before .before .before .before .before .before .before .before .before .before .before .before .before .before .before .before .before .before .before .before .before .before .before .before .before .before .before .before .before .before .before .before .before .before .before .before .before .before .before .before .before .before .before .before .before .before .before in
     let l = c .before .before .before .before .before .before .before .before .before .before .before .before .before .before .before .before .before .before .before .before .before .before .before .before .before .before .before .before .before .before .before .before .before .before .before .before .before .before .before .before .before .before .before .before .before .before .before .loop in
     let q = not-last (c .before .before .before .before .before .before .before .before .before .before .before .before .before .before .before .before .before .before .before .before .before .before .before .before .before .before .before .before .before .before .before .before .before .before .before .before .before .before .before .before .before .before .before .before .before .total .result) (l .n) (s0 .args .budget) (l .inv .0) (sym (c .before .before .before .before .before .before .before .before .before .before .before .before .before .before .before .before .before .before .before .before .before .before .before .before .before .before .before .before .before .before .before .before .before .before .before .before .before .before .before .before .before .before .before .before .is-last .ensures) ∙ c .before .before .before .before .before .before .before .before .before .before .before .before .before .before .before .before .before .before .before .before .before .before .before .before .before .before .before .before .before .before .before .before .before .before .before .before .before .before .before .before .before .before .before .if1 .left) in
     omega (arith, s0 .fits .budget, q .1)
 
 loop-less : tie.Need-loop-less Inv-loop μ-loop
 loop-less c =
-    let s0 = c .before .before .before .before .before .before .before .before .before .before .before .before .before .before .before .before .before .before .before .before .before .before .before .before .before .before .before .before .before .before .before .before .before .before .before .before .before .before .before .before .before .before .before .before .before .before .before .before .before .before .before .before .before .before .before .before .before .before .before .before .before .before .before .before .before .before .before .before .before in
+    let s0 = c .before .before .before .before .before .before .before .before .before .before .before .before .before .before .before .before .before .before .before .before .before .before .before .before .before .before .before .before .before .before .before .before .before .before .before .before .before .before .before .before .before .before .before .before .before .before .before .before .before .before .before .before .before .before .before .before .before .before .before .before .before .before .before .before .before .before .before .before .before .before in
     let l = c .before .before .before .before .before .before .before .before .before .before .before .before .before .before .before .before .before .before .before .before .before .before .before .before .before .before .before .before .before .before .before .before .before .before .before .before .before .before .before .before .before .before .before .before .before .before .before .loop in
     let q = not-last (c .before .before .before .before .before .before .before .before .before .before .before .before .before .before .before .before .before .before .before .before .before .before .before .before .before .before .before .before .before .before .before .before .before .before .before .before .before .before .before .before .before .before .before .before .before .total .result) (l .n) (s0 .args .budget) (l .inv .0) (sym (c .before .before .before .before .before .before .before .before .before .before .before .before .before .before .before .before .before .before .before .before .before .before .before .before .before .before .before .before .before .before .before .before .before .before .before .before .before .before .before .before .before .before .before .before .is-last .ensures) ∙ c .before .before .before .before .before .before .before .before .before .before .before .before .before .before .before .before .before .before .before .before .before .before .before .before .before .before .before .before .before .before .before .before .before .before .before .before .before .before .before .before .before .before .before .if1 .left) in
     omega (arith, q .1)
@@ -273,7 +270,7 @@ made c = ⊎-elim (λ a. rw (a .1 .given .1) (a .2)) (⊎-elim (λ b. let f : SF
 
 loop-again : tie.Need-loop-again Inv-loop μ-loop
 loop-again c =
-    let s0 = c .before .before .before .before .before .before .before .before .before .before .before .before .before .before .before .before .before .before .before .before .before .before .before .before .before .before .before .before .before .before .before .before .before .before .before .before .before .before .before .before .before .before .before .before .before .before .before .before .before .before .before .before .before .before .before .before .before .before .before .before .before .before .before .before .before .before .before .before .before in
+    let s0 = c .before .before .before .before .before .before .before .before .before .before .before .before .before .before .before .before .before .before .before .before .before .before .before .before .before .before .before .before .before .before .before .before .before .before .before .before .before .before .before .before .before .before .before .before .before .before .before .before .before .before .before .before .before .before .before .before .before .before .before .before .before .before .before .before .before .before .before .before .before .before in
     let p = s0 .pre in
     let P = p .0 in
     let l = c .before .before .before .before .before .before .before .before .before .before .before .before .before .before .before .before .before .before .before .before .before .before .before .before .before .before .before .before .before .before .before .before .before .before .before .before .before .before .before .before .before .before .before .before .before .before .before .loop in
@@ -282,7 +279,7 @@ loop-again c =
       c .before .before .before .before .before .before .before .before .before .before .before .before .before .before .before .before .before .before .before .before .before .before .before .before .before .before .before .before .before .before .before .before .before .before .before .before .before .readied .given ∙ l .inv .1,
       c .before .before .before .before .before .before .before .before .before .before .before .before .before .before .before .before .before .before .before .before .before .before .before .before .before .before .before .before .before .before .before .before .before .taken .given ∙ l .inv .2,
       λ sheet K. let S = l .inv .3 sheet K in
-          stands-further _ (P .accepted) sheet _ _ _ K (p .1 .1) (note-laws _ (P .accepted) sheet _ _ _ K) _ _ _ _ _ _ _ _ _ S (c .before .before .before .before .before .before .before .before .before .before .before .before .before .before .before .before .before .before .before .before .before .before .before .before .before .before .before .before .before .before .before .before .before .before .before .before .before .before .before .before .before .before .before .before .before .total .result) (c .before .before .before .before .before .before .before .before .before .before .before .before .before .before .before .before .before .before .before .before .before .before .before .before .before .before .before .before .before .before .before .before .before .before .before .before .before .before .before .before .before .before .before .before .before .total .ensures) (q .0) (q .1) _ _ (c .before .before .before .before .before .before .before .before .before .before .before .before .before .before .before .before .before .before .before .before .before .before .before .before .before .before .before .before .before .before .before .before .before .before .before .before .before .before .before .before .before .choice-at .ensures) (c .before .before .before .before .before .before .before .before .before .before .before .before .before .before .before .before .before .before .before .before .before .before .before .before .before .before .before .before .before .before .before .before .before .before .before .before .before .before .before .before .choose .ensures .1) (c .before .before .before .before .before .before .before .before .before .before .before .before .before .before .before .before .before .before .before .before .before .before .before .before .before .before .before .before .change-of .result) (c .before .before .before .before .before .before .before .before .before .before .before .before .before .before .before .before .before .before .before .before .before .before .before .before .before .before .before .before .change-of .ensures (s0 .args .rows .now) P) _ _ _ (c .before .before .before .before .before .before .before .before .before .before .before .change-states .ensures (s0 .args .rows .now) P (change-processes _ (P .accepted) sheet _ _ _ K (p .1 .1) (note-laws _ (P .accepted) sheet _ _ _ K) _ _ _ _ _ _ _ _ _ S (c .before .before .before .before .before .before .before .before .before .before .before .before .before .before .before .before .before .before .before .before .before .before .before .before .before .before .before .before .before .before .before .before .before .before .before .before .before .before .before .before .before .before .before .before .before .total .result) (c .before .before .before .before .before .before .before .before .before .before .before .before .before .before .before .before .before .before .before .before .before .before .before .before .before .before .before .before .before .before .before .before .before .before .before .before .before .before .before .before .before .before .before .before .before .total .ensures) (q .0) (q .1) _ _ (c .before .before .before .before .before .before .before .before .before .before .before .before .before .before .before .before .before .before .before .before .before .before .before .before .before .before .before .before .before .before .before .before .before .before .before .before .before .before .before .before .before .choice-at .ensures) (c .before .before .before .before .before .before .before .before .before .before .before .before .before .before .before .before .before .before .before .before .before .before .before .before .before .before .before .before .before .before .before .before .before .before .before .before .before .before .before .before .choose .ensures .1) (c .before .before .before .before .before .before .before .before .before .before .before .before .before .before .before .before .before .before .before .before .before .before .before .before .before .before .before .before .change-of .result) (c .before .before .before .before .before .before .before .before .before .before .before .before .before .before .before .before .before .before .before .before .before .before .before .before .before .before .before .before .change-of .ensures (s0 .args .rows .now) P) .0) (change-processes _ (P .accepted) sheet _ _ _ K (p .1 .1) (note-laws _ (P .accepted) sheet _ _ _ K) _ _ _ _ _ _ _ _ _ S (c .before .before .before .before .before .before .before .before .before .before .before .before .before .before .before .before .before .before .before .before .before .before .before .before .before .before .before .before .before .before .before .before .before .before .before .before .before .before .before .before .before .before .before .before .before .total .result) (c .before .before .before .before .before .before .before .before .before .before .before .before .before .before .before .before .before .before .before .before .before .before .before .before .before .before .before .before .before .before .before .before .before .before .before .before .before .before .before .before .before .before .before .before .before .total .ensures) (q .0) (q .1) _ _ (c .before .before .before .before .before .before .before .before .before .before .before .before .before .before .before .before .before .before .before .before .before .before .before .before .before .before .before .before .before .before .before .before .before .before .before .before .before .before .before .before .before .choice-at .ensures) (c .before .before .before .before .before .before .before .before .before .before .before .before .before .before .before .before .before .before .before .before .before .before .before .before .before .before .before .before .before .before .before .before .before .before .before .before .before .before .before .before .choose .ensures .1) (c .before .before .before .before .before .before .before .before .before .before .before .before .before .before .before .before .before .before .before .before .before .before .before .before .before .before .before .before .change-of .result) (c .before .before .before .before .before .before .before .before .before .before .before .before .before .before .before .before .before .before .before .before .before .before .before .before .before .before .before .before .change-of .ensures (s0 .args .rows .now) P) .1)) _ (turned-arrays _ _ (l .state) (l .states) (l .numbers) (l .counts) _ (c .before .before .before .before .before .before .before .before .before .before .before .before .before .before .before .before .before .before .before .before .before .before .before .before .before .before .before .before .change-of .result .written) (hostOf (c .before .before .before .before .before .before .before .before .before .before .before .before .before .before .before .before .put-host .last .1 .0) (c .before .before .before .before .before .before .before .before .before .before .before .before .before .before .before .before .put-host .last .1 .1 .0) (c .before .before .before .before .before .before .before .before .before .before .before .before .before .before .before .before .put-host .last .1 .1 .1 .0)) (c .before .before .before .before .before .before .before .before .before .before .before .before .before .before .before .before .put-host .ensures) _ (c .before .before .before .before .before .before .before .before .before .before .before .before .before .before .before .before .before .before .before .before .written-by .ensures) _ (made (c .before .before .before .before .before .before .before .before .before .before .before .before .before .before .before))) _ (c .before .before .before .before .before .before .before .before .before .before .before .before .before .before .before .before .before .before .before .before .before .before .before .leave-step .ensures (s0 .args .rows .now) P) _ (c .note-all2 .ensures (s0 .args .rows .now) P) _ (ap₂ listsLent (c .before .before .before .before .before .before .before .before .before .before .before .before .before .before .before .before .before .before .before .before .before .before .before .before .before .before .before .before .before .before .before .before .before .before .before .before .before .before .show .ensures) (c .before .before .before .before .before .before .before .before .before .before .before .before .before .before .before .before .before .before .before .before .before .before .before .before .before .before .before .before .before .before .before .before .before .before .show2 .ensures)),
+          stands-further _ (P .accepted) sheet _ _ _ K (p .1 .1) (note-laws _ (P .accepted) sheet _ _ _ K) _ _ _ _ _ _ _ _ _ S (c .before .before .before .before .before .before .before .before .before .before .before .before .before .before .before .before .before .before .before .before .before .before .before .before .before .before .before .before .before .before .before .before .before .before .before .before .before .before .before .before .before .before .before .before .before .total .result) (c .before .before .before .before .before .before .before .before .before .before .before .before .before .before .before .before .before .before .before .before .before .before .before .before .before .before .before .before .before .before .before .before .before .before .before .before .before .before .before .before .before .before .before .before .before .total .ensures) (q .0) (q .1) _ _ (c .before .before .before .before .before .before .before .before .before .before .before .before .before .before .before .before .before .before .before .before .before .before .before .before .before .before .before .before .before .before .before .before .before .before .before .before .before .before .before .before .before .choice-at .ensures) (c .before .before .before .before .before .before .before .before .before .before .before .before .before .before .before .before .before .before .before .before .before .before .before .before .before .before .before .before .before .before .before .before .before .before .before .before .before .before .before .before .choose .ensures .1) (c .before .before .before .before .before .before .before .before .before .before .before .before .before .before .before .before .before .before .before .before .before .before .before .before .before .before .before .before .change-of .result) (c .before .before .before .before .before .before .before .before .before .before .before .before .before .before .before .before .before .before .before .before .before .before .before .before .before .before .before .before .change-of .ensures (s0 .args .rows .now) P) _ _ _ (c .before .before .before .before .before .before .before .before .before .before .before .change-states .ensures (s0 .args .rows .now) P (change-processes _ (P .accepted) sheet _ _ _ K (p .1 .1) (note-laws _ (P .accepted) sheet _ _ _ K) _ _ _ _ _ _ _ _ _ S (c .before .before .before .before .before .before .before .before .before .before .before .before .before .before .before .before .before .before .before .before .before .before .before .before .before .before .before .before .before .before .before .before .before .before .before .before .before .before .before .before .before .before .before .before .before .total .result) (c .before .before .before .before .before .before .before .before .before .before .before .before .before .before .before .before .before .before .before .before .before .before .before .before .before .before .before .before .before .before .before .before .before .before .before .before .before .before .before .before .before .before .before .before .before .total .ensures) (q .0) (q .1) _ _ (c .before .before .before .before .before .before .before .before .before .before .before .before .before .before .before .before .before .before .before .before .before .before .before .before .before .before .before .before .before .before .before .before .before .before .before .before .before .before .before .before .before .choice-at .ensures) (c .before .before .before .before .before .before .before .before .before .before .before .before .before .before .before .before .before .before .before .before .before .before .before .before .before .before .before .before .before .before .before .before .before .before .before .before .before .before .before .before .choose .ensures .1) (c .before .before .before .before .before .before .before .before .before .before .before .before .before .before .before .before .before .before .before .before .before .before .before .before .before .before .before .before .change-of .result) (c .before .before .before .before .before .before .before .before .before .before .before .before .before .before .before .before .before .before .before .before .before .before .before .before .before .before .before .before .change-of .ensures (s0 .args .rows .now) P))) _ (turned-arrays _ _ (l .state) (l .states) (l .numbers) (l .counts) _ (c .before .before .before .before .before .before .before .before .before .before .before .before .before .before .before .before .before .before .before .before .before .before .before .before .before .before .before .before .change-of .result .written) (hostOf (c .before .before .before .before .before .before .before .before .before .before .before .before .before .before .before .before .put-host .last .1 .0) (c .before .before .before .before .before .before .before .before .before .before .before .before .before .before .before .before .put-host .last .1 .1 .0) (c .before .before .before .before .before .before .before .before .before .before .before .before .before .before .before .before .put-host .last .1 .1 .1 .0)) (c .before .before .before .before .before .before .before .before .before .before .before .before .before .before .before .before .put-host .ensures) _ (c .before .before .before .before .before .before .before .before .before .before .before .before .before .before .before .before .before .before .before .before .written-by .ensures) _ (made (c .before .before .before .before .before .before .before .before .before .before .before .before .before .before .before))) _ (c .before .before .before .before .before .before .before .before .before .before .before .before .before .before .before .before .before .before .before .before .before .before .before .leave-step .ensures (s0 .args .rows .now) P) _ (c .note-all2 .ensures (s0 .args .rows .now) P) _ (ap₂ listsLent (c .before .before .before .before .before .before .before .before .before .before .before .before .before .before .before .before .before .before .before .before .before .before .before .before .before .before .before .before .before .before .before .before .before .before .before .before .before .before .show .ensures) (c .before .before .before .before .before .before .before .before .before .before .before .before .before .before .before .before .before .before .before .before .before .before .before .before .before .before .before .before .before .before .before .before .before .before .show2 .ensures)),
     )
 
 pub take-steps-spec : {M : Type 1} → statement M

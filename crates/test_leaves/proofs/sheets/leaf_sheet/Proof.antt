@@ -1,51 +1,37 @@
--- A refusal leaves the readings alone; else they are put. Assumes nothing.
+-- What is read is left in the buffers, with the line or the count of lines. Assumes nothing.
 use mathlib.Core.Path.{sym, ap, _∙_}
+use mathlib.Core.List.{List}
+use Prim.Native.Nat.{ℕ}
 use native.Mathlib.Omega.{arith}
+use lib.IntN.{ℤ}
 use borrow.Author.Needs.{needs}
-use Rattle.meaning.specs.Sheet.{sheetFault}
-use Rattle.read_sheet.proofs.KeptReadings.{verdict-read, lines-few}
-use Rattle.test_leaves.specs.Leaves.{sheetLent}
-use Rattle.meaning.proofs.AnswerLaws.{accepted-none}
-use Rattle.test_leaves.proofs.SheetAnswers.{sheet-refused, sheet-accepted}
+use Rattle.read_sheet.specs.declared.SheetRead.{SheetRead}
+use Rattle.read_sheet.proofs.KeptReadings.{few-lines}
+use Rattle.test_leaves.specs.Leaves.{sheetAnswer, sheetLent}
 use Rattle.test_leaves.proofs.sheets.leaf_sheet.Statement.{statement}
 use Rattle.test_leaves.proofs.sheets.leaf_sheet.Tie as tie
 
 read-sheet-requires : tie.Need-read-sheet-requires
 read-sheet-requires c κs = search needs
 
-enum-known-verdict : tie.Need-enum-known-verdict
-enum-known-verdict c = search needs
+enum-known-line : tie.Need-enum-known-line
+enum-known-line c = search needs
 
 put-place-requires : tie.Need-put-place-requires
 put-place-requires c κs = search needs
 
-cast-result : tie.Need-cast-result
-cast-result c = search needs
-
 enum-told : tie.Need-enum-told
 enum-told c = search needs
 
-slice-aggregate-put-numbers : tie.Need-slice-aggregate-put-numbers
-slice-aggregate-put-numbers c = search needs
-
-put-numbers-requires : tie.Need-put-numbers-requires
-put-numbers-requires c κs = search needs
-
-slice-aggregate-put-marks : tie.Need-slice-aggregate-put-marks
-slice-aggregate-put-marks c = search needs
-
-put-marks-requires : tie.Need-put-marks-requires
-put-marks-requires c κs = search needs
+enum-known-n : tie.Need-enum-known-n
+enum-known-n c = search needs
 
 cast-put-place : tie.Need-cast-put-place
 cast-put-place c =
-    let r = c .before .before .before .before .before .before .before .before .before .before .before .before .before .before in
-    let rows = r .before .before .before .before .args .rows .now in
-    let sheet = r .before .before .before .before .args .sheet .now in
-    let told = c .before .before .before .before .before .before .before .before .before .before .before .before in
-    let e = accepted-none (sheetFault rows sheet) (sym (told .enum-told .given .1) ∙ ap (λ s. s .verdict) (r .read-sheet .ensures) ∙ verdict-read rows sheet) in
-    let few = lines-few rows sheet e in
-    let lines = ap (λ s. s .lines) (r .read-sheet .ensures) in
+    let r = c .before .before .before .before .before .before .read-sheet in
+    let a = c .before .before .before .before .before .before .before .before .before .before .before .before .args in
+    let g = c .before .n .given in
+    let few = few-lines (a .rows .now) (a .sheet .now) (a .values .now) (a .marks .now) (g .0 .0) (sym (ap (λ (w : SheetRead × List ℤ × List ℕ). w .0) (r .ensures)) ∙ g .1) in
     record { fits = omega arith }
 
 put-place-requires-2 : tie.Need-put-place-requires-2
@@ -54,49 +40,69 @@ put-place-requires-2 c κs = search needs
 same-length : tie.Need-same-length
 same-length c = search needs
 
-returns : tie.Need-returns
-returns c =
-    let r = c .before .before .before .before .before .before .before in
-    let a = r .before .before .before .before .args in
-    let g = c .before .before .before .before .before .verdict .given in
-    rw (c .before .before .put-place .ensures)
-    (sheet-refused (r .read-sheet .result) (a .values .now) (a .marks .now) (a .place .now) (g .0 .0) (g .0 .1 .0) (g .1) ∙ ap (λ s. sheetLent s (a .values .now) (a .marks .now) (a .place .now)) (r .read-sheet .ensures))
-
 same-length-2 : tie.Need-same-length-2
 same-length-2 c = search needs
 
 same-length-3 : tie.Need-same-length-3
 same-length-3 c = search needs
 
+returns : tie.Need-returns
+returns c =
+    let r = c .before .before .before .before .before .before .before .before .before .before .read-sheet in
+    let a = c .before .before .before .before .before .before .before .before .before .before .before .before .before .before .before .before .args in
+    let g = c .before .before .before .before .before .line .given in
+    rw (c .before .before .put-place .ensures)
+    (ap (λ (x : SheetRead). sheetAnswer x (r .last .1 .1 .0) (r .last .1 .1 .1 .0) (a .place .now)) (sym (g .1)) ∙ ap (λ (w : SheetRead × List ℤ × List ℕ). sheetLent w (a .place .now)) (r .ensures))
+
 same-length-4 : tie.Need-same-length-4
 same-length-4 c = search needs
 
+same-length-5 : tie.Need-same-length-5
+same-length-5 c = search needs
+
 returns-2 : tie.Need-returns-2
 returns-2 c =
-    let t = c .before .before .before .before .before .before .before .before .before .before .before .before .before .before .before .before in
-    let r = t .before .before in
-    let a = r .before .before .before .before .args in
-    rw (c .before .before .put-place2 .ensures, c .before .before .before .before .before .before .before .put-marks .ensures, c .before .before .before .before .before .before .before .before .before .before .before .before .put-numbers .ensures)
-    (sheet-accepted (r .read-sheet .result) (a .values .now) (a .marks .now) (a .place .now) (t .enum-told .given .1) ∙ ap (λ s. sheetLent s (a .values .now) (a .marks .now) (a .place .now)) (r .read-sheet .ensures))
+    let r = c .before .before .before .before .before .read-sheet in
+    let a = c .before .before .before .before .before .before .before .before .before .before .before .args in
+    let g = c .enum-told .given in
+    ap (λ (x : SheetRead). sheetAnswer x (r .last .1 .1 .0) (r .last .1 .1 .1 .0) (a .place .now)) (sym (g .1)) ∙ ap (λ (w : SheetRead × List ℤ × List ℕ). sheetLent w (a .place .now)) (r .ensures)
+
+same-length-6 : tie.Need-same-length-6
+same-length-6 c = search needs
+
+same-length-7 : tie.Need-same-length-7
+same-length-7 c = search needs
+
+same-length-8 : tie.Need-same-length-8
+same-length-8 c = search needs
+
+returns-3 : tie.Need-returns-3
+returns-3 c =
+    let r = c .before .before .before .before .before .before .before .before .before .before .read-sheet in
+    let a = c .before .before .before .before .before .before .before .before .before .before .before .before .before .before .before .before .args in
+    let g = c .before .before .before .before .before .n .given in
+    rw (c .before .before .put-place2 .ensures)
+    (ap (λ (x : SheetRead). sheetAnswer x (r .last .1 .1 .0) (r .last .1 .1 .1 .0) (a .place .now)) (sym (g .1)) ∙ ap (λ (w : SheetRead × List ℤ × List ℕ). sheetLent w (a .place .now)) (r .ensures))
 
 pub leaf-sheet-spec : {M : Type 1} → statement M
 leaf-sheet-spec =
     tie.close
     (tie.spec
     read-sheet-requires
-    enum-known-verdict
+    enum-known-line
     put-place-requires
-    cast-result
     enum-told
-    slice-aggregate-put-numbers
-    put-numbers-requires
-    slice-aggregate-put-marks
-    put-marks-requires
+    enum-known-n
     cast-put-place
     put-place-requires-2
     same-length
-    returns
     same-length-2
     same-length-3
+    returns
     same-length-4
-    returns-2)
+    same-length-5
+    returns-2
+    same-length-6
+    same-length-7
+    same-length-8
+    returns-3)

@@ -1,78 +1,71 @@
--- The bytes' own refusal, or that of the rows read. Assumes nothing.
-use mathlib.Core.Path.{_≡_, sym, ap, _∙_}
-use mathlib.Core.Option.{none}
-use Prim.Native.Nat.{_*_, _≤_}
+-- The bytes' own refusal, or that of the rows read, for all of which there is room. Assumes nothing.
+use mathlib.Core.Path.{sym, _∙_}
 use native.Mathlib.Omega.{arith}
-use lib.ListN.{length, take}
 use lib.Seq.{length-take-le}
 use borrow.Author.Needs.{needs}
-use Rattle.meaning.specs.TableBytes.{bytesFault, rowsOf}
-use Rattle.read_table.proofs.AcceptedRows.{verdict-read, count-fits, rows-read}
-use Rattle.meaning.proofs.AnswerLaws.{accepted-none, rejected-some}
-use Rattle.read_table.proofs.AcceptedRows.{rows-held}
+use Rattle.read_table.proofs.RowsRead.{RowsRead, refused-read, rows-read, never-full}
 use Rattle.test_leaves.proofs.Verdicts.{bytes-refused, rows-judged}
 use Rattle.test_leaves.proofs.tables.form_of_bytes.Statement.{statement}
 use Rattle.test_leaves.proofs.tables.form_of_bytes.Tie as tie
 
-no-fault : (c : tie.After-enum-told) → bytesFault (c .before .before .before .before .args .bytes .now) ≡ none
-no-fault c =
-    let bytes = c .before .before .before .before .args .bytes .now in
-    accepted-none (bytesFault bytes) (sym (c .enum-told .given .1) ∙ ap (λ r. r .verdict) (c .before .before .read-table .ensures) ∙ verdict-read bytes)
+-- the rows that are read
+read : (c : tie.After-known-told2) → RowsRead (c .before .before .before .before .before .before .before .args .bytes .now) (c .before .before .before .before .read-table .last .1 .0) (c .before .n .given .0 .0)
+read c = rows-read _ _ _ _ (c .before .before .before .before .read-table .ensures) _ (c .before .n .given .1)
 
-fits-rows : (c : tie.After-rows) → 4 * c .before .before .before .before .read-table .result .count ≤ length (c .before .before .before .before .read-table .result .rows)
-fits-rows c =
-    let s = c .before .before .before .before in
-    rw (s .read-table .ensures) (rows-held (s .before .before .args .bytes .now) (no-fault (c .before .before)))
+slice-aggregate-read-table : tie.Need-slice-aggregate-read-table
+slice-aggregate-read-table c = search needs
 
 read-table-requires : tie.Need-read-table-requires
 read-table-requires c κs = search needs
 
-enum-known-verdict : tie.Need-enum-known-verdict
-enum-known-verdict c = search needs
+enum-known-number : tie.Need-enum-known-number
+enum-known-number c = search needs
 
-enum-told : tie.Need-enum-told
-enum-told c = search needs
+enum-known-n : tie.Need-enum-known-n
+enum-known-n c = search needs
 
-mul-n : tie.Need-mul-n
-mul-n c =
-    let s = c .before .before .before in
-    let few = count-fits (s .before .before .args .bytes .now) (no-fault (c .before)) in
-    let count = ap (λ r. r .count) (s .read-table .ensures) in
-    record { fits = omega arith }
+mul-rows : tie.Need-mul-rows
+mul-rows c = let few = read c .few in omega arith
 
 array-share-prefix-rows : tie.Need-array-share-prefix-rows
-array-share-prefix-rows c = fits-rows c
+array-share-prefix-rows c = read c .fits
 
 slice-aggregate-check-form : tie.Need-slice-aggregate-check-form
-slice-aggregate-check-form c = sym (length-take-le _ _ (fits-rows (c .before)))
+slice-aggregate-check-form c = sym (length-take-le _ _ (read (c .before) .fits))
 
 check-form-requires : tie.Need-check-form-requires
 check-form-requires c κs = search needs
 
+enum-told : tie.Need-enum-told
+enum-told c = search needs
+
 returns : tie.Need-returns
 returns c =
-    let bytes = c .before .before .before .before .before .args .bytes .now in
-    let g = c .before .verdict .given in
-    bytes-refused bytes (g .0 .0) (g .0 .1 .0) (rejected-some (bytesFault bytes) (g .0 .0) (g .0 .1 .0) (sym (g .1) ∙ ap (λ r. r .verdict) (c .before .before .before .read-table .ensures) ∙ verdict-read bytes))
+    let g = c .before .number .given in
+    let bytes = c .before .before .before .before .before .before .before .args .bytes .now in
+    bytes-refused bytes (g .0 .0) (g .0 .1 .0) (refused-read bytes _ _ _ (c .before .before .before .before .read-table .ensures) (g .0 .0) (g .0 .1 .0) (g .1))
 
 returns-2 : tie.Need-returns-2
 returns-2 c =
-    let s = c .before .before .before .before .before .before in
-    let bytes = s .before .before .args .bytes .now in
-    let e = no-fault (c .before .before .before .before) in
-    let rows : take (4 * s .read-table .result .count) (s .read-table .result .rows) ≡ rowsOf bytes = rw (s .read-table .ensures) (rows-read bytes e) in
-    (rw rows at (c .check-form .ensures)) ∙ rows-judged bytes e
+    let r = read (c .before .before) in
+    (rw (r .rows-are) at (c .check-form .ensures)) ∙ rows-judged _ (r .no-fault)
+
+returns-3 : tie.Need-returns-3
+returns-3 c = absurd (never-full _ _ _ _ (c .before .before .before .read-table .ensures) (omega arith) (c .enum-told .given .1))
 
 pub form-of-bytes-spec : {M : Type 1} → statement M
 form-of-bytes-spec =
     tie.close
     (tie.spec
+    slice-aggregate-read-table
     read-table-requires
-    enum-known-verdict
-    enum-told
-    mul-n
+    enum-known-number
+    enum-known-n
+    mul-rows
     array-share-prefix-rows
     slice-aggregate-check-form
     check-form-requires
+    enum-told
     returns
-    returns-2)
+    returns-2
+    returns-3)

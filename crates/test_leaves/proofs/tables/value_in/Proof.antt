@@ -30,12 +30,12 @@ eval-requires c κs =
     let start = c .before .before .before .before .before .before .before .before .before .before .before .before in
     let inside = start .pre .1 in
     let few = rows-limit (start .args .rows .now) (start .pre .0) in
-    ((start .args .rows .now, c .before .before .before .before .before .before .before .before .before .before .prepare .ensures), omega arith)
+    ((start .args .rows .now, c .before .before .before .before .before .before .before .before .before .prepare .ensures), omega arith)
 
 returns : tie.Need-returns
 returns c =
     let a = c .before .before .before .before .before .before .before .before .before .before .before .before .before .args in
-    c .eval .ensures (a .rows .now) (c .before .before .before .before .before .before .before .before .before .before .before .prepare .ensures)
+    c .eval .ensures (a .rows .now) (c .before .before .before .before .before .before .before .before .before .before .prepare .ensures)
     ∙ ap (λ (cells : List Message). value cells (contentAt (a .rows .now) (a .r) .expr)) (cells-copied (a .values .now) (a .marks .now) _ _ (c .before .before .before .before .before .before .before .before .put-numbers .ensures) (c .before .before .before .before .before .put-marks .ensures))
 
 pub value-in-spec : {M : Type 1} → statement M
