@@ -68,7 +68,8 @@ pub fn check(bytes: &[u8], place: &mut [u32]) -> u32 {
     unsafe { leaf::leaf_check(bytes.as_ptr(), bytes.len(), place.as_mut_ptr(), place.len()) }
 }
 
-/// 10 and the line in `place`; or 0, the count of lines in `place`, and the readings.
+/// 10 and the line in `place`; or 1 if there is no room for the channels; or 0, the count of
+/// lines in `place`, and the readings.
 pub fn sheet(
     rows: &[i32],
     sheet: &[u8],

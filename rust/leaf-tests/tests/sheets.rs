@@ -6,7 +6,7 @@ use common::{damage, Random};
 use reference::sheet::{first_line, readings_of_bytes};
 
 const SHEETS: usize = 150_000;
-const PLACES: usize = 1_024;
+const PLACES: usize = 128;
 
 /// Some declarations, then perhaps other rows; and the rows of the role 1 channels.
 fn some_rows(random: &mut Random) -> (Vec<i32>, Vec<usize>) {
@@ -72,10 +72,11 @@ fn damage_sheet(random: &mut Random, sheet: &mut Vec<u8>) {
     }
 }
 
-/// A buffer of the length, or now and then of another.
-fn buffer<T: Clone>(random: &mut Random, item: T) -> Vec<T> {
-    let other = random.pick(&[0, 1, PLACES - 1, PLACES + 1]);
-    vec![item; if random.below(10) == 0 { other } else { PLACES }]
+/// A buffer with room for so many channels, or now and then of another length.
+fn buffer<T: Clone>(random: &mut Random, channels: usize, item: T) -> Vec<T> {
+    let room = PLACES * channels;
+    let other = random.pick(&[0, 1, room.saturating_sub(1), room + 1, 512, 1_024]);
+    vec![item; if random.below(10) == 0 { other } else { room }]
 }
 
 #[test]
@@ -88,33 +89,34 @@ fn readings_agree() {
         if random.below(2) == 0 {
             damage_sheet(&mut random, &mut sheet);
         }
-        let (mut values, mut marks) = (buffer(&mut random, -9), buffer(&mut random, 77));
+        let mut values = buffer(&mut random, channels.len(), -9);
+        let mut marks = buffer(&mut random, channels.len(), 77);
         let (mut values_left, mut marks_left) = (values.clone(), marks.clone());
+        let room = PLACES * channels.len() <= values.len().min(marks.len());
+        let mut place = [1_000_000];
         let told = match readings_of_bytes(&sheet, &channels) {
-            Err(refusal) => (10, refusal.place),
-            Ok(readings) => {
-                let mut all = vec![None; PLACES];
-                for channel in 0..channels.len().min(8) {
+            Err(refusal) if refusal.place < 2 || room => (10, refusal.place),
+            Ok(readings) if room => {
+                for channel in 0..channels.len() {
                     for line in 0..readings.count() {
-                        all[channel * 128 + line] = readings.reading(line, channel);
+                        let reading = readings.reading(line, channel);
+                        values_left[channel * PLACES + line] = reading.unwrap_or(0);
+                        marks_left[channel * PLACES + line] = reading.is_some().into();
                     }
-                }
-                if values.len() == PLACES {
-                    values_left = all.iter().map(|reading| reading.unwrap_or(0)).collect();
-                }
-                if marks.len() == PLACES {
-                    marks_left = all.iter().map(|reading| reading.is_some().into()).collect();
                 }
                 accepted += 1;
                 (0, readings.count() as u32)
             }
+            _ => (1, place[0]),
         };
-        let mut place = [1_000_000];
         let answer = leaf_tests::sheet(&rows, &sheet, &mut values, &mut marks, &mut place);
         let text = String::from_utf8_lossy(&sheet);
         assert_eq!((answer, place[0]), told, "{round}:\n{rows:?}\n{text}");
-        assert!(values == values_left, "{round}: values\n{rows:?}\n{text}");
-        assert!(marks == marks_left, "{round}: marks\n{rows:?}\n{text}");
+        // A wrong line of values leaves what stood before its first wrong field.
+        if answer != 10 || place[0] < 2 {
+            assert!(values == values_left, "{round}: values\n{rows:?}\n{text}");
+            assert!(marks == marks_left, "{round}: marks\n{rows:?}\n{text}");
+        }
     }
     println!("{accepted} of {SHEETS} sheets accepted");
     assert!(SHEETS / 3 < accepted && accepted < 2 * SHEETS / 3);
