@@ -14,12 +14,13 @@ use Rattle.meaning.specs.declared.Index.the-variants.{At, Fails}
 use Rattle.meaning.specs.Basics.{ifElse}
 use Rattle.meaning.specs.Declarations.{Variable, Channel}
 use Rattle.meaning.specs.Tree.{Expr, ChannelInput, IfChoice, AltOption, Action, stop, skip, sequence, parallel, assign, input, output, conditional, loop, alternation, Process, node, actionOf, processesIn, rowsBeneath}
-use Rattle.meaning.specs.Values.{Message, isTrue, value, index}
+use Rattle.meaning.specs.Values.{Message, isTrue, value, index, Sent, gives, lacking, passed}
 use Rattle.meaning.specs.State.{State, Program, processAt, Write, writeCell, writePlace, writeOutput, Effect}
 use Rattle.meaning.specs.Labels.{Label, own, pass, takeOption, takeWithOutput}
 use Rattle.meaning.specs.Readings.{Sheet}
 use Rattle.meaning.specs.Intent.{Offer, openOffer, inputOffer, Intent, waits, moves, inputsFrom, outputsTo, selects, assigning, testing, choosing, hostWrite, outputting, InputResult, lacks, notYet, reads, fromElement, hostRead, inputResultOf, inputting, OptionsResult, fails, offers, adding, admitting, opening, guarding, selecting, inputResult, inputResultIf, tests, optionsResult, intent}
 use Rattle.meaning.specs.Ready.{allIdle, isLive, intentAt, ownEffect, WaitingInput, communicationWhere, communicationEffect, passEffect, takeOptionEffect, takeWithOutputEffect, optionRow, offerEffectAt, offerEffect, effectOf}
+use Rattle.meaning.proofs.PassedLaws.{passed-passes, passed-lacks}
 use Rattle.meaning.specs.Step.{channelElement, targetCell, Holds, holds, refuted, LacksIn, channel-lacks, target-lacks, FirstTrue, LacksTest, boolean-lacks, input-lacks, Complete, closed, open-skip, open-input, LacksOption, AllComplete, complete-none, complete-more, assign-subscript, assign-value, input-subscript, output-subscript, output-value, while-test, if-test, alt-guard, InnerInput, inner-input, HostInput, host-input, InnerOutput, inner-output, Live, becomes, effect, Allows, assignment, while-false, while-true, if-true, communication, host-read, host-write, alt-skip, alt-read, alt-communication, stopping}
 
 is-true : (t : Bool) → t ≡ true → T t
@@ -124,21 +125,21 @@ module _ (P : Program) (sheet : Sheet) (s : State) where
   sound-input r i g (reads ws) h = rw (h .1 .1 .1 .1) (host-read g (h .1 .1 .1 .0))
   sound-input r i g (fromElement e a) h = (i, g, h)
 
-  sound-output : (r : ℕ) (c : Channel) (e f : Expr) → Live P s r (output c e f) → (I : Index) (W : Value) → index cells (c .first) (c .size) e ≡ I → value cells f ≡ W → Sound r (outputting r c (s .store .outputs) I W)
+  sound-output : (r : ℕ) (c : Channel) (e f : Expr) → Live P s r (output c e f) → (I : Index) (W : Sent) → index cells (c .first) (c .size) e ≡ I → passed cells f ≡ W → Sound r (outputting r c (s .store .outputs) I W)
   sound-output r c e f g (Fails k) W p q = stopping g (output-subscript p)
-  sound-output r c e f g (At d) (Missing k) p q = stopping g (output-value p q)
-  sound-output r c e f g (At d) (Number z) p q = go (c .host) refl
+  sound-output r c e f g (At d) (lacking k) p q = let (v, never) = passed-lacks cells f k q in stopping g (output-value p v never)
+  sound-output r c e f g (At d) (gives z) p q = go (c .host) refl
     where
       l : List Message
       l = getD (s .store .outputs) (c .number) []
 
-      room : (t : Bool) → c .host ≡ true → ltb (length l) (c .capacity) ≡ t → Sound r (ifElse t (moves r 2 (writeOutput (c .number) (l ++ (some z ∷ [])) ∷ [])) waits)
-      room true h u = host-write g h p q refl (ltb→lt (length l) (c .capacity) (is-true (ltb (length l) (c .capacity)) u))
+      room : (t : Bool) → c .host ≡ true → ltb (length l) (c .capacity) ≡ t → Sound r (ifElse t (moves r 2 (writeOutput (c .number) (l ++ (z ∷ [])) ∷ [])) waits)
+      room true h u = host-write g h p (passed-passes cells f z q) refl (ltb→lt (length l) (c .capacity) (is-true (ltb (length l) (c .capacity)) u))
       room false h u = tt
 
-      go : (t : Bool) → c .host ≡ t → Sound r (ifElse t (hostWrite r c l (some z)) (outputsTo d (some z)))
+      go : (t : Bool) → c .host ≡ t → Sound r (ifElse t (hostWrite r c l z) (outputsTo d z))
       go true h = room (ltb (length l) (c .capacity)) h refl
-      go false h = (c, (e, (f, (g, inner-output h p q))))
+      go false h = (c, (e, (f, (g, inner-output h p (passed-passes cells f z q)))))
 
   -- what options looked at mean
   abbrev LookedAt : List AltOption → OptionsResult → Type 0
@@ -195,7 +196,7 @@ module _ (P : Program) (sheet : Sheet) (s : State) where
   sound r parallel g = tt
   sound r (assign v e f) g = sound-assign r v e f g (index cells (v .first) (v .size) e) (value cells f) refl refl
   sound r (input i) g = sound-input r i g (inputResult sheet i (s .store)) (reception-is i)
-  sound r (output c e f) g = sound-output r c e f g (index cells (c .first) (c .size) e) (value cells f) refl refl
+  sound r (output c e f) g = sound-output r c e f g (index cells (c .first) (c .size) e) (passed cells f) refl refl
   sound r (conditional ts) g = sound-tests r ts (λ q h. if-true g h) (λ k h. stopping g (if-test h))
   sound r (loop e b) g = sound-while r b e g (value cells e) refl
   sound r (alternation bs) g = sound-select r bs g (optionsResult sheet bs (s .store)) (looked bs)

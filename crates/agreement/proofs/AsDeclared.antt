@@ -1,11 +1,11 @@
 -- A reached state has what the table declares: a state for each row, a message for each cell, a place for each channel from the host, and
--- for each channel to the host a list of numbers. Every step keeps it.
-use mathlib.Core.Path.{_≡_, refl, sym, ap, subst, _∙_}
+-- for each channel to the host a list of messages. Every step keeps it.
+use mathlib.Core.Path.{_≡_, sym, ap, subst, _∙_}
 use mathlib.Core.Option.{none, some}
 use mathlib.Core.List.{List, [], _∷_, _++_}
-use Prim.Native.Nat.{ℕ, zero, suc}
+use Prim.Native.Nat.{ℕ, suc}
 use lib.IntN.{ℤ}
-use lib.ListN.{length, getD, replicate, length-set, length-replicate}
+use lib.ListN.{length, length-set, length-replicate}
 use Rattle.meaning.specs.Declarations.{totalCells, hostChannels}
 use Rattle.meaning.specs.Values.{Message}
 use Rattle.meaning.specs.State.{Store, State, program, writeCell, writePlace, writeOutput, write, writeAll, Effect}
@@ -13,44 +13,23 @@ use Rattle.meaning.specs.Labels.{Label}
 use Rattle.meaning.specs.Readings.{Sheet}
 use Rattle.meaning.specs.Step.{Allows, Step, assignment, while-false, while-true, if-true, communication, host-read, host-write, alt-skip, alt-read, alt-communication, stopping}
 use Rattle.meaning.specs.Order.{Begins, Order, halt, next-step}
-use Rattle.meaning.specs.PrintedForms.{Each, each-none, each-more}
-use Rattle.agreement.specs.BufferClaims.{IsNumber, ReachedAsDeclared}
-use Rattle.agreement.proofs.KnownStates.{set-keeps}
+use Rattle.agreement.specs.BufferClaims.{ReachedAsDeclared}
 use Rattle.agreement.proofs.OrdersCoherent.{orders-coherent}
-
--- one more at the end
-each-last : {A : Type 0} {P : A → Type 0} (l : List A) (x : A) → Each P l → P x → Each P (l ++ (x ∷ []))
-each-last [] x each-none p = each-more p each-none
-each-last (y ∷ l) x (each-more q h) p = each-more q (each-last l x h p)
-
-none-given : (k port : ℕ) → Each IsNumber (getD (replicate k []) port [])
-none-given zero port = each-none
-none-given (suc k) zero = each-none
-none-given (suc k) (suc port) = none-given k port
 
 module _ (rows : List ℤ) (sheet : Sheet) where
   record Kept (x : Store) : Type 0 where
     cells : length (x .cells) ≡ totalCells rows
     places : length (x .places) ≡ hostChannels 1 rows
     outputs : length (x .outputs) ≡ hostChannels 2 rows
-    numbers : (port : ℕ) → Each IsNumber (getD (x .outputs) port [])
 
   cell-kept : (a : ℕ) (m : Message) (x : Store) → Kept x → Kept (write (writeCell a m) x)
-  cell-kept a m x k = record { cells = length-set (x .cells) a m ∙ k .cells; places = k .places; outputs = k .outputs; numbers = k .numbers }
+  cell-kept a m x k = record { cells = length-set (x .cells) a m ∙ k .cells; places = k .places; outputs = k .outputs }
 
   place-kept : (c n : ℕ) (x : Store) → Kept x → Kept (write (writePlace c n) x)
-  place-kept c n x k = record { cells = k .cells; places = length-set (x .places) c n ∙ k .places; outputs = k .outputs; numbers = k .numbers }
+  place-kept c n x k = record { cells = k .cells; places = length-set (x .places) c n ∙ k .places; outputs = k .outputs }
 
-  number-kept : (c : ℕ) (l : List Message) (z : ℤ) (x : Store) → getD (x .outputs) c [] ≡ l → Kept x → Kept (write (writeOutput c (l ++ (some z ∷ []))) x)
-  number-kept c l z x e k =
-      let more = l ++ (some z ∷ []) in
-      record {
-        cells = k .cells;
-        places = k .places;
-        outputs = length-set (x .outputs) c more ∙ k .outputs;
-        numbers = λ port.
-            set-keeps (Each IsNumber) [] (x .outputs) c more port (k .numbers port) (λ q. each-last l (some z) (subst (Each IsNumber) e (k .numbers c)) (z, refl));
-      }
+  list-kept : (c : ℕ) (l : List Message) (x : Store) → Kept x → Kept (write (writeOutput c l) x)
+  list-kept c l x k = record { cells = k .cells; places = k .places; outputs = length-set (x .outputs) c l ∙ k .outputs }
 
   effect-kept : (s : State) (x : Label) (e : Effect) → Allows (program rows) sheet s x e → Kept (s .store) → Kept (writeAll (e .writes) (s .store))
   effect-kept s x e (assignment {a} {z} g p q) k = cell-kept a (some z) (s .store) k
@@ -59,7 +38,7 @@ module _ (rows : List ℤ) (sheet : Sheet) where
   effect-kept s x e (if-true g h) k = k
   effect-kept s x e (communication {a} {m} g o h w) k = cell-kept a m (s .store) k
   effect-kept s x e (host-read {a} {n} {i} {v} g h) k = place-kept (i .channel .number) (suc n) _ (cell-kept a v (s .store) k)
-  effect-kept s x e (host-write {c} {z} {l} g h p q o m) k = number-kept (c .number) l z (s .store) o k
+  effect-kept s x e (host-write {c} {m} {l} g h p q o n) k = list-kept (c .number) (l ++ (m ∷ [])) (s .store) k
   effect-kept s x e (alt-skip g c m h q) k = k
   effect-kept s x e (alt-read {a} {n} {i} {v} g c m h q o) k = place-kept (i .channel .number) (suc n) _ (cell-kept a v (s .store) k)
   effect-kept s x e (alt-communication {a} {m} g c d o h q w y) k = cell-kept a m (s .store) k
@@ -79,10 +58,9 @@ module _ (rows : List ℤ) (sheet : Sheet) where
         cells = ap length (h .unset) ∙ length-replicate (totalCells rows) none;
         places = ap length (h .unread) ∙ length-replicate (hostChannels 1 rows) 0;
         outputs = ap length (h .unwritten) ∙ length-replicate (hostChannels 2 rows) [];
-        numbers = λ port. subst (λ (l : List (List Message)). Each IsNumber (getD l port [])) (sym (h .unwritten)) (none-given (hostChannels 2 rows) port);
       }
 
 pub reached-as-declared : ReachedAsDeclared
 reached-as-declared rows sheet s ok (l, o) =
     let k = order-kept rows sheet (o .order) (begins-kept rows sheet (o .beginning) (o .begins)) in
-    record { states = orders-coherent rows ok sheet l s o .size; cells = k .cells; places = k .places; outputs = k .outputs; numbers = k .numbers }
+    record { states = orders-coherent rows ok sheet l s o .size; cells = k .cells; places = k .places; outputs = k .outputs }

@@ -13,9 +13,11 @@ use Rattle.meaning.specs.Declarations.{declarations, Channel, sumBelow, capacit
 use Rattle.meaning.specs.Values.{Message}
 use Rattle.meaning.specs.State.{State}
 use Rattle.meaning.specs.Buffers.{Buffers}
-use Rattle.meaning.specs.PrintedForms.{Each, each-none, each-more}
+use Rattle.meaning.specs.Readings.{Sheet}
+use Rattle.meaning.specs.Answers.{check}
 use Rattle.meaning.proofs.LentLaws.{entry-at}
-use Rattle.agreement.specs.BufferClaims.{AsDeclared, HoldsAt, UntouchedPast, ToHost, outputNumber, stripBegins, listIn, BuffersHold, EncodeHolds}
+use Rattle.agreement.specs.Statements.{Reached}
+use Rattle.agreement.specs.BufferClaims.{AsDeclared, HoldsAt, UntouchedPast, ToHost, stripBegins, listIn, BuffersHold, EncodeHolds}
 use Rattle.agreement.proofs.AsDeclared.{reached-as-declared}
 use Rattle.agreement.proofs.HostOutputs.{sink-is, output-row, output-of}
 use Rattle.agreement.proofs.OrdersCoherent.{orders-coherent}
@@ -41,11 +43,6 @@ module _ {A : Type 0} where
       go : (i : ℕ) → Dec (i < limit) → getElem? l i ≡ getElem? m i
       go i (yes k) = let (v, p, q) = h i k in p ∙ sym q
       go i (no k) = u .past-limit i (omega arith) ∙ sym (w .past-limit i (omega arith))
-
-  entry-each : {P : A → Type 0} (l : List A) (i : ℕ) → Each P l → i < length l → (x : A) × HoldsAt l i x × P x
-  entry-each [] i each-none h = absurd (omega arith)
-  entry-each (x ∷ l) zero (each-more p e) h = (x, refl, p)
-  entry-each (x ∷ l) (suc i) (each-more p e) h = entry-each l i e (omega arith)
 
 -- a number below a sum lies in the part of one row
 in-part : (f : ℕ → ℕ) (n i : ℕ) → i < sumBelow f n → (r : ℕ) × (sumBelow f r ≤ i) × (i < sumBelow f r + f r)
@@ -91,24 +88,30 @@ module _ (rows : List ℤ) (s : State) (L : Limited rows) (D : AsDeclared rows s
       go (yes l) = let (r, o, q) = output-row rows p l in subst (Both (c .counts) (e .counts)) q (length (listIn rows r s), C .count r o, E .count r o)
       go (no l) = (0, C .unused-count p (omega arith) h, E .unused-count p (omega arith) h)
 
-  number-both : (i : ℕ) → i < maxCapacity → Both (c .numbers) (e .numbers) i
-  number-both i h = go (decLt i (stripBegins rows (declarations rows)))
-    where
-      of : (r j : ℕ) → j < capacityAt rows r → Dec (j < length (listIn rows r s)) → Both (c .numbers) (e .numbers) (stripBegins rows r + j)
-      of r j l (yes k) =
-          let o = output-of rows r (omega arith) in
-          let (m, a, (z, n)) = entry-each (listIn rows r s) j (D .numbers (outputNumber rows r)) k in
-          let a′ = subst (HoldsAt (listIn rows r s) j) n a in
-          (z, C .strip r o j z a′, E .strip r o j z a′)
-      of r j l (no k) = let o = output-of rows r (omega arith) in (pos 0, C .unused-in-strip r o j (omega arith) l, E .unused-in-strip r o j (omega arith) l)
+  -- the numbers and the marks of the strips
+  abbrev Strips : ℕ → Type 0
+  Strips i = Both (c .numbers) (e .numbers) i × Both (c .outputMarks) (e .outputMarks) i
 
-      go : Dec (i < stripBegins rows (declarations rows)) → Both (c .numbers) (e .numbers) i
+  message-both : (i : ℕ) → i < maxCapacity → Strips i
+  message-both i h = go (decLt i (stripBegins rows (declarations rows)))
+    where
+      holding : (r j : ℕ) → ToHost rows r → (m : Message) → HoldsAt (listIn rows r s) j m → Strips (stripBegins rows r + j)
+      holding r j o none k = let (p, q) = C .absence-in-strip r o j k in let (u, w) = E .absence-in-strip r o j k in ((pos 0, p, u), (0, q, w))
+      holding r j o (some z) k = let (p, q) = C .strip r o j z k in let (u, w) = E .strip r o j z k in ((z, p, u), (1, q, w))
+
+      of : (r j : ℕ) → j < capacityAt rows r → Dec (j < length (listIn rows r s)) → Strips (stripBegins rows r + j)
+      of r j l (yes k) = holding r j (output-of rows r (omega arith)) (getD (listIn rows r s) j none) (entry-at (listIn rows r s) j none k)
+      of r j l (no k) =
+          let o = output-of rows r (omega arith) in
+          let (p, q) = C .unused-in-strip r o j (omega arith) l in let (u, w) = E .unused-in-strip r o j (omega arith) l in ((pos 0, p, u), (0, q, w))
+
+      go : Dec (i < stripBegins rows (declarations rows)) → Strips i
       go (yes l) =
           let (r, begins, within) = in-part (capacityAt rows) (declarations rows) i l in
           let j = i - stripBegins rows r in
           let q : stripBegins rows r + j ≡ i = omega arith in
-          subst (Both (c .numbers) (e .numbers)) q (of r j (omega arith) (decLt j (length (listIn rows r s))))
-      go (no l) = (pos 0, C .unused-number i (omega arith) h, E .unused-number i (omega arith) h)
+          subst Strips q (of r j (omega arith) (decLt j (length (listIn rows r s))))
+      go (no l) = let (p, q) = C .unused-number i (omega arith) h in let (u, w) = E .unused-number i (omega arith) h in ((pos 0, p, u), (0, q, w))
 
   only-one : c ≡ e
   only-one =
@@ -116,19 +119,21 @@ module _ (rows : List ℤ) (s : State) (L : Limited rows) (D : AsDeclared rows s
       let marks = same-buffer maxCells (b .marks) (c .marks) (e .marks) (C .marks-past) (E .marks-past) (λ i h. cell-both i h .1) in
       let states = same-buffer maxRows (b .states) (c .states) (e .states) (C .states-past) (E .states-past) state-both in
       let places = same-buffer maxHostChannels (b .places) (c .places) (e .places) (C .places-past) (E .places-past) place-both in
-      let numbers = same-buffer maxCapacity (b .numbers) (c .numbers) (e .numbers) (C .numbers-past) (E .numbers-past) number-both in
+      let numbers = same-buffer maxCapacity (b .numbers) (c .numbers) (e .numbers) (C .numbers-past) (E .numbers-past) (λ i h. message-both i h .0) in
       let counts = same-buffer maxHostChannels (b .counts) (c .counts) (e .counts) (C .counts-past) (E .counts-past) count-both in
-      λ i. record { cells = cells i; marks = marks i; states = states i; places = places i; numbers = numbers i; counts = counts i }
+      let output-marks = same-buffer maxCapacity (b .outputMarks) (c .outputMarks) (e .outputMarks) (C .output-marks-past) (E .output-marks-past) (λ i h. message-both i h .1) in
+      λ i. record { cells = cells i; marks = marks i; states = states i; places = places i; numbers = numbers i; counts = counts i; outputMarks = output-marks i }
+
+-- of a reached state, every list fits in its strip
+pub lists-fit : (rows : List ℤ) (sheet : Sheet) (s : State) → check rows ≡ none → Reached rows sheet s → (r : ℕ) → ToHost rows r → length (listIn rows r s) ≤ capacityAt rows r
+lists-fit rows sheet s ok (l, o) r h =
+    let e = sink-is rows r h in
+    let k = orders-coherent rows ok sheet l s o .room-kept r (ap (λ (x : Channel). x .host) e) in
+    omega (arith, k, ap (λ (x : Channel). length (getD (s .store .outputs) (x .number) [])) e, ap (λ (x : Channel). x .capacity) e)
 
 pub buffers-exact : EncodeHolds
-buffers-exact rows sheet s ok (l, o) b long =
+buffers-exact rows sheet s ok h b long =
     let L = limited rows ok in
-    let D = reached-as-declared rows sheet s ok (l, o) in
-    let held = encode-holds rows s L D room b long in
-    (held, λ c h. only-one rows s L D b c _ h held)
-  where
-    room : (r : ℕ) → ToHost rows r → length (listIn rows r s) ≤ capacityAt rows r
-    room r h =
-        let e = sink-is rows r h in
-        let k = orders-coherent rows ok sheet l s o .room-kept r (ap (λ (x : Channel). x .host) e) in
-        omega (arith, k, ap (λ (x : Channel). length (getD (s .store .outputs) (x .number) [])) e, ap (λ (x : Channel). x .capacity) e)
+    let D = reached-as-declared rows sheet s ok h in
+    let held = encode-holds rows s L D (lists-fit rows sheet s ok h) b long in
+    (held, λ c k. only-one rows s L D b c _ k held)

@@ -10,32 +10,33 @@ use lib.ListN.{length, getD, length-map, List·getD-map, List·getD-eq-default, 
 use lib.Dec.{ltb}
 use borrow.Author.Tests.{ltb-false, le-ltb}
 use Rattle.meaning.specs.Limits.{maxRows, maxCells, maxHostChannels, maxCapacity}
-use Rattle.meaning.specs.Declarations.{capacityAt, totalCells, channels}
+use Rattle.meaning.specs.Declarations.{declarations, capacityAt, totalCells, channels}
 use Rattle.meaning.specs.Values.{Message}
 use Rattle.meaning.specs.State.{State}
 use Rattle.meaning.specs.Buffers.{Buffers, tooShort, lent, mark, numberIn, capacities, strips, encode}
 use Rattle.meaning.proofs.LentLaws.{entry-is, lent-holds, lent-past, lent-length}
 use Rattle.agreement.specs.BufferClaims.{LongEnough, TooShortExactly, AsDeclared, HoldsAt, UntouchedPast, ToHost, outputNumber, stripBegins, listIn, BuffersHold}
 use Rattle.agreement.proofs.HostOutputs.{output-count, capacity-total, numbered-at}
-use Rattle.agreement.proofs.GivenLists.{strip-number, strips-length}
+use Rattle.agreement.proofs.GivenLists.{strip-message, strips-length}
 use Rattle.agreement.proofs.TableLimits.{Limited}
 
 -- Long enough ----------------------------------------------------------------------------------------------------------------------
 
-none-holds : (a b c d e f : Bool) → (a || b || c || d || e || f) ≡ false → (a ≡ false) × (b ≡ false) × (c ≡ false) × (d ≡ false) × (e ≡ false) × (f ≡ false)
-none-holds true b c d e f h = absurd (false≢true (sym h))
-none-holds false true c d e f h = absurd (false≢true (sym h))
-none-holds false false true d e f h = absurd (false≢true (sym h))
-none-holds false false false true e f h = absurd (false≢true (sym h))
-none-holds false false false false true f h = absurd (false≢true (sym h))
-none-holds false false false false false f h = (refl, refl, refl, refl, refl, h)
+none-holds : (a b c d e f g : Bool) → (a || b || c || d || e || f || g) ≡ false → (a ≡ false) × (b ≡ false) × (c ≡ false) × (d ≡ false) × (e ≡ false) × (f ≡ false) × (g ≡ false)
+none-holds true b c d e f g h = absurd (false≢true (sym h))
+none-holds false true c d e f g h = absurd (false≢true (sym h))
+none-holds false false true d e f g h = absurd (false≢true (sym h))
+none-holds false false false true e f g h = absurd (false≢true (sym h))
+none-holds false false false false true f g h = absurd (false≢true (sym h))
+none-holds false false false false false true g h = absurd (false≢true (sym h))
+none-holds false false false false false false g h = (refl, refl, refl, refl, refl, refl, h)
 
 pub too-short-exactly : TooShortExactly
 too-short-exactly b = (to, from)
   where
     to : tooShort b ≡ false → LongEnough b
     to h =
-        let n = none-holds (ltb (length (b .cells)) maxCells) (ltb (length (b .marks)) maxCells) (ltb (length (b .states)) maxRows) (ltb (length (b .places)) maxHostChannels) (ltb (length (b .numbers)) maxCapacity) (ltb (length (b .counts)) maxHostChannels) h in
+        let n = none-holds (ltb (length (b .cells)) maxCells) (ltb (length (b .marks)) maxCells) (ltb (length (b .states)) maxRows) (ltb (length (b .places)) maxHostChannels) (ltb (length (b .numbers)) maxCapacity) (ltb (length (b .counts)) maxHostChannels) (ltb (length (b .outputMarks)) maxCapacity) h in
         record {
           cells = ltb-false (length (b .cells)) maxCells (n .0);
           marks = ltb-false (length (b .marks)) maxCells (n .1);
@@ -43,11 +44,12 @@ too-short-exactly b = (to, from)
           places = ltb-false (length (b .places)) maxHostChannels (n .3);
           numbers = ltb-false (length (b .numbers)) maxCapacity (n .4);
           counts = ltb-false (length (b .counts)) maxHostChannels (n .5);
+          output-marks = ltb-false (length (b .outputMarks)) maxCapacity (n .6);
         }
 
     from : LongEnough b → tooShort b ≡ false
     from l =
-        rw (le-ltb (length (b .cells)) maxCells (l .cells), le-ltb (length (b .marks)) maxCells (l .marks), le-ltb (length (b .states)) maxRows (l .states), le-ltb (length (b .places)) maxHostChannels (l .places), le-ltb (length (b .numbers)) maxCapacity (l .numbers), le-ltb (length (b .counts)) maxHostChannels (l .counts))
+        rw (le-ltb (length (b .cells)) maxCells (l .cells), le-ltb (length (b .marks)) maxCells (l .marks), le-ltb (length (b .states)) maxRows (l .states), le-ltb (length (b .places)) maxHostChannels (l .places), le-ltb (length (b .numbers)) maxCapacity (l .numbers), le-ltb (length (b .counts)) maxHostChannels (l .counts), le-ltb (length (b .outputMarks)) maxCapacity (l .output-marks))
 
 -- Held -----------------------------------------------------------------------------------------------------------------------------
 
@@ -82,18 +84,40 @@ module _ (rows : List ℤ) (s : State) (L : Limited rows) (D : AsDeclared rows s
   cell-unused : (i : ℕ) → totalCells rows ≤ i → i < maxCells → CellIs i none
   cell-unused i h l = subst (CellIs i) (List·getD-eq-default (s .store .cells) none (omega (arith, D .cells))) (cell-at i l)
 
-  -- a number of the strip of row r
-  number-at : (r : ℕ) → ToHost rows r → (i : ℕ) → i < capacityAt rows r → HoldsAt (encode rows s b .numbers) (stripBegins rows r + i) (numberIn (getD (listIn rows r s) i none))
+  -- number and mark of a message of the strips
+  abbrev pub MessageIs : ℕ → Message → Type 0
+  MessageIs i m = HoldsAt (encode rows s b .numbers) i (numberIn m) × HoldsAt (encode rows s b .outputMarks) i (mark m)
+
+  abbrev messages : List Message
+  messages = strips (capacities rows) (s .store .outputs)
+
+  listed-at : (i : ℕ) → i < maxCapacity → MessageIs i (getD messages i none)
   unfolding encode
-  number-at r o i h =
+  listed-at i h = (
+    lent-holds (pos 0) maxCapacity i (map numberIn messages) (b .numbers) h ∙ ap some (List·getD-map numberIn messages i none),
+    lent-holds 0 maxCapacity i (map mark messages) (b .outputMarks) h ∙ ap some (List·getD-map mark messages i none),
+  )
+
+  -- a message of the strip of row r
+  message-at : (r : ℕ) → ToHost rows r → (i : ℕ) → i < capacityAt rows r → MessageIs (stripBegins rows r + i) (getD (listIn rows r s) i none)
+  message-at r o i h =
       let a = numbered-at rows r o in
       let port = outputNumber rows r in
       let few : port < length (capacities rows) = omega (arith, length-map (channels rows 2) (capacityAt rows), a .below) in
-      lent-holds (pos 0) maxCapacity (stripBegins rows r + i) (strips (capacities rows) (s .store .outputs)) (b .numbers) (omega (arith, a .within, L .numbers, h))
-      ∙ ap some
-      (ap (λ (k : ℕ). getD (strips (capacities rows) (s .store .outputs)) (k + i) (pos 0)) (sym (a .begins))
-      ∙ strip-number port i (capacities rows) (s .store .outputs) few (omega (arith, few, output-count rows, D .outputs)) (omega (arith, a .capacity, h))
-      ∙ List·getD-map numberIn (listIn rows r s) i none)
+      subst (MessageIs (stripBegins rows r + i))
+      (ap (λ (k : ℕ). getD messages (k + i) none) (sym (a .begins))
+      ∙ strip-message port i (capacities rows) (s .store .outputs) few (omega (arith, few, output-count rows, D .outputs)) (omega (arith, a .capacity, h)))
+      (listed-at (stripBegins rows r + i) (omega (arith, a .within, L .numbers, h)))
+
+  pub message-is : (r : ℕ) → ToHost rows r → (i : ℕ) (m : Message) → HoldsAt (listIn rows r s) i m → MessageIs (stripBegins rows r + i) m
+  message-is r o i m e =
+      let (l, g) = entry-is (listIn rows r s) i none m e in
+      subst (MessageIs (stripBegins rows r + i)) g (message-at r o i (let k = room r o in omega arith))
+
+  message-unused : (i : ℕ) → stripBegins rows (declarations rows) ≤ i → i < maxCapacity → MessageIs i none
+  message-unused i h l =
+      subst (MessageIs i) (List·getD-eq-default messages none (omega (arith, strips-length (capacities rows) (s .store .outputs) (output-count rows ∙ sym (D .outputs)), capacity-total rows)))
+      (listed-at i l)
 
   pub encode-holds : LongEnough b → BuffersHold rows s b (encode rows s b)
   unfolding encode
@@ -106,14 +130,10 @@ module _ (rows : List ℤ) (s : State) (L : Limited rows) (D : AsDeclared rows s
         unused-state = λ r h l. lent-unused maxRows 0 (s .states) (b .states) r (omega (arith, D .states)) l;
         place = λ c n e. lent-entry maxHostChannels 0 (s .store .places) (b .places) (omega (arith, D .places, L .places)) c n e;
         unused-place = λ c h l. lent-unused maxHostChannels 0 (s .store .places) (b .places) c (omega (arith, D .places)) l;
-        strip = λ r o i z e.
-            let (l, g) = entry-is (listIn rows r s) i none (some z) e in
-            subst (λ (m : Message). HoldsAt (encode rows s b .numbers) (stripBegins rows r + i) (numberIn m)) g (number-at r o i (let k = room r o in omega arith));
-        unused-in-strip = λ r o i h l.
-            subst (λ (m : Message). HoldsAt (encode rows s b .numbers) (stripBegins rows r + i) (numberIn m)) (List·getD-eq-default (listIn rows r s) none h) (number-at r o i l);
-        unused-number = λ i h l.
-            lent-unused maxCapacity (pos 0) (strips (capacities rows) (s .store .outputs)) (b .numbers) i
-            (omega (arith, strips-length (capacities rows) (s .store .outputs) (output-count rows ∙ sym (D .outputs)), capacity-total rows)) l;
+        strip = λ r o i z e. message-is r o i (some z) e;
+        absence-in-strip = λ r o i e. message-is r o i none e;
+        unused-in-strip = λ r o i h l. subst (MessageIs (stripBegins rows r + i)) (List·getD-eq-default (listIn rows r s) none h) (message-at r o i l);
+        unused-number = message-unused;
         count = λ r o.
             lent-holds 0 maxHostChannels (outputNumber rows r) (map length (s .store .outputs)) (b .counts) (let a = numbered-at rows r o in omega (arith, a .below, length-map (channels rows 2) (capacityAt rows), output-count rows, L .outputs))
             ∙ ap some (List·getD-map length (s .store .outputs) (outputNumber rows r) []);
@@ -122,6 +142,7 @@ module _ (rows : List ℤ) (s : State) (L : Limited rows) (D : AsDeclared rows s
         marks-past = lent-untouched maxCells 0 (map mark (s .store .cells)) (b .marks) (long .marks);
         states-past = lent-untouched maxRows 0 (s .states) (b .states) (long .states);
         places-past = lent-untouched maxHostChannels 0 (s .store .places) (b .places) (long .places);
-        numbers-past = lent-untouched maxCapacity (pos 0) (strips (capacities rows) (s .store .outputs)) (b .numbers) (long .numbers);
+        numbers-past = lent-untouched maxCapacity (pos 0) (map numberIn messages) (b .numbers) (long .numbers);
         counts-past = lent-untouched maxHostChannels 0 (map length (s .store .outputs)) (b .counts) (long .counts);
+        output-marks-past = lent-untouched maxCapacity 0 (map mark messages) (b .outputMarks) (long .output-marks);
       }

@@ -149,7 +149,7 @@ module _ (rows : List ℤ) (sheet : Sheet) where
   step-ok s x t (if-true g h) = ((RowState.running, tt), tt)
   step-ok s x t (communication g k h w) = ((RowState.ended, (RowState.ended, tt)), (tt, tt))
   step-ok s x t (host-read {n} {i} {v} g (host-input a b c d e)) = ((RowState.ended, tt), (tt, (read-ok (i .channel .number) n v e, tt)))
-  step-ok s x t (host-write {r} {c} {e} {f} {z} {l} g h p q o m) = ((RowState.ended, tt), (room-ok s r c e f g h l (some z) m, tt))
+  step-ok s x t (host-write {r} {c} {e} {f} {m = z} {l} g h p q o m) = ((RowState.ended, tt), (room-ok s r c e f g h l z m, tt))
   step-ok s x t (alt-skip g c m h q) = ((RowState.running, tt), tt)
   step-ok s x t (alt-read {n} {i} {v} g c m h q (host-input a b d f e)) = ((RowState.running, tt), (tt, (read-ok (i .channel .number) n v e, tt)))
   step-ok s x t (alt-communication g c m k h q w y) = ((RowState.running, (RowState.ended, tt)), (tt, tt))

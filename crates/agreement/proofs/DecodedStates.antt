@@ -1,7 +1,6 @@
 -- Results can be read back: decoding what `encode` left gives the state, so equal buffers mean equal states.
 use mathlib.Core.Path.{_≡_, refl, sym, ap, ap₂, _∙_}
 use mathlib.Core.Bool.{true}
-use mathlib.Core.Option.{some}
 use mathlib.Core.List.{List, [], _∷_, _++_, map, map-append}
 use Prim.Native.Nat.{ℕ, zero, suc, _<_}
 use native.Mathlib.Omega.{arith}
@@ -15,20 +14,14 @@ use Rattle.meaning.specs.Rows.{rowCount}
 use Rattle.meaning.specs.Declarations.{totalCells, hostChannels, capacityAt, channels}
 use Rattle.meaning.specs.Values.{Message}
 use Rattle.meaning.specs.Buffers.{mark, numberIn, decoded, encode}
-use Rattle.meaning.specs.Decode.{givenIn, decode}
-use Rattle.meaning.specs.PrintedForms.{Each, each-none, each-more}
+use Rattle.meaning.specs.Decode.{listedIn, decode}
 use Rattle.meaning.proofs.LentLaws.{lent-whole}
-use Rattle.agreement.specs.BufferClaims.{IsNumber, DecodedState, EqualBuffers}
+use Rattle.agreement.specs.BufferClaims.{DecodedState, EqualBuffers}
 use Rattle.agreement.proofs.AsDeclared.{reached-as-declared}
 use Rattle.agreement.proofs.GivenLists.{left-given}
 use Rattle.agreement.proofs.HostOutputs.{output-count}
 use Rattle.agreement.proofs.MissingMarks.{decoded-cells}
 use Rattle.agreement.proofs.TableLimits.{limited}
-
--- a list of numbers comes back
-numbers-back : (l : List Message) → Each IsNumber l → map some (map numberIn l) ≡ l
-numbers-back [] each-none = refl
-numbers-back (m ∷ l) (each-more (z, e) h) = ap₂ (λ (x : Message) (k : List Message). x ∷ k) (rw e) (numbers-back l h)
 
 -- the numbers below n
 below-length : (n : ℕ) → length (allBelow (λ port. true) n) ≡ n
@@ -71,12 +64,10 @@ decoded-state rows sheet s ok (l, o) b =
     all = allBelow (λ port. true) (hostChannels 2 rows)
 
     list : ℕ → List Message
-    list port = map some (givenIn rows port (encode rows s b))
+    list port = listedIn rows port (encode rows s b)
 
     given : (port : ℕ) → port < hostChannels 2 rows → list port ≡ getD (s .store .outputs) port []
-    given port h =
-        ap (map some) (left-given rows ok sheet l s o b port (omega (arith, output-count rows, length-map (channels rows 2) (capacityAt rows), h)) .0)
-        ∙ numbers-back (getD (s .store .outputs) port []) (reached-as-declared rows sheet s ok (l, o) .numbers port)
+    given port h = left-given rows ok sheet l s o b port (omega (arith, output-count rows, length-map (channels rows 2) (capacityAt rows), h)) .0
 
 pub equal-buffers : EqualBuffers
 equal-buffers rows sheet other s t ok r q b c e = sym (decoded-state rows sheet s ok r b) ∙ ap (decode rows) e ∙ decoded-state rows other t ok q c

@@ -13,9 +13,9 @@ use Rattle.meaning.specs.declared.Value.{Value}
 use Rattle.meaning.specs.declared.Value.the-variants.{Number, Missing}
 use Rattle.meaning.specs.declared.Index.{Index}
 use Rattle.meaning.specs.declared.Index.the-variants.{At, Fails}
-use Rattle.meaning.specs.Basics.{ifElse}
-use Rattle.meaning.specs.Tree.{Expr, literal, element, monadic, dyadic, noExpr}
-use Rattle.meaning.specs.Values.{value, index, inArray, readCell, cellValue}
+use Rattle.meaning.specs.Basics.{ifElse, isSome}
+use Rattle.meaning.specs.Tree.{Expr, literal, element, monadic, given, dyadic, noExpr}
+use Rattle.meaning.specs.Values.{value, index, inArray, readCell, cellValue, givenValue, truth}
 use Rattle.meaning.specs.Usage.{numbersFrom, onlyIf, countsFor, standsIn}
 
 -- two lists of cells are alike at some numbers
@@ -68,6 +68,7 @@ module _ (c : List (Option ℤ)) (first n : ℕ) where
   index-counts (literal (negsuc k)) a h = never h
   index-counts (element v e) a h = array-mem first n (value c (element v e)) a h
   index-counts (monadic op e) a h = array-mem first n (value c (monadic op e)) a h
+  index-counts (given v e) a h = array-mem first n (value c (given v e)) a h
   index-counts (dyadic op e f) a h = array-mem first n (value c (dyadic op e f)) a h
   index-counts noExpr a h = array-mem first n (value c noExpr) a h
 
@@ -82,6 +83,10 @@ read-agree : (c d : List (Option ℤ)) (I : Index) → ((a : ℕ) → I ≡ At a
 read-agree c d (At a) g = ap cellValue (g a refl)
 read-agree c d (Fails k) g = refl
 
+given-agree : (c d : List (Option ℤ)) (I : Index) → ((a : ℕ) → I ≡ At a → getD c a none ≡ getD d a none) → givenValue c I ≡ givenValue d I
+given-agree c d (At a) g = ap (λ (m : Option ℤ). truth (isSome m)) (g a refl)
+given-agree c d (Fails k) g = refl
+
 module _ (c d : List (Option ℤ)) where
   pub value-agree : (e : Expr) → Agree (standsIn e) c d → value c e ≡ value d e
   unfolding value standsIn index
@@ -90,6 +95,9 @@ module _ (c d : List (Option ℤ)) where
       let h = value-agree e (agree-right (countsFor (v .first) (v .size) e) (standsIn e) c d g) in
       rw (← h) (read-agree c d (index c (v .first) (v .size) e) (λ a q. g a (Memᴰ·append-left (standsIn e) (index-counts c (v .first) (v .size) e a q))))
   value-agree (monadic op e) g = rw (value-agree e g)
+  value-agree (given v e) g =
+      let h = value-agree e (agree-right (countsFor (v .first) (v .size) e) (standsIn e) c d g) in
+      rw (← h) (given-agree c d (index c (v .first) (v .size) e) (λ a q. g a (Memᴰ·append-left (standsIn e) (index-counts c (v .first) (v .size) e a q))))
   value-agree (dyadic op e f) g = rw (value-agree e (agree-left (standsIn e) (standsIn f) c d g), value-agree f (agree-right (standsIn e) (standsIn f) c d g))
   value-agree noExpr g = refl
 

@@ -29,6 +29,7 @@ pub mod Active
 pub mod Invariant
 pub mod Beginning
 pub mod MissingMarks
+pub mod MissingPassed
 pub mod MissingPrinted
 pub mod NotEmpty
 pub mod MissingReads
@@ -88,6 +89,7 @@ pub mod Decided
 pub mod Fitting
 pub mod OperatorsExact
 pub mod OperandsInTurn
+pub mod GivenElements
 pub mod ChoicesUsedUp
 pub mod WhileReset
 pub mod RefusalPlaces
@@ -97,8 +99,10 @@ pub mod GivenLists
 pub mod TableLimits
 pub mod BuffersHold
 pub mod BuffersExact
+pub mod OutputsPrinted
 pub mod DecodedStates
 pub mod CallsOnBytes
 pub mod ResultsRead
+pub mod ListsAnswered
 pub mod Traces
 pub mod TracedCalls

@@ -1,6 +1,6 @@
 -- The printed field of a cell is empty exactly if its mark is 0; each line of a variable is of one of its cells, and each cell has its line.
 use mathlib.Core.Path.{_≡_, refl, sym, ap, subst, _∙_}
-use mathlib.Core.Logic.{_⊎_, inl, inr, _↔_}
+use mathlib.Core.Logic.{_⊎_, inl, inr, ⊎-elim, _↔_}
 use mathlib.Core.Bool.{Bool, true, false}
 use mathlib.Core.Option.{none, some, Option·none-ne-some}
 use mathlib.Core.List.{List, [], _∷_, _++_, map, List·Memᴰ, List·Memᴰ·head, List·Memᴰ·tail, Memᴰ·append-left, Memᴰ·append-right, List·Memᴰ·append-cases, Memᴰ·cast, flatten}
@@ -54,7 +54,7 @@ wordNumber stopWord = 3
 wordNumber refusedWord = 4
 
 -- a line of a numbered list: its place, and the element there
-numbered-line : (w : Word) (r i : ℕ) (vs : List Message) (l : Line) → List·Memᴰ l (numbered w r i vs) → (j : ℕ) × (j < length vs) × (l ≡ line w r (i + j) (getD vs j none))
+pub numbered-line : (w : Word) (r i : ℕ) (vs : List Message) (l : Line) → List·Memᴰ l (numbered w r i vs) → (j : ℕ) × (j < length vs) × (l ≡ line w r (i + j) (getD vs j none))
 unfolding numbered
 numbered-line w r i [] l m = absurd (elim m [ ])
 numbered-line w r i (v ∷ vs) l (List·Memᴰ·head e) = (0, omega arith, e ∙ ap (λ (k : ℕ). line w r k v) (omega arith))
@@ -63,7 +63,7 @@ numbered-line w r i (v ∷ vs) l (List·Memᴰ·tail m) =
     (suc j, omega arith, e ∙ ap (λ (k : ℕ). line w r k (getD vs j none)) (omega arith))
 
 -- and each element has its line
-line-numbered : (w : Word) (r i : ℕ) (vs : List Message) (j : ℕ) → j < length vs → List·Memᴰ (line w r (i + j) (getD vs j none)) (numbered w r i vs)
+pub line-numbered : (w : Word) (r i : ℕ) (vs : List Message) (j : ℕ) → j < length vs → List·Memᴰ (line w r (i + j) (getD vs j none)) (numbered w r i vs)
 unfolding numbered
 line-numbered w r i [] j h = absurd (omega arith)
 line-numbered w r i (v ∷ vs) zero h = List·Memᴰ·head (ap (λ (k : ℕ). line w r k v) (add-zero i))
@@ -116,7 +116,14 @@ module _ (rows : List ℤ) (cells : List Message) where
       some-in (λ r. numbered varWord r 0 (cellsOf rows cells r)) (variables rows) v _ m
       (rw (zero-add i, cell-at v i b .1) at (line-numbered varWord v 0 (cellsOf rows cells v) i b))
 
--- no line of an output or a stop is a variable's
+-- the words of lines: of a variable, of an output, of a stop
+cell-word : (rows : List ℤ) (cells : List Message) (l : Line) → List·Memᴰ l (cellLines rows cells) → wordNumber (l .what) ≡ 1
+unfolding cellLines wordNumber
+cell-word rows cells l m =
+    let (r, k, h) = in-some (λ r. numbered varWord r 0 (cellsOf rows cells r)) (variables rows) l m in
+    let (j, g, e) = numbered-line varWord r 0 (cellsOf rows cells r) l h in
+    ap (λ (k : Line). wordNumber (k .what)) e
+
 out-word : (cs : List ℕ) (xss : List (List Message)) (l : Line) → List·Memᴰ l (outLines cs xss) → wordNumber (l .what) ≡ 2
 unfolding outLines wordNumber
 out-word [] xss l m = absurd (elim m [ ])
@@ -138,24 +145,50 @@ stop-word r (q ∷ qs) l m = go (leb 10 q) m (λ k. stop-word (suc r) qs l k)
     go false k ih = ih k
 
 module _ (rows : List ℤ) (r : RunResult) where
-  -- a variable's line is a line of the cells
-  among-cells : (l : Line) → List·Memᴰ l (runLines rows r) → wordNumber (l .what) ≡ 1 → List·Memᴰ l (cellLines rows (r .state .store .cells))
+  abbrev Variables : List Line
+  Variables = cellLines rows (r .state .store .cells)
+
+  abbrev Outputs : List Line
+  Outputs = outLines (channels rows 2) (r .state .store .outputs)
+
+  abbrev Stops : List Line
+  Stops = stopLines 0 (r .state .states)
+
+  -- a line is the first, or of a cell, an output or a stop
+  abbrev Sorted : Line → Type 0
+  Sorted l = (wordNumber (l .what) ≡ 0) ⊎ (List·Memᴰ l Variables ⊎ (List·Memᴰ l Outputs ⊎ List·Memᴰ l Stops))
+
+  sorted : (l : Line) → List·Memᴰ l (runLines rows r) → Sorted l
   unfolding endLines outcomeLine wordNumber
-  among-cells l m h = go (List·Memᴰ·append-cases (outcomeLine (r .outcome) (r .steps) ∷ cellLines rows (r .state .store .cells) ++ outLines (channels rows 2) (r .state .store .outputs)) m)
+  sorted l m = ⊎-elim front (λ k. inr (inr (inr k))) (List·Memᴰ·append-cases (outcomeLine (r .outcome) (r .steps) ∷ Variables ++ Outputs) m)
     where
-      in-cells : List·Memᴰ l (outcomeLine (r .outcome) (r .steps) ∷ cellLines rows (r .state .store .cells)) → List·Memᴰ l (cellLines rows (r .state .store .cells))
-      in-cells (List·Memᴰ·head e) = let z : _≡_ {A = ℕ} 0 1 = sym (ap (λ (k : Line). wordNumber (k .what)) e) ∙ h in absurd (omega arith)
-      in-cells (List·Memᴰ·tail k) = k
+      first : List·Memᴰ l (outcomeLine (r .outcome) (r .steps) ∷ Variables) → Sorted l
+      first (List·Memᴰ·head e) = inl (ap (λ (k : Line). wordNumber (k .what)) e)
+      first (List·Memᴰ·tail k) = inr (inl k)
 
-      front : List·Memᴰ l (outcomeLine (r .outcome) (r .steps) ∷ cellLines rows (r .state .store .cells)) ⊎ List·Memᴰ l (outLines (channels rows 2) (r .state .store .outputs))
-          → List·Memᴰ l (cellLines rows (r .state .store .cells))
-      front (inl k) = in-cells k
-      front (inr k) = absurd (omega (arith, out-word (channels rows 2) (r .state .store .outputs) l k))
+      front : List·Memᴰ l (outcomeLine (r .outcome) (r .steps) ∷ Variables ++ Outputs) → Sorted l
+      front k = ⊎-elim first (λ j. inr (inr (inl j))) (List·Memᴰ·append-cases (outcomeLine (r .outcome) (r .steps) ∷ Variables) k)
 
-      go : List·Memᴰ l (outcomeLine (r .outcome) (r .steps) ∷ cellLines rows (r .state .store .cells) ++ outLines (channels rows 2) (r .state .store .outputs)) ⊎ List·Memᴰ l (stopLines 0 (r .state .states))
-          → List·Memᴰ l (cellLines rows (r .state .store .cells))
-      go (inl k) = front (List·Memᴰ·append-cases (outcomeLine (r .outcome) (r .steps) ∷ cellLines rows (r .state .store .cells)) k)
-      go (inr k) = absurd (omega (arith, stop-word 0 (r .state .states) l k))
+  -- a variable's line is a line of the cells, an output's one of the outputs
+  among-cells : (l : Line) → List·Memᴰ l (runLines rows r) → l .what ≡ varWord → List·Memᴰ l Variables
+  unfolding wordNumber
+  among-cells l m w = go (ap wordNumber w) (sorted l m)
+    where
+      go : wordNumber (l .what) ≡ 1 → Sorted l → List·Memᴰ l Variables
+      go h (inl e) = absurd (omega arith)
+      go h (inr (inl k)) = k
+      go h (inr (inr (inl k))) = absurd (omega (arith, out-word (channels rows 2) (r .state .store .outputs) l k))
+      go h (inr (inr (inr k))) = absurd (omega (arith, stop-word 0 (r .state .states) l k))
+
+  pub among-outputs : (l : Line) → List·Memᴰ l (runLines rows r) → l .what ≡ outWord → List·Memᴰ l Outputs
+  unfolding wordNumber
+  among-outputs l m w = go (ap wordNumber w) (sorted l m)
+    where
+      go : wordNumber (l .what) ≡ 2 → Sorted l → List·Memᴰ l Outputs
+      go h (inl e) = absurd (omega arith)
+      go h (inr (inl k)) = absurd (omega (arith, cell-word rows (r .state .store .cells) l k))
+      go h (inr (inr (inl k))) = k
+      go h (inr (inr (inr k))) = absurd (omega (arith, stop-word 0 (r .state .states) l k))
 
 -- the mark of a cell in the lent buffers, and its printed field
 empty-field : (rows : List ℤ) (s : State) (b : Buffers) (a : ℕ) → a < maxCells → (m : Message) → m ≡ cellAt s a → (valueBytes m ≡ []) ↔ (getD (encode rows s b .marks) a 0 ≡ 0)
@@ -165,9 +198,8 @@ empty-field rows s b a h m e =
 
 -- each line of a variable is of one of its cells; its field is empty exactly if the mark is 0
 pub variable-lines : VariableLines
-unfolding wordNumber
 variable-lines rows r l m w =
-    let (h, e) = cell-line rows (r .state .store .cells) l (among-cells rows r l m (ap wordNumber w)) in
+    let (h, e) = cell-line rows (r .state .store .cells) l (among-cells rows r l m w) in
     (h, e, λ b k. empty-field rows (r .state) b (cellNumber rows (l .name) (l .at)) k (l .value) e)
 
 -- each cell of a variable has its line

@@ -1,4 +1,4 @@
--- Missing stays missing, step by step: a cell changes only by what a step hands to it, and only an absent reading unsets one. It holds of every table.
+-- Missing stays missing, step by step: a cell changes only by what a step hands to it, and only an absence that it takes unsets one. It holds of every table.
 use mathlib.Core.Path.{_≡_, refl, sym, ap, subst, _∙_}
 use mathlib.Core.Logic.{_⊎_, inl, inr}
 use mathlib.Core.Option.{none, some, Option·none-ne-some, Option·some-injective}
@@ -12,28 +12,28 @@ use Rattle.meaning.specs.State.{Store, State, Program, program, writeAll, Effec
 use Rattle.meaning.specs.Labels.{Label}
 use Rattle.meaning.specs.Readings.{Sheet}
 use Rattle.meaning.specs.Settle.{settled}
-use Rattle.meaning.specs.Step.{inner-output, HostInput, Allows, Step, assignment, while-false, while-true, if-true, communication, host-read, host-write, alt-skip, alt-read, alt-communication, stopping}
+use Rattle.meaning.specs.Step.{HostInput, InnerOutput, Allows, Step, assignment, while-false, while-true, if-true, communication, host-read, host-write, alt-skip, alt-read, alt-communication, stopping}
 use Rattle.meaning.specs.Order.{Begins, Order, halt, next-step, OrderOf}
-use Rattle.agreement.specs.MissingClaims.{cellAt, Delivers, by-assignment, by-communication, by-reading, by-option-reading, by-option-communication, ReadsAbsent, input-absent, option-absent, SetOnly, SetByNumber, OnlyAbsentUnsets, DeliveredHolds, AbsentUnsets, SetInOrder}
+use Rattle.agreement.specs.MissingClaims.{cellAt, Delivers, by-assignment, by-communication, by-reading, by-option-reading, by-option-communication, TakesAbsent, input-absent, input-passed, option-absent, option-passed, SetOnly, SetByNumber, OnlyAbsentUnsets, DeliveredHolds, AbsentUnsets, SetInOrder}
 use Rattle.agreement.proofs.Takeable.{takeable}
 use Rattle.agreement.proofs.Steps.{distinct-options, allowed-step}
 use Rattle.agreement.proofs.Separate.{table-inv}
 use Rattle.agreement.proofs.TableFit.{fit}
 
--- a store into one cell changes that cell or none, and past the end none
-stored-or-same : (l : List Message) (b a : ℕ) (m : Message) → (getD (set l b m) a none ≡ getD l a none) ⊎ ((b ≡ a) × (getD (set l b m) a none ≡ m))
-stored-or-same [] b a m = inl refl
-stored-or-same (x ∷ l) zero zero m = inr (refl, refl)
-stored-or-same (x ∷ l) zero (suc a) m = inl refl
-stored-or-same (x ∷ l) (suc b) zero m = inl refl
-stored-or-same (x ∷ l) (suc b) (suc a) m = go (stored-or-same l b a m)
-  where
-    go : (getD (set l b m) a none ≡ getD l a none) ⊎ ((b ≡ a) × (getD (set l b m) a none ≡ m))
-        → (getD (set l b m) a none ≡ getD l a none) ⊎ ((suc b ≡ suc a) × (getD (set l b m) a none ≡ m))
-    go (inl e) = inl e
-    go (inr (e, h)) = inr (ap suc e, h)
+-- a store into one place changes that place or none, and past the end none
+module _ {A : Type 0} (d m : A) where
+  pub stored-or-same : (l : List A) (b a : ℕ) → (getD (set l b m) a d ≡ getD l a d) ⊎ ((b ≡ a) × (getD (set l b m) a d ≡ m))
+  stored-or-same [] b a = inl refl
+  stored-or-same (x ∷ l) zero zero = inr (refl, refl)
+  stored-or-same (x ∷ l) zero (suc a) = inl refl
+  stored-or-same (x ∷ l) (suc b) zero = inl refl
+  stored-or-same (x ∷ l) (suc b) (suc a) = go (stored-or-same l b a)
+    where
+      go : (getD (set l b m) a d ≡ getD l a d) ⊎ ((b ≡ a) × (getD (set l b m) a d ≡ m)) → (getD (set l b m) a d ≡ getD l a d) ⊎ ((suc b ≡ suc a) × (getD (set l b m) a d ≡ m))
+      go (inl e) = inl e
+      go (inr (e, h)) = inr (ap suc e, h)
 
--- an absent reading, stored, leaves none, past the end too
+-- an absence, stored, leaves none, past the end too
 none-stored : (l : List Message) (a : ℕ) → getD (set l a none) a none ≡ none
 none-stored [] a = refl
 none-stored (x ∷ l) zero = refl
@@ -43,7 +43,7 @@ module _ (P : Program) (sheet : Sheet) (s : State) (x : Label) where
   -- the message m handed to cell b, seen at cell a
   handed : (b a : ℕ) (m : Message) → Delivers P sheet s x b m
       → (getD (set (s .store .cells) b m) a none ≡ cellAt s a) ⊎ ((n : Message) × Delivers P sheet s x a n × (getD (set (s .store .cells) b m) a none ≡ n))
-  handed b a m d = go (stored-or-same (s .store .cells) b a m)
+  handed b a m d = go (stored-or-same none m (s .store .cells) b a)
     where
       go : (getD (set (s .store .cells) b m) a none ≡ cellAt s a) ⊎ ((b ≡ a) × (getD (set (s .store .cells) b m) a none ≡ m))
           → (getD (set (s .store .cells) b m) a none ≡ cellAt s a) ⊎ ((n : Message) × Delivers P sheet s x a n × (getD (set (s .store .cells) b m) a none ≡ n))
@@ -79,19 +79,19 @@ set-by-number P sheet s x t h a z e = go (set-only P sheet s x t h a)
     go (inl q) = inl (sym q ∙ e)
     go (inr (m, d, q)) = inr (subst (λ (n : Message). Delivers P sheet s x a n) (sym q ∙ e) d)
 
--- only a host read hands over no number: an assignment and an output have one
-absent-delivery : (P : Program) (sheet : Sheet) (s : State) (x : Label) (a : ℕ) (m : Message) → Delivers P sheet s x a m → m ≡ none → ReadsAbsent P sheet s x a
+-- what hands over no number takes an absence: an assignment has a number
+absent-delivery : (P : Program) (sheet : Sheet) (s : State) (x : Label) (a : ℕ) (m : Message) → Delivers P sheet s x a m → m ≡ none → TakesAbsent P sheet s x a
 absent-delivery P sheet s x a m (by-assignment {z} g p q) e = absurd (Option·none-ne-some z (sym e))
-absent-delivery P sheet s x a m (by-communication g k h (inner-output {v} u p q)) e = absurd (Option·none-ne-some v (sym e))
+absent-delivery P sheet s x a m (by-communication {d} {c} {e = w} {f} g k h o) e = input-passed g k h (subst (λ (v : Message). InnerOutput (s .store) c w f d v) e o)
 absent-delivery P sheet s x a m (by-reading {n} {i} g h) e = input-absent g (subst (λ (v : Message). HostInput sheet (s .store) i a v n) e h)
 absent-delivery P sheet s x a m (by-option-reading {n} {i} g c b h q k) e = option-absent g c b h q (subst (λ (v : Message). HostInput sheet (s .store) i a v n) e k)
-absent-delivery P sheet s x a m (by-option-communication g c b k h q w (inner-output {v} u p y)) e = absurd (Option·none-ne-some v (sym e))
+absent-delivery P sheet s x a m (by-option-communication {d} {c = l} {e = w} {f} g c b k h q i o) e = option-passed g c b k h q i (subst (λ (v : Message). InnerOutput (s .store) l w f d v) e o)
 
--- a cell that is unset after a step was unset before, or the step took an absent reading for it
+-- a cell that is unset after a step was unset before, or the step took an absence for it
 pub only-absent-unsets : OnlyAbsentUnsets
 only-absent-unsets P sheet s x t h a e = go (set-only P sheet s x t h a)
   where
-    go : (cellAt t a ≡ cellAt s a) ⊎ ((m : Message) × Delivers P sheet s x a m × (cellAt t a ≡ m)) → (cellAt s a ≡ none) ⊎ ReadsAbsent P sheet s x a
+    go : (cellAt t a ≡ cellAt s a) ⊎ ((m : Message) × Delivers P sheet s x a m × (cellAt t a ≡ m)) → (cellAt s a ≡ none) ⊎ TakesAbsent P sheet s x a
     go (inl q) = inl (sym q ∙ e)
     go (inr (m, d, q)) = inr (absent-delivery P sheet s x a m d (sym q ∙ e))
 
@@ -110,9 +110,11 @@ module _ (rows : List ℤ) (sheet : Sheet) (s : State) where
   stores x a m (by-option-reading g c b h q k) = (_, alt-read g c b h q k, refl)
   stores x a m (by-option-communication g c b k h q w y) = (_, alt-communication g c b k h q w y, refl)
 
-  delivery-of-absent : (x : Label) (a : ℕ) → ReadsAbsent (program rows) sheet s x a → Delivers (program rows) sheet s x a none
+  delivery-of-absent : (x : Label) (a : ℕ) → TakesAbsent (program rows) sheet s x a → Delivers (program rows) sheet s x a none
   delivery-of-absent x a (input-absent g h) = by-reading g h
+  delivery-of-absent x a (input-passed g k h o) = by-communication g k h o
   delivery-of-absent x a (option-absent g c b h q k) = by-option-reading g c b h q k
+  delivery-of-absent x a (option-passed g c b k h q i o) = by-option-communication g c b k h q i o
 
   stored-at : (x : Label) (a : ℕ) (m : Message) (t : State) → Step (program rows) sheet s x t → Delivers (program rows) sheet s x a m → t .store .cells ≡ set (s .store .cells) a m
   stored-at x a m t h d =
@@ -124,7 +126,7 @@ pub delivered-holds : DeliveredHolds
 delivered-holds rows sheet s x t h a m d l =
     ap (λ (c : List Message). getD c a none) (stored-at rows sheet s x a m t h d) ∙ getD-set-same (s .store .cells) a m none l
 
--- an input of an absent reading takes place and leaves its target unset
+-- an input of an absence takes place and leaves its target unset
 pub absent-unsets : AbsentUnsets
 absent-unsets rows sheet s x a r =
     let d = delivery-of-absent rows sheet s x a r in

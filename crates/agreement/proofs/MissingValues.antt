@@ -14,10 +14,10 @@ use Rattle.meaning.specs.declared.Value.{Value}
 use Rattle.meaning.specs.declared.Value.the-variants.{Number, Missing}
 use Rattle.meaning.specs.declared.Index.{Index}
 use Rattle.meaning.specs.declared.Index.the-variants.{At, Fails}
-use Rattle.meaning.specs.Basics.{ifElse, eqZ}
-use Rattle.meaning.specs.Tree.{Expr, literal, element, monadic, dyadic, noExpr}
-use Rattle.meaning.specs.Values.{Message, fitted, wrapped, isTrue, truth, quotient, remainder, operators, operate, monadicOf, decides, whenNumber, dyadicOf, inArray, cellValue, readCell, value, index}
-use Rattle.agreement.specs.MissingClaims.{NeedsUnset, cell-unset, in-subscript, in-operand, in-first, in-second, UnsetRead, UnsetSubscript}
+use Rattle.meaning.specs.Basics.{ifElse, eqZ, isSome}
+use Rattle.meaning.specs.Tree.{Expr, literal, element, monadic, given, dyadic, noExpr}
+use Rattle.meaning.specs.Values.{Message, fitted, wrapped, isTrue, truth, quotient, remainder, operators, operate, monadicOf, decides, whenNumber, dyadicOf, inArray, cellValue, readCell, givenValue, value, index}
+use Rattle.agreement.specs.MissingClaims.{NeedsUnset, cell-unset, in-subscript, in-given, in-operand, in-first, in-second, UnsetRead, UnsetSubscript}
 
 -- the reason in a value, 0 where there is a number
 reasonIn : Value → ℕ
@@ -122,6 +122,7 @@ module _ (cells : List Message) where
   unfolding value index inArray dyadicOf
   unset-value e (cell-unset p q) = rw (p, q)
   unset-value e (in-subscript {e = d} h) = rw (unset-value d h)
+  unset-value e (in-given {e = d} h) = rw (unset-value d h)
   unset-value e (in-operand {e = d} h) = rw (unset-value d h)
   unset-value e (in-first {e = d} h) = rw (unset-value d h)
   unset-value e (in-second {f} p q h) = rw (p, q, unset-value f h)
@@ -135,6 +136,12 @@ module _ (cells : List Message) where
       go none q e = inl (i, refl, q)
       go (some x) q e = absurd (number-other x e)
   read-unset (Fails k) e = inr (ap Fails (ap reasonIn e))
+
+  -- GIVEN has a number, or its subscript's failure
+  given-unset : (I : Index) → givenValue cells I ≡ Missing 1 → I ≡ Fails 1
+  unfolding reasonIn
+  given-unset (At i) e = absurd (truth-other (isSome (getD cells i none)) e)
+  given-unset (Fails k) e = ap Fails (ap reasonIn e)
 
   -- no value for reason 1: a needed cell is unset
   value-unset : (e : Expr) → value cells e ≡ Missing 1 → NeedsUnset cells e
@@ -151,6 +158,7 @@ module _ (cells : List Message) where
       go : (v : Value) → whenNumber v (monadicOf op) ≡ Missing 1 → v ≡ Missing 1
       go (Number x) h = absurd (monadic-other op x h)
       go (Missing k) h = h
+  value-unset (given v e) h = in-given (value-unset e (subscript-unset (v .first) (v .size) (value cells e) (given-unset (index cells (v .first) (v .size) e) h)))
   value-unset (dyadic op e f) h = go (value cells e) refl h (λ q. value-unset e q) (λ q. value-unset f q)
     where
       second : (v : Value) (x : ℤ) → whenNumber v (operate op x) ≡ Missing 1 → v ≡ Missing 1

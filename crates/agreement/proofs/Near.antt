@@ -6,14 +6,12 @@ use mathlib.Core.List.{List, [], _∷_, _++_, List·Memᴰ, Memᴰ·append-left,
 use Prim.Native.Nat.{ℕ}
 use lib.IntN.{ℤ}
 use lib.ListN.{getD, getElem?}
-use Rattle.meaning.specs.declared.Value.{Value}
-use Rattle.meaning.specs.declared.Value.the-variants.{Number, Missing}
 use Rattle.meaning.specs.declared.Index.{Index}
 use Rattle.meaning.specs.declared.Index.the-variants.{At, Fails}
 use Rattle.meaning.specs.Basics.{ifElse}
 use Rattle.meaning.specs.Declarations.{Channel}
-use Rattle.meaning.specs.Tree.{Expr, ChannelInput, IfChoice, AltOption, Action, stop, skip, sequence, parallel, assign, input, output, conditional, loop, alternation}
-use Rattle.meaning.specs.Values.{Message, value, index}
+use Rattle.meaning.specs.Tree.{Expr, literal, element, monadic, given, dyadic, noExpr, ChannelInput, IfChoice, AltOption, Action, stop, skip, sequence, parallel, assign, input, output, conditional, loop, alternation}
+use Rattle.meaning.specs.Values.{Message, index, Sent, gives, lacking, cellSent, valueSent, passed}
 use Rattle.meaning.specs.State.{Store}
 use Rattle.meaning.specs.Intent.{hostRead, fromElement, hostWrite, outputsTo, inputResultOf, outputting, inputResult, inputResultIf, tests, optionsResult, intent}
 use Rattle.meaning.specs.Usage.{countsFor, standsIn, standsInChoices, standsInGuards, changesBy, usesBy, inputsBy, ofGuard, ofGuards, uses, inputElements, outputElements}
@@ -22,11 +20,28 @@ use Rattle.agreement.proofs.Fit.{HostAt, GuardAt, GuardsAt, HostsAt}
 use Rattle.agreement.proofs.Footprint.{Agree, agree-left, agree-right, index-counts, index-only, value-agree, index-agree}
 
 -- the element of a host channel counts where a subscript means one
-pub host-counts : (element : ℕ → ℕ) (c : Channel) → HostAt element c → c .host ≡ true → (cells : List (Option ℤ)) (e : Expr) (d : ℕ) → index cells (c .first) (c .size) e ≡ At d
-    → List·Memᴰ (element (c .number)) (countsFor (c .first) (c .size) e)
-host-counts element c H h cells e d q =
+pub host-counts : (elementOf : ℕ → ℕ) (c : Channel) → HostAt elementOf c → c .host ≡ true → (cells : List (Option ℤ)) (e : Expr) (d : ℕ) → index cells (c .first) (c .size) e ≡ At d
+    → List·Memᴰ (elementOf (c .number)) (countsFor (c .first) (c .size) e)
+host-counts elementOf c H h cells e d q =
     let (f, one) = H h in
     Memᴰ·cast (sym f ∙ sym (index-only cells (c .first) (c .size) e d q one)) (index-counts cells (c .first) (c .size) e d q)
+
+-- what an expression passes on depends on the cells that stand in it
+sent-agree : (c d : List Message) (I : Index) → ((a : ℕ) → I ≡ At a → getD c a none ≡ getD d a none) → cellSent c I ≡ cellSent d I
+sent-agree c d (At a) g = ap gives (g a refl)
+sent-agree c d (Fails k) g = refl
+
+module _ (c d : List Message) where
+  passed-agree : (f : Expr) → Agree (standsIn f) c d → passed c f ≡ passed d f
+  unfolding passed standsIn
+  passed-agree (literal x) g = ap valueSent (value-agree c d (literal x) g)
+  passed-agree (element v e) g =
+      rw (← index-agree c d (v .first) (v .size) e (agree-right (countsFor (v .first) (v .size) e) (standsIn e) c d g))
+      (sent-agree c d (index c (v .first) (v .size) e) (λ a q. g a (Memᴰ·append-left (standsIn e) (index-counts c (v .first) (v .size) e a q))))
+  passed-agree (monadic op e) g = ap valueSent (value-agree c d (monadic op e) g)
+  passed-agree (given v e) g = ap valueSent (value-agree c d (given v e) g)
+  passed-agree (dyadic op e f) g = ap valueSent (value-agree c d (dyadic op e f) g)
+  passed-agree noExpr g = ap valueSent (value-agree c d noExpr g)
 
 -- ---- what is read of places and lists
 
@@ -41,14 +56,14 @@ receiving-near sheet c (At e) (At a) l m g = go (c .host) refl
     go true h = ap (λ (n : ℕ). hostRead (c .number) n a (getElem? (getD sheet (c .number) []) n)) (g h e refl)
     go false h = refl
 
-sending-near : (r : ℕ) (c : Channel) (I : Index) (v : Value) (l m : List (List Message)) → (c .host ≡ true → (e : ℕ) → I ≡ At e → getD l (c .number) [] ≡ getD m (c .number) [])
+sending-near : (r : ℕ) (c : Channel) (I : Index) (v : Sent) (l m : List (List Message)) → (c .host ≡ true → (e : ℕ) → I ≡ At e → getD l (c .number) [] ≡ getD m (c .number) [])
     → outputting r c l I v ≡ outputting r c m I v
 sending-near r c (Fails k) v l m g = refl
-sending-near r c (At e) (Missing k) l m g = refl
-sending-near r c (At e) (Number v) l m g = go (c .host) refl
+sending-near r c (At e) (lacking k) l m g = refl
+sending-near r c (At e) (gives v) l m g = go (c .host) refl
   where
-    go : (t : Bool) → c .host ≡ t → ifElse t (hostWrite r c (getD l (c .number) []) (some v)) (outputsTo e (some v)) ≡ ifElse t (hostWrite r c (getD m (c .number) []) (some v)) (outputsTo e (some v))
-    go true h = ap (λ (k : List Message). hostWrite r c k (some v)) (g h e refl)
+    go : (t : Bool) → c .host ≡ t → ifElse t (hostWrite r c (getD l (c .number) []) v) (outputsTo e v) ≡ ifElse t (hostWrite r c (getD m (c .number) []) v) (outputsTo e v)
+    go true h = ap (λ (k : List Message). hostWrite r c k v) (g h e refl)
     go false h = refl
 
 module _ (source sink : ℕ → ℕ) where
@@ -122,9 +137,9 @@ module _ (source sink : ℕ → ℕ) where
     near (output c e f) r H g =
         rw (
           index-agree (x .cells) (y .cells) (c .first) (c .size) e (agree-left (standsIn e) (standsIn f) (x .cells) (y .cells) (g .cell)),
-          value-agree (x .cells) (y .cells) f (agree-right (standsIn e) (standsIn f) (x .cells) (y .cells) (g .cell)),
+          passed-agree (x .cells) (y .cells) f (agree-right (standsIn e) (standsIn f) (x .cells) (y .cells) (g .cell)),
         )
-        (sending-near r c (index (y .cells) (c .first) (c .size) e) (value (y .cells) f) (x .outputs) (y .outputs) (λ h d q. g .list (c .number) (host-counts sink c H h (y .cells) e d q)))
+        (sending-near r c (index (y .cells) (c .first) (c .size) e) (passed (y .cells) f) (x .outputs) (y .outputs) (λ h d q. g .list (c .number) (host-counts sink c H h (y .cells) e d q)))
     near (conditional ts) r H g = tests-near r ts (g .cell)
     near (loop e b) r H g = rw (value-agree (x .cells) (y .cells) e (g .cell))
     near (alternation bs) r H g =

@@ -1,7 +1,6 @@
 -- What a host channel has been given only grows, at its end: in every table, by every step and so by every order.
 use mathlib.Core.Path.{_≡_, sym, ap, subst, _∙_}
 use mathlib.Core.List.{List, [], _∷_, _++_, append-nil, append-assoc}
-use mathlib.Core.Option.{some}
 use Prim.Native.Nat.{ℕ, _<_}
 use native.Mathlib.Omega.{arith}
 use native.Mathlib.Decide.{ℕ-discrete, decLt}
@@ -38,7 +37,7 @@ module _ (P : Program) (sheet : Sheet) where
   effect-grows s x e (if-true g h) = same-lists (s .store .outputs)
   effect-grows s x e (communication g k h w) = same-lists (s .store .outputs)
   effect-grows s x e (host-read g h) = same-lists (s .store .outputs)
-  effect-grows s x e (host-write {c} {z} g h p q o m) = rw (← o) (set-grows (s .store .outputs) (c .number) (some z ∷ []))
+  effect-grows s x e (host-write {c} {m = z} g h p q o m) = rw (← o) (set-grows (s .store .outputs) (c .number) (z ∷ []))
   effect-grows s x e (alt-skip g c m h q) = same-lists (s .store .outputs)
   effect-grows s x e (alt-read g c m h q k) = same-lists (s .store .outputs)
   effect-grows s x e (alt-communication g c m k h q w y) = same-lists (s .store .outputs)

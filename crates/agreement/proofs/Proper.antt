@@ -14,7 +14,7 @@ use Rattle.meaning.specs.declared.Index.the-variants.{At, Fails}
 use Rattle.meaning.specs.Basics.{ifElse}
 use Rattle.meaning.specs.Declarations.{Channel}
 use Rattle.meaning.specs.Tree.{ChannelInput, IfChoice, AltOption, Action, stop, skip, sequence, parallel, assign, input, output, conditional, loop, alternation, Processes}
-use Rattle.meaning.specs.Values.{Message, isTrue, value, index}
+use Rattle.meaning.specs.Values.{Message, isTrue, value, index, Sent, gives, lacking, passed}
 use Rattle.meaning.specs.State.{Store, Write, writeCell, writePlace, writeOutput}
 use Rattle.meaning.specs.Intent.{Offer, openOffer, inputOffer, Intent, waits, moves, inputsFrom, outputsTo, selects, assigning, testing, choosing, hostWrite, outputting, InputResult, lacks, notYet, reads, fromElement, hostRead, inputResultOf, inputting, OptionsResult, fails, offers, adding, opening, guarding, selecting, inputResult, inputResultIf, tests, optionsResult, intent}
 use Rattle.meaning.specs.Usage.{changesBy, inputsBy, ofGuard, ofGuards, changes, inputElements, outputElements}
@@ -85,17 +85,17 @@ module _ (source sink : ℕ → ℕ) where
         go true = (child h refl, tt)
         go false = g
 
-    send-proper : (r : ℕ) (c : Channel) (l : List (List Message)) (I : Index) (W : Value) → ((e : ℕ) → I ≡ At e → List·Memᴰ e (outputElements k))
+    send-proper : (r : ℕ) (c : Channel) (l : List (List Message)) (I : Index) (W : Sent) → ((e : ℕ) → I ≡ At e → List·Memᴰ e (outputElements k))
         → (c .host ≡ true → (e : ℕ) → I ≡ At e → List·Memᴰ (sink (c .number)) (outputElements k)) → Proper r (outputting r c l I W)
     send-proper r c l (Fails j) W h g = stops r j
-    send-proper r c l (At e) (Missing j) h g = stops r j
-    send-proper r c l (At e) (Number z) h g = go (c .host) refl
+    send-proper r c l (At e) (lacking j) h g = stops r j
+    send-proper r c l (At e) (gives z) h g = go (c .host) refl
       where
-        room : (t : Bool) → c .host ≡ true → Proper r (ifElse t (moves r 2 (writeOutput (c .number) (getD l (c .number) [] ++ (some z ∷ [])) ∷ [])) waits)
+        room : (t : Bool) → c .host ≡ true → Proper r (ifElse t (moves r 2 (writeOutput (c .number) (getD l (c .number) [] ++ (z ∷ [])) ∷ [])) waits)
         room true q = (ends r, (g q e refl, tt))
         room false q = tt
 
-        go : (t : Bool) → c .host ≡ t → Proper r (ifElse t (hostWrite r c (getD l (c .number) []) (some z)) (outputsTo e (some z)))
+        go : (t : Bool) → c .host ≡ t → Proper r (ifElse t (hostWrite r c (getD l (c .number) []) z) (outputsTo e z))
         go true q = room (ltb (length (getD l (c .number) [])) (c .capacity)) q
         go false q = h e refl
 
@@ -198,7 +198,7 @@ module _ (source sink : ℕ → ℕ) where
   proper sheet x r ms (assign v e f) H S = assign-proper (assign v e f) ms r (index (x .cells) (v .first) (v .size) e) (value (x .cells) f) (index-counts (x .cells) (v .first) (v .size) e)
   proper sheet x r ms (input i) H S = input-proper (input i) ms r (inputResult sheet i x) (reception-proper (input i) ms sheet x i H (λ e m. m) (λ a m. m))
   proper sheet x r ms (output c e f) H S =
-      send-proper (output c e f) ms r c (x .outputs) (index (x .cells) (c .first) (c .size) e) (value (x .cells) f) (index-counts (x .cells) (c .first) (c .size) e)
+      send-proper (output c e f) ms r c (x .outputs) (index (x .cells) (c .first) (c .size) e) (passed (x .cells) f) (index-counts (x .cells) (c .first) (c .size) e)
       (λ h d q. host-counts sink c H h (x .cells) e d q)
   proper sheet x r ms (conditional ts) H S = tests-proper (conditional ts) ms sheet x r ts S
   proper sheet x r ms (loop e b) H S = while-proper (loop e b) ms r b (value (x .cells) e) S

@@ -17,7 +17,7 @@ use Rattle.meaning.specs.Basics.{ifElse}
 use Rattle.meaning.specs.Rows.{rowCount}
 use Rattle.meaning.specs.Declarations.{Channel}
 use Rattle.meaning.specs.Tree.{IfChoice, AltOption, Action, stop, skip, sequence, parallel, assign, input, output, conditional, loop, alternation, actionOf}
-use Rattle.meaning.specs.Values.{Message, isTrue, value, index}
+use Rattle.meaning.specs.Values.{Message, isTrue, value, index, Sent, gives, lacking, passed}
 use Rattle.meaning.specs.State.{Store, State, Program, program, processAt, Effect}
 use Rattle.meaning.specs.Labels.{Label}
 use Rattle.meaning.specs.Readings.{Sheet}
@@ -64,11 +64,11 @@ module _ (n : ℕ) where
   input-ok r (reads ws) = tt
   input-ok r (fromElement e a) = tt
 
-  output-ok : (r : ℕ) (c : Channel) (o : List (List Message)) (I : Index) (w : Value) → WantOk n (outputting r c o I w)
+  output-ok : (r : ℕ) (c : Channel) (o : List (List Message)) (I : Index) (w : Sent) → WantOk n (outputting r c o I w)
   output-ok r c o (Fails k) w = tt
-  output-ok r c o (At d) (Missing k) = tt
-  output-ok r c o (At d) (Number z) =
-      pick-ok n (c .host) (hostWrite r c (getD o (c .number) []) (some z)) (outputsTo d (some z)) (pick-ok n (ltb (length (getD o (c .number) [])) (c .capacity)) _ waits tt tt) tt
+  output-ok r c o (At d) (lacking k) = tt
+  output-ok r c o (At d) (gives z) =
+      pick-ok n (c .host) (hostWrite r c (getD o (c .number) []) z) (outputsTo d z) (pick-ok n (ltb (length (getD o (c .number) [])) (c .capacity)) _ waits tt tt) tt
 
   select-ok : (sheet : Sheet) (x : Store) (r : ℕ) (L : OptionsResult) → LookedOk sheet x n 0 L → WantOk n (selecting r L)
   select-ok sheet x r (fails k) h = tt
@@ -87,7 +87,7 @@ module _ (n : ℕ) where
     want-ok r parallel h = tt
     want-ok r (assign v e f) h = assign-ok r (index (x .cells) (v .first) (v .size) e) (value (x .cells) f)
     want-ok r (input i) h = input-ok r (inputResult sheet i x)
-    want-ok r (output c e f) h = output-ok r c (x .outputs) (index (x .cells) (c .first) (c .size) e) (value (x .cells) f)
+    want-ok r (output c e f) h = output-ok r c (x .outputs) (index (x .cells) (c .first) (c .size) e) (passed (x .cells) f)
     want-ok r (conditional ts) h = tests-ok r ts
     want-ok r (loop e b) h = while-ok r b (value (x .cells) e)
     want-ok r (alternation bs) h = select-ok sheet x r (optionsResult sheet bs x) (looks-ok sheet x n 0 bs h)

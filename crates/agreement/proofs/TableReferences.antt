@@ -17,7 +17,7 @@ use Rattle.meaning.specs.Basics.{ifElse}
 use Rattle.meaning.specs.Refusals.{Refusal}
 use Rattle.meaning.specs.Rows.{rowCount, naturalOf, kindAt}
 use Rattle.meaning.specs.TableBytes.{numbersFault}
-use Rattle.meaning.specs.Kinds.{Field, unused, literalValue, within, elements, capacity, variable, channel, reference, link, Shape, shape, shapeOf, shapes, shapeIn, expression, process}
+use Rattle.meaning.specs.Kinds.{Field, unused, literalValue, within, elements, capacity, operator, variable, channel, reference, link, Shape, shape, shapeOf, shapes, shapeIn, expression, process}
 use Rattle.meaning.specs.Declarations.{declarations}
 use Rattle.meaning.specs.Nodes.{nodeAt}
 use Rattle.meaning.specs.References.{Column, of-a, of-b, of-c, fieldOf, numberOf, IsTarget, RefersBy, Refers}
@@ -49,6 +49,7 @@ Leading literalValue = ⊥
 Leading (within lo hi) = ⊥
 Leading elements = ⊥
 Leading capacity = ⊥
+Leading operator = ⊥
 Leading variable = ⊥
 Leading (channel roles) = ⊥
 Leading (reference kinds) = Unit {0}

@@ -20,7 +20,8 @@ use Rattle.meaning.specs.Labels.{Label, own}
 use Rattle.meaning.specs.Readings.{Sheet}
 use Rattle.meaning.specs.Intent.{Offer, openOffer, inputOffer, Intent, moves, inputsFrom, outputsTo, InputResult, lacks, notYet, reads, fromElement, hostRead, OptionsResult, fails, offers, adding, admitting, guarding, inputResult, inputResultIf, tests, optionsResult, intent}
 use Rattle.meaning.specs.Ready.{allIdle, isLive, intentAt, ownEffect, WaitingInput, communicationEffect, takeOptionEffect, takeWithOutputEffect, optionRow, offerEffectAt, offerEffect, effectOf}
-use Rattle.meaning.specs.Step.{channelElement, targetCell, Holds, holds, refuted, LacksIn, channel-lacks, target-lacks, FirstTrue, LacksTest, boolean-lacks, input-lacks, Complete, closed, open-skip, open-input, LacksOption, AllComplete, complete-none, complete-more, Lacks, assign-subscript, assign-value, input-subscript, output-subscript, output-value, while-test, if-test, alt-guard, InnerInput, inner-input, HostInput, host-input, InnerOutput, inner-output, Live, becomes, effect, Allows, assignment, while-false, while-true, if-true, communication, host-read, host-write, alt-skip, alt-read, alt-communication, stopping}
+use Rattle.meaning.proofs.PassedLaws.{passes-passed, lacks-passed}
+use Rattle.meaning.specs.Step.{channelElement, targetCell, Holds, holds, refuted, LacksIn, channel-lacks, target-lacks, FirstTrue, LacksTest, boolean-lacks, input-lacks, Complete, closed, open-skip, open-input, LacksOption, AllComplete, complete-none, complete-more, Passes, Lacks, assign-subscript, assign-value, input-subscript, output-subscript, output-value, while-test, if-test, alt-guard, InnerInput, inner-input, HostInput, host-input, InnerOutput, inner-output, Live, becomes, effect, Allows, assignment, while-false, while-true, if-true, communication, host-read, host-write, alt-skip, alt-read, alt-communication, stopping}
 
 true-is : (t : Bool) → T t → t ≡ true
 true-is true h = refl
@@ -72,7 +73,7 @@ module _ (P : Program) (sheet : Sheet) (s : State) where
 
   sends-is : (r d : ℕ) (c : Channel) (e f : Expr) (z : Message) → InnerOutput (s .store) c e f d z → intent sheet (output c e f) r (s .store) ≡ outputsTo d z
   unfolding intent
-  sends-is r d c e f z (inner-output h p q) = rw (p, q, h)
+  sends-is r d c e f z (inner-output h p q) = rw (p, passes-passed cells f z q, h)
 
   gets-is : (r d a : ℕ) (i : ChannelInput) → InnerInput (s .store) i d a → intent sheet (input i) r (s .store) ≡ inputsFrom d a
   unfolding intent
@@ -86,10 +87,10 @@ module _ (P : Program) (sheet : Sheet) (s : State) where
   unfolding intent
   can-read r a n i v h = rw (in-host i a n v h)
 
-  can-write : (r d : ℕ) (c : Channel) (e f : Expr) (z : ℤ) (l : List Message) → c .host ≡ true → index cells (c .first) (c .size) e ≡ At d → value cells f ≡ Number z
-      → getD (s .store .outputs) (c .number) [] ≡ l → length l < c .capacity → intent sheet (output c e f) r (s .store) ≡ moves r 2 (writeOutput (c .number) (l ++ (some z ∷ [])) ∷ [])
+  can-write : (r d : ℕ) (c : Channel) (e f : Expr) (z : Message) (l : List Message) → c .host ≡ true → index cells (c .first) (c .size) e ≡ At d → Passes cells f z
+      → getD (s .store .outputs) (c .number) [] ≡ l → length l < c .capacity → intent sheet (output c e f) r (s .store) ≡ moves r 2 (writeOutput (c .number) (l ++ (z ∷ [])) ∷ [])
   unfolding intent
-  can-write r d c e f z l h p q o m = rw (p, q, h, o, true-is (ltb (length l) (c .capacity)) (lt→ltb (length l) (c .capacity) m))
+  can-write r d c e f z l h p q o m = rw (p, passes-passed cells f z q, h, o, true-is (ltb (length l) (c .capacity)) (lt→ltb (length l) (c .capacity) m))
 
   can-while : (r b : ℕ) (e : Expr) (t : Bool) (x : ℤ) → value cells e ≡ Number x → isTrue x ≡ t → intent sheet (loop e b) r (s .store) ≡ ifElse t (moves b 1 []) (moves r 2 [])
   unfolding intent
@@ -160,7 +161,7 @@ module _ (P : Program) (sheet : Sheet) (s : State) where
   lacks-want r k a (assign-value p q) = rw (p, q)
   lacks-want r k a (input-subscript {i} h) = rw (lacks-in i k h)
   lacks-want r k a (output-subscript p) = rw p
-  lacks-want r k a (output-value p q) = rw (p, q)
+  lacks-want r k a (output-value {f} p q never) = rw (p, lacks-passed cells f k q never)
   lacks-want r k a (while-test p) = rw p
   lacks-want r k a (if-test {ts} h) = lacks-test r k ts h
   lacks-want r k a (alt-guard {bs} h) = rw (lacks-option bs k h)
@@ -239,7 +240,7 @@ module _ (P : Program) (sheet : Sheet) (s : State) where
   takeable D x t (communication {r} {o} {d} {a} {i} {c} {e} {f} {m = z} g k h w) =
       rw (live-want r (input i) g, gets-is r d a i h, live-want o (output c e f) k) (meets-is (record { element = d; cell = a; change = becomes r r 2 }) o z _ (sends-is o d c e f z w))
   takeable D x t (host-read {r} {a} {n} {i} {v} g h) = can-own r (input i) g r 2 (writeCell a v ∷ writePlace (i .channel .number) (suc n) ∷ []) (can-read r a n i v h)
-  takeable D x t (host-write {r} {d} {c} {e} {f} {z} {l} g h p q o m) = can-own r (output c e f) g r 2 (writeOutput (c .number) (l ++ (some z ∷ [])) ∷ []) (can-write r d c e f z l h p q o m)
+  takeable D x t (host-write {r} {d} {c} {e} {f} {m = z} {l} g h p q o m) = can-own r (output c e f) g r 2 (writeOutput (c .number) (l ++ (z ∷ [])) ∷ []) (can-write r d c e f z l h p q o m)
   takeable D x t (alt-skip {r} {bs} {b} g c m (holds e h) q) =
       can-pick x r bs b (openOffer (b .row) (b .process) []) (takeOptionEffect r) _ g c (D r bs g) m (λ L. rw (e, h, q)) refl refl
   takeable D x t (alt-read {r} {a} {n} {bs} {b} {i} {v} g c m h q k) =

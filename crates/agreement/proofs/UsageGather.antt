@@ -4,7 +4,7 @@ use mathlib.Core.List.{List, [], _∷_, _++_, List·Memᴰ, List·Memᴰ·not-ni
 use mathlib.Core.Option.{Option, none, some}
 use Prim.Native.Nat.{ℕ}
 use Rattle.meaning.specs.Declarations.{Variable}
-use Rattle.meaning.specs.Tree.{Expr, literal, element, monadic, dyadic, noExpr, ChannelInput, IfChoice, AltOption, Action, stop, skip, sequence, parallel, assign, input, output, conditional, loop, alternation, Process, node, Processes, empty, also}
+use Rattle.meaning.specs.Tree.{Expr, literal, element, monadic, given, dyadic, noExpr, ChannelInput, IfChoice, AltOption, Action, stop, skip, sequence, parallel, assign, input, output, conditional, loop, alternation, Process, node, Processes, empty, also}
 use Rattle.meaning.specs.Usage.{countsFor, standsIn, standsInChoices, changesBy, usesBy, inputsBy, ofGuard, ofGuards, standsInGuards, changes, uses, inputElements, outputElements, gather, gatherAll}
 use Rattle.agreement.proofs.UsageTree.{Mark, InExpr, InReceive, InChoices, InInput, InOptions, InAction, InProcess, InMembers}
 
@@ -108,6 +108,7 @@ module _ (n : ℕ) where
       quiet-expr (literal x) h = h
       quiet-expr (element v e) h = ⊎-elim (quiet v e) (quiet-expr e) h
       quiet-expr (monadic op e) h = quiet-expr e h
+      quiet-expr (given v e) h = ⊎-elim (quiet v e) (quiet-expr e) h
       quiet-expr (dyadic op e f) h = ⊎-elim (quiet-expr e) (quiet-expr f) h
       quiet-expr noExpr h = h
 
@@ -210,6 +211,7 @@ module _ (n : ℕ) where
   stands-is (literal x) = none-in (λ h. h)
   stands-is (element v e) = both (countsFor (v .first) (v .size) e) (standsIn e) (λ h. h, λ h. h) (stands-is e)
   stands-is (monadic op e) = stands-is e
+  stands-is (given v e) = both (countsFor (v .first) (v .size) e) (standsIn e) (λ h. h, λ h. h) (stands-is e)
   stands-is (dyadic op e f) = both (standsIn e) (standsIn f) (stands-is e) (stands-is f)
   stands-is noExpr = none-in (λ h. h)
 

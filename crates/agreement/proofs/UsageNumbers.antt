@@ -1,7 +1,7 @@
 -- Cells and channel elements are numbered through the table: a number that counts for a name and a subscript is of one name and one place in it.
 use mathlib.Core.Path.{_≡_, refl, sym, ap, _∙_, subst}
 use mathlib.Core.Logic.{⊎-elim, _↔_, _≢_}
-use mathlib.Core.Bool.{Bool}
+use mathlib.Core.Bool.{Bool, true, false}
 use mathlib.Core.List.{List, List·Memᴰ, List·Memᴰ·head, List·Memᴰ·tail, List·Memᴰ·not-nil, List·Memᴰ·cases-cons, List·Memᴰ·eq-of-singleton}
 use mathlib.Core.Option.{Option, none, some, Option·none-ne-some, Option·some-injective}
 use Prim.Native.Nat.{ℕ, zero, suc, _+_, _≤_, _<_}
@@ -9,14 +9,15 @@ use native.Mathlib.Nat.{eq-or-lt-of-le, le-of-suc-le-suc}
 use native.Mathlib.Decide.{decLt}
 use native.Mathlib.Omega.{arith}
 use lib.IntN.{ℤ, pos, negsuc, pos-ne-negsuc}
-use lib.Dec.{ltb}
+use lib.Dec.{ltb, eqb}
 use Rattle.meaning.specs.declared.Node.{Node}
 use Rattle.meaning.specs.declared.Node.the-variants.{Literal, Element, Monadic, Dyadic, Stop, Skip, Assignment, Input, Output, Seq, Par, If, While, Alt, Member, Choice, OptionRow, Guard, Other}
+use Rattle.meaning.specs.Basics.{ifElse}
 use Rattle.meaning.specs.Rows.{rowCount, fieldAt, naturalAt, kindAt}
 use Rattle.meaning.specs.Kinds.{expressions}
 use Rattle.meaning.specs.Declarations.{sumBelow}
 use Rattle.meaning.specs.Nodes.{nodeAt}
-use Rattle.meaning.specs.Tree.{literal, Content, contentOf, contentAt}
+use Rattle.meaning.specs.Tree.{literal, monadic, given, Content, operation, contentOf, contentAt}
 use Rattle.meaning.specs.Usage.{numbersFrom, onlyIf, countsFor}
 use Rattle.meaning.specs.Clash.{Counts, literal-only, every-number}
 use Rattle.meaning.proofs.Decides.{Decides, holding, failing, decides-lt, pos-injective}
@@ -124,12 +125,20 @@ module _ (rows : List ℤ) where
         from h (literal-only f l) = absurd (other (pos (h .0)) f)
         from h (every-number f l) = subst (λ (x : ℕ). List·Memᴰ x (numbersFrom first size)) (sym (h .1)) (range-from first size (h .0) l)
 
+    counts-operation : (op : ℕ) (p : Content) → literalOf (nodeAt rows b) ≡ none → List·Memᴰ n (countsFor first size (operation op p)) ↔ Counted
+    unfolding countsFor
+    counts-operation op p e = go (eqb op 2)
+      where
+        go : (t : Bool) → List·Memᴰ n (countsFor first size (ifElse t (given (p .target .name) (p .target .subscript)) (monadic op (p .expr)))) ↔ Counted
+        go true = counts-other e
+        go false = counts-other e
+
     -- of an expression's row
     pub counts-is : b < rowCount rows → Fits rows b (nodeAt rows b) → List·Memᴰ (kindAt rows b) expressions → List·Memᴰ n (countsFor first size (contentAt rows b .expr)) ↔ Counted
     unfolding countsFor literalOf
     counts-is l f m =
         subst (λ (x : Content). List·Memᴰ n (countsFor first size (x .expr)) ↔ Counted) (sym (part-is rows b l f ∙ ap (contentOf rows b (contentAt rows)) (node-of-kind rows b (kindAt rows b) refl)))
-        (of-each Of (kindAt rows b) expressions m (λ e. counts-literal (fieldAt rows b 1) e, (λ e. counts-other (ap literalOf e), (λ e. counts-other (ap literalOf e), (λ e. counts-other (ap literalOf e), tt)))) (node-of-kind rows b (kindAt rows b) refl))
+        (of-each Of (kindAt rows b) expressions m (λ e. counts-literal (fieldAt rows b 1) e, (λ e. counts-other (ap literalOf e), (λ e. counts-operation (naturalAt rows b 1) (contentAt rows (naturalAt rows b 2)) (ap literalOf e), (λ e. counts-other (ap literalOf e), tt)))) (node-of-kind rows b (kindAt rows b) refl))
       where
         Of : ℕ → Type 0
         Of k = nodeAt rows b ≡ nodeOf k (fieldAt rows b 1) (naturalAt rows b 1) (naturalAt rows b 2) (naturalAt rows b 3) → List·Memᴰ n (countsFor first size (partBy rows b k .expr)) ↔ Counted

@@ -13,7 +13,7 @@ use Rattle.meaning.specs.Basics.{ifElse}
 use Rattle.meaning.specs.Rows.{rowCount, fieldAt, naturalAt, kindAt}
 use Rattle.meaning.specs.Declarations.{variableAt, sourceAt, sinkAt}
 use Rattle.meaning.specs.Nodes.{nodeAt}
-use Rattle.meaning.specs.Tree.{monadic, dyadic, sequence, parallel, assign, input, output, conditional, loop, alternation, node, empty, ChannelInput, Content, noContent, andProcess, ofExpr, ofElement, ofProcess, ofGuarded, ofGuardRow, ofLink, contentOf, contentAt}
+use Rattle.meaning.specs.Tree.{dyadic, sequence, parallel, assign, input, output, conditional, loop, alternation, node, empty, ChannelInput, Content, noContent, andProcess, ofExpr, ofElement, ofProcess, ofGuarded, ofGuardRow, ofLink, operation, contentOf, contentAt}
 use Rattle.meaning.specs.ContentClaims.{higherContent}
 use Rattle.meaning.proofs.PartLaws.{part-unfolds}
 use Rattle.agreement.proofs.UsageRows.{nodeOf, node-of-kind, Fits}
@@ -33,7 +33,7 @@ module _ (rows : List ℤ) where
   part-agree : (r : ℕ) (f g : ℕ → Content) (x : Node) → ((c : ℕ) → List·Memᴰ c (references x) → f c ≡ g c) → contentOf rows r f x ≡ contentOf rows r g x
   part-agree r f g (Literal x) h = refl
   part-agree r f g (Element a b) h = λ i. ofElement (variableAt rows a) (h b m0 i .expr)
-  part-agree r f g (Monadic a b) h = λ i. ofExpr (monadic a (h b m0 i .expr))
+  part-agree r f g (Monadic a b) h = λ i. ofExpr (operation a (h b m0 i))
   part-agree r f g (Dyadic a b c) h = λ i. ofExpr (dyadic a (h b m0 i .expr) (h c m1 i .expr))
   part-agree r f g Stop h = refl
   part-agree r f g Skip h = refl
@@ -58,7 +58,7 @@ module _ (rows : List ℤ) where
   pub fits-higher : (r : ℕ) (x : Node) → Fits rows r x → (c : ℕ) → List·Memᴰ c (references x) → r < c
   fits-higher r (Literal x) f = λ c m. absurd (List·Memᴰ·not-nil m)
   fits-higher r (Element a b) f = one (_<_ r) b (f .0)
-  fits-higher r (Monadic a b) f = one (_<_ r) b (f .0)
+  fits-higher r (Monadic a b) f = one (_<_ r) b (f .0 .0)
   fits-higher r (Dyadic a b c) f = two (_<_ r) b c (f .0 .0) (f .1 .0)
   fits-higher r Stop f = λ c m. absurd (List·Memᴰ·not-nil m)
   fits-higher r Skip f = λ c m. absurd (List·Memᴰ·not-nil m)

@@ -2,10 +2,10 @@
 use mathlib.Core.Path.{_≡_, refl, sym, ap, _∙_, subst}
 use mathlib.Core.Logic.{_⊎_, inl, inr, ⊎-elim}
 use mathlib.Core.Bool.{true}
-use mathlib.Core.List.{List, [], _∷_, List·Memᴰ}
+use mathlib.Core.List.{List, [], _∷_, List·Memᴰ, List·Memᴰ·head}
 use mathlib.Core.Option.{some, Option·some-injective}
 use Prim.Native.Nat.{ℕ, suc, _≤_, _<_}
-use native.Mathlib.Decide.{decLt}
+use native.Mathlib.Decide.{ℕ-discrete, decLt}
 use native.Mathlib.Omega.{arith}
 use lib.IntN.{ℤ, pos, negsuc}
 use lib.Dec.{eqb}
@@ -14,7 +14,7 @@ use Rattle.meaning.specs.declared.Node.{Node}
 use Rattle.meaning.specs.declared.Node.the-variants.{Literal, Element, Monadic, Dyadic, Stop, Skip, Assignment, Input, Output, Seq, Par, If, While, Alt, Member, Choice, OptionRow, Guard, Other}
 use Rattle.meaning.specs.Basics.{ifElse}
 use Rattle.meaning.specs.Rows.{naturalOf, rowCount, fieldAt, naturalAt, kindAt}
-use Rattle.meaning.specs.Kinds.{Shape, shapes, shapeIn, shapeOf, expressions, processes}
+use Rattle.meaning.specs.Kinds.{operator, Shape, shapes, shapeIn, shapeOf, expressions, processes}
 use Rattle.meaning.specs.Declarations.{declarations}
 use Rattle.meaning.specs.Nodes.{nodeAt}
 use Rattle.meaning.specs.References.{IsOf, IsTarget, Column, of-a, of-b, of-c, fieldOf, numberOf}
@@ -65,11 +65,15 @@ module _ (rows : List ℤ) where
   abbrev pub ToProcess : ℕ → ℕ → Type 0
   ToProcess r c = IsTarget rows r processes c
 
+  -- operator 2, GIVEN, has an element as its operand
+  abbrev pub ToOperand : ℕ → ℕ → ℕ → Type 0
+  ToOperand r op c = ToExpr r c × (op ≡ 2 → IsTarget rows r (11 ∷ []) c)
+
   -- what the fields of row r lead to
   abbrev pub Fits : ℕ → Node → Type 0
   Fits r (Literal x) = Unit {0}
   Fits r (Element a b) = ToExpr r b
-  Fits r (Monadic a b) = ToExpr r b
+  Fits r (Monadic a b) = ToOperand r a b
   Fits r (Dyadic a b c) = ToExpr r b × ToExpr r c
   Fits r Stop = Unit {0}
   Fits r Skip = Unit {0}
@@ -90,6 +94,19 @@ module _ (rows : List ℤ) where
   -- a field that leads to a row
   to-target : (r : ℕ) (kinds : List ℕ) (z : ℤ) → ((t : ℕ) × (z ≡ pos t) × IsTarget rows r kinds t) → IsTarget rows r kinds (naturalOf z)
   to-target r kinds z h = subst (λ (y : ℤ). IsTarget rows r kinds (naturalOf y)) (sym (h .1)) (h .2)
+
+  -- the operand of an operator
+  two-is : (z : ℤ) → naturalOf z ≡ 2 → z ≡ pos 2
+  two-is (pos n) e = ap pos e
+  two-is (negsuc n) e = absurd (omega arith)
+
+  to-operand : (r : ℕ) (y z : ℤ) → MayHold rows r operator y → fieldAt rows r 2 ≡ z → ((t : ℕ) × (z ≡ pos t) × ToExpr r t) → ToOperand r (naturalOf y) (naturalOf z)
+  unfolding MayHold
+  to-operand r y z m f h = (to-target r expressions z h, λ e. let t = to-target r expressions z h in (t .0, t .1, go e t (ℕ-discrete (kindAt rows (naturalOf z)) 11)))
+    where
+      go : naturalOf y ≡ 2 → ToExpr r (naturalOf z) → Dec (kindAt rows (naturalOf z) ≡ 11) → List·Memᴰ (kindAt rows (naturalOf z)) (11 ∷ [])
+      go e t (yes k) = List·Memᴰ·head k
+      go e t (no k) = absurd (m .1 (two-is y e, (naturalOf z, (f ∙ (h .1 ∙ ap pos (sym (ap naturalOf (h .1)))), t .1, k))))
 
   to-channel : (roles : List ℕ) (z : ℤ) → ((q : ℕ) × ((z ≡ pos q) × (q < declarations rows) × (kindAt rows q ≡ 2)) × ((role : ℕ) × List·Memᴰ role roles × (naturalAt rows q 2 ≡ role))) → ToChannel roles (naturalOf z)
   to-channel roles z h = subst (λ (y : ℤ). ToChannel roles (naturalOf y)) (sym (h .1 .0)) (h .1 .1, h .1 .2, h .2)
@@ -120,7 +137,7 @@ module _ (rows : List ℤ) where
           let i = is-of in
           if-else (Fits r) (eqb k 10) (λ e. tt)
           (if-else (Fits r) (eqb k 11) (λ e. to-target r expressions (fieldAt rows r 2) (leads-to _ (i 11 _ refl e) of-b))
-          (if-else (Fits r) (eqb k 12) (λ e. to-target r expressions (fieldAt rows r 2) (leads-to _ (i 12 _ refl e) of-b))
+          (if-else (Fits r) (eqb k 12) (λ e. to-operand r (fieldAt rows r 1) (fieldAt rows r 2) (holds-a _ (i 12 _ refl e)) refl (leads-to _ (i 12 _ refl e) of-b))
           (if-else (Fits r) (eqb k 13) (λ e. (to-target r expressions (fieldAt rows r 2) (leads-to _ (i 13 _ refl e) of-b), to-target r expressions (fieldAt rows r 3) (leads-to _ (i 13 _ refl e) of-c)))
           (if-else (Fits r) (eqb k 20) (λ e. tt)
           (if-else (Fits r) (eqb k 21) (λ e. tt)

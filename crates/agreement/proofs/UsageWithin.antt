@@ -1,24 +1,28 @@
 -- Of rows whose references lead to where they may: something at a row bears a mark exactly if a row within it does.
-use mathlib.Core.Path.{refl, sym, subst}
+use mathlib.Core.Path.{_≡_, refl, sym, subst}
 use mathlib.Core.Logic.{_⊎_, inl, inr, ⊎-elim, _↔_}
 use mathlib.Core.List.{List, [], _∷_, List·Memᴰ, List·Memᴰ·not-nil}
+use mathlib.Core.Bool.{Bool, true, false}
 use Prim.Native.Nat.{ℕ, zero, suc, _+_, _≤_, _<_}
 use native.Mathlib.Decide.{decLt}
 use native.Mathlib.Omega.{arith}
 use lib.IntN.{ℤ}
+use lib.Dec.{eqb}
+use borrow.Author.Tests.{eqb-true}
 use Rattle.meaning.specs.declared.Node.{Node}
 use Rattle.meaning.specs.declared.Node.the-variants.{Literal, Element, Monadic, Dyadic, Stop, Skip, Assignment, Input, Output, Seq, Par, If, While, Alt, Member, Choice, OptionRow, Guard, Other}
+use Rattle.meaning.specs.Basics.{ifElse}
 use Rattle.meaning.specs.Rows.{rowCount, kindAt}
 use Rattle.meaning.specs.Kinds.{expressions, processes}
 use Rattle.meaning.specs.Declarations.{variableAt, sourceAt, sinkAt}
 use Rattle.meaning.specs.Nodes.{nodeAt}
-use Rattle.meaning.specs.Tree.{element, Process, empty, Content, ofProcess, andProcess, contentOf, contentAt}
+use Rattle.meaning.specs.Tree.{element, monadic, given, Process, empty, Content, ofProcess, andProcess, operation, contentOf, contentAt}
 use Rattle.meaning.specs.References.{Column, fieldOf, numberOf, IsTarget, Refers, Beneath, direct, further}
 use Rattle.meaning.specs.Clash.{Within}
 use Rattle.meaning.proofs.PartLaws.{part-unfolds}
 use Rattle.meaning.proofs.ReferenceCounts.{bounds}
 use Rattle.agreement.specs.VerdictClaims.{Passed}
-use Rattle.agreement.proofs.UsageRows.{ToLink, Fits}
+use Rattle.agreement.proofs.UsageRows.{ToLink, ToOperand, Fits}
 use Rattle.agreement.proofs.UsageLists.{references, one, two, three, m0, m1, m2}
 use Rattle.agreement.proofs.UsageReferences.{refers-listed, passed-fits, listed-refers}
 use Rattle.agreement.proofs.UsageParts.{fits-higher, part-is, OfEach, partBy, part-by-kind}
@@ -157,10 +161,25 @@ module _ (rows : List ℤ) (M : Mark) where
     abbrev Up : ℕ → Node → ℕ → Type 0
     Up r x c = At c → InPart M (contentOf rows r (contentAt rows) x)
 
+    -- an operation bears the mark exactly if its operand does
+    operation-up : (r a b : ℕ) → ToOperand rows r a b → At b → InExpr M (operation a (contentAt rows b))
+    operation-up r a b f h = go (eqb a 2) refl
+      where
+        go : (t : Bool) → eqb a 2 ≡ t → InExpr M (ifElse t (given (contentAt rows b .target .name) (contentAt rows b .target .subscript)) (monadic a (contentAt rows b .expr)))
+        go true e = at-target r b (f .1 (eqb-true a 2 e)) h
+        go false e = at-expr r b (f .0) h
+
+    operation-down : (r a b : ℕ) → ToOperand rows r a b → InExpr M (operation a (contentAt rows b)) → At b
+    operation-down r a b f h = go (eqb a 2) refl h
+      where
+        go : (t : Bool) → eqb a 2 ≡ t → InExpr M (ifElse t (given (contentAt rows b .target .name) (contentAt rows b .target .subscript)) (monadic a (contentAt rows b .expr))) → At b
+        go true e i = target-at r b (f .1 (eqb-true a 2 e)) i
+        go false e i = in-expr i
+
     up : (r : ℕ) (x : Node) → Fits rows r x → (c : ℕ) → List·Memᴰ c (references x) → Up r x c
     up r (Literal x) f = λ c m. absurd (List·Memᴰ·not-nil m)
     up r (Element a b) f = one (Up r (Element a b)) b (λ h. in-expr (inr (at-expr r b f h)))
-    up r (Monadic a b) f = one (Up r (Monadic a b)) b (λ h. in-expr (at-expr r b f h))
+    up r (Monadic a b) f = one (Up r (Monadic a b)) b (λ h. in-expr (operation-up r a b f h))
     up r (Dyadic a b c) f = two (Up r (Dyadic a b c)) b c (λ h. in-expr (inl (at-expr r b (f .0) h))) (λ h. in-expr (inr (at-expr r c (f .1) h)))
     up r Stop f = λ c m. absurd (List·Memᴰ·not-nil m)
     up r Skip f = λ c m. absurd (List·Memᴰ·not-nil m)
@@ -200,7 +219,7 @@ module _ (rows : List ℤ) (M : Mark) where
     down : (r : ℕ) (x : Node) → Fits rows r x → InPart M (contentOf rows r (contentAt rows) x) → Down x
     down r (Literal x) f h = absurd (in-expr-part M _ h)
     down r (Element a b) f h = ⊎-elim (λ i. inl i) (λ i. inr (b, m0, in-expr i)) (in-element-part M _ _ h)
-    down r (Monadic a b) f h = inr (b, m0, in-expr (in-expr-part M _ h))
+    down r (Monadic a b) f h = inr (b, m0, operation-down r a b f (in-expr-part M _ h))
     down r (Dyadic a b c) f h = ⊎-elim (λ i. inr (b, m0, in-expr i)) (λ i. inr (c, m1, in-expr i)) (in-expr-part M _ h)
     down r Stop f h = absurd (⊎-elim (λ i. i) (λ i. i) (in-process-part M _ h))
     down r Skip f h = absurd (⊎-elim (λ i. ⊎-elim (λ j. j) (λ j. j) i) (λ i. i) (in-guarded-part M _ _ h))

@@ -1,4 +1,4 @@
--- What a run leaves in the six lent buffers, position by position, and that results can be read back. The types name nothing of how `encode` is made.
+-- What a run leaves in the seven lent buffers, position by position, and that results can be read back. The types name nothing of how `encode` is made.
 use mathlib.Core.Path.{_≡_}
 use mathlib.Core.Logic.{_↔_}
 use mathlib.Core.Bool.{true, false}
@@ -17,7 +17,6 @@ use Rattle.meaning.specs.State.{State}
 use Rattle.meaning.specs.Readings.{Sheet}
 use Rattle.meaning.specs.Buffers.{Buffers, tooShort, encode}
 use Rattle.meaning.specs.Decode.{decode}
-use Rattle.meaning.specs.PrintedForms.{Each}
 use Rattle.meaning.specs.Answers.{Task, check, Reply, reply, replyToBytes}
 use Rattle.agreement.specs.Statements.{Reached}
 use Rattle.agreement.specs.CallClaims.{taskOfBytes, RanAs}
@@ -30,23 +29,19 @@ pub record LongEnough (b : Buffers) : Type 0 where
   pub places : maxHostChannels ≤ length (b .places)
   pub numbers : maxCapacity ≤ length (b .numbers)
   pub counts : maxHostChannels ≤ length (b .counts)
+  pub output-marks : maxCapacity ≤ length (b .outputMarks)
 
 abbrev pub TooShortExactly : Type 0
 TooShortExactly = (b : Buffers) → (tooShort b ≡ false) ↔ LongEnough b
 
 -- Reached states ----------------------------------------------------------------------------------------------------------------
 
--- a message that is a number
-abbrev pub IsNumber : Message → Type 0
-IsNumber m = (z : ℤ) × (m ≡ some z)
-
--- a state for each row, a message for each cell, a place for each role 1 channel, and for each role 2 channel a list, of numbers
+-- a state for each row, a message for each cell, a place for each role 1 channel, and for each role 2 channel a list of messages
 pub record AsDeclared (rows : List ℤ) (s : State) : Type 0 where
   pub states : length (s .states) ≡ rowCount rows
   pub cells : length (s .store .cells) ≡ totalCells rows
   pub places : length (s .store .places) ≡ hostChannels 1 rows
   pub outputs : length (s .store .outputs) ≡ hostChannels 2 rows
-  pub numbers : (channel : ℕ) → Each IsNumber (getD (s .store .outputs) channel [])
 
 abbrev pub ReachedAsDeclared : Type 0
 ReachedAsDeclared = (rows : List ℤ) (sheet : Sheet) (s : State) → check rows ≡ none → Reached rows sheet s → AsDeclared rows s
@@ -89,11 +84,14 @@ pub record BuffersHold (rows : List ℤ) (s : State) (before after : Buffers) : 
   pub unused-state : (r : ℕ) → rowCount rows ≤ r → r < maxRows → HoldsAt (after .states) r 0
   pub place : (c n : ℕ) → HoldsAt (s .store .places) c n → HoldsAt (after .places) c n
   pub unused-place : (c : ℕ) → hostChannels 1 rows ≤ c → c < maxHostChannels → HoldsAt (after .places) c 0
-  -- "the strip holds that list, and the count is its length"
-  pub strip : (r : ℕ) → ToHost rows r → (i : ℕ) (z : ℤ) → HoldsAt (listIn rows r s) i (some z) → HoldsAt (after .numbers) (stripBegins rows r + i) z
+  -- "the strip holds that list, and the count is its length"; "a set mark beside each value", and "an absence has mark 0 and value 0"
+  pub strip : (r : ℕ) → ToHost rows r → (i : ℕ) (z : ℤ) → HoldsAt (listIn rows r s) i (some z)
+      → HoldsAt (after .numbers) (stripBegins rows r + i) z × HoldsAt (after .outputMarks) (stripBegins rows r + i) 1
+  pub absence-in-strip : (r : ℕ) → ToHost rows r → (i : ℕ) → HoldsAt (listIn rows r s) i none
+      → HoldsAt (after .numbers) (stripBegins rows r + i) (pos 0) × HoldsAt (after .outputMarks) (stripBegins rows r + i) 0
   pub unused-in-strip : (r : ℕ) → ToHost rows r → (i : ℕ) → length (listIn rows r s) ≤ i → i < capacityAt rows r
-      → HoldsAt (after .numbers) (stripBegins rows r + i) (pos 0)
-  pub unused-number : (i : ℕ) → stripBegins rows (declarations rows) ≤ i → i < maxCapacity → HoldsAt (after .numbers) i (pos 0)
+      → HoldsAt (after .numbers) (stripBegins rows r + i) (pos 0) × HoldsAt (after .outputMarks) (stripBegins rows r + i) 0
+  pub unused-number : (i : ℕ) → stripBegins rows (declarations rows) ≤ i → i < maxCapacity → HoldsAt (after .numbers) i (pos 0) × HoldsAt (after .outputMarks) i 0
   pub count : (r : ℕ) → ToHost rows r → HoldsAt (after .counts) (outputNumber rows r) (length (listIn rows r s))
   pub unused-count : (c : ℕ) → hostChannels 2 rows ≤ c → c < maxHostChannels → HoldsAt (after .counts) c 0
   pub cells-past : UntouchedPast maxCells (before .cells) (after .cells)
@@ -102,6 +100,7 @@ pub record BuffersHold (rows : List ℤ) (s : State) (before after : Buffers) : 
   pub places-past : UntouchedPast maxHostChannels (before .places) (after .places)
   pub numbers-past : UntouchedPast maxCapacity (before .numbers) (after .numbers)
   pub counts-past : UntouchedPast maxHostChannels (before .counts) (after .counts)
+  pub output-marks-past : UntouchedPast maxCapacity (before .outputMarks) (after .outputMarks)
 
 -- what `encode` leaves of a reached state holds it so, and nothing else does
 abbrev pub EncodeHolds : Type 0

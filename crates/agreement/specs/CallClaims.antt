@@ -4,7 +4,7 @@ use mathlib.Core.Logic.{_≢_, _↔_}
 use mathlib.Core.Bool.{true, false}
 use mathlib.Core.Option.{none, some}
 use mathlib.Core.List.{List, _∷_, _++_, List·Memᴰ}
-use Prim.Native.Nat.{ℕ, _<_, _≤_}
+use Prim.Native.Nat.{ℕ, _+_, _<_, _≤_}
 use lib.IntN.{ℤ, pos}
 use lib.ListN.{length, getD}
 use Rattle.meaning.specs.declared.Outcome.{Outcome}
@@ -13,6 +13,8 @@ use Rattle.meaning.specs.declared.Answer.the-variants.{Refused, Ran}
 use Rattle.meaning.specs.Limits.{maxBudget, maxCells}
 use Rattle.meaning.specs.Refusals.{Refusal}
 use Rattle.meaning.specs.Rows.{rowCount}
+use Rattle.meaning.specs.Declarations.{hasRole, sumBelow, hostChannelsAt, capacityAt}
+use Rattle.meaning.specs.Values.{Message}
 use Rattle.meaning.specs.TableBytes.{bytesFault, rowsOf}
 use Rattle.meaning.specs.State.{State, program}
 use Rattle.meaning.specs.Labels.{Label}
@@ -21,7 +23,7 @@ use Rattle.meaning.specs.Buffers.{Buffers, tooShort, encode}
 use Rattle.meaning.specs.Answers.{Task, check, reply, replyToBytes, Reply}
 use Rattle.meaning.specs.Order.{OrderOf, RestOf, outcomeOf, ChosenOf}
 use Rattle.agreement.specs.Statements.{StepOf, ReadyTotal}
-use Rattle.agreement.specs.MissingClaims.{Delivers}
+use Rattle.agreement.specs.MissingClaims.{listAt, Delivers, GivesHost}
 
 -- Each statement is made once of a call, as what it answers and leaves by the buffers lent to it, and then for the two entries: for a task
 -- on rows, and for a table's bytes.
@@ -132,3 +134,32 @@ MissingAnswered = (t : Task) → KeepsMissing (reply t) t
 
 abbrev pub MissingAnsweredBytes : Type 0
 MissingAnsweredBytes = (table sheet choices : List ℕ) (budget : ℕ) → KeepsMissing (replyToBytes table sheet choices budget) (taskOfBytes table sheet choices budget)
+
+-- a message stands in a host output list after an order of steps: one of its steps gave it, when the list held the messages before it
+pub record GivenTo (rows : List ℤ) (sheet : List ℕ) (l : List Label) (p i : ℕ) (m : Message) : Type 0 where
+  pub before : List Label
+  pub label : Label
+  pub later : List Label
+  pub at : State
+  pub parts : l ≡ before ++ (label ∷ later)
+  pub order : OrderOf rows (readings rows sheet) before at
+  pub given : GivesHost (program rows) (readings rows sheet) at label p m
+  pub held : length (listAt at p) ≡ i
+
+-- the same of host outputs: after a run, of a role 2 channel declared at row c, each position of its strip below its count has mark 1 and a number
+-- that a step of the order gave to the channel at that place of its list, or mark 0 and number 0, and a step gave the absence there
+abbrev pub HandedLists : Task → Buffers → Reply → Outcome → ℕ → ℕ → Type 0
+HandedLists t b r outcome steps total = (run : RanAs t b r outcome steps total) × ((c : ℕ) → hasRole 2 (t .rows) c ≡ true
+    → let p = sumBelow (hostChannelsAt 2 (t .rows)) c in (i : ℕ) → i < getD (r .buffers .counts) p 0
+    → let m = getD (r .buffers .outputMarks) (sumBelow (capacityAt (t .rows)) c + i) 0 in
+    let z = getD (r .buffers .numbers) (sumBelow (capacityAt (t .rows)) c + i) (pos 0) in
+    (m ≢ 0 → (m ≡ 1) × GivenTo (t .rows) (t .sheet) (run .labels) p i (some z)) × (m ≡ 0 → (z ≡ pos 0) × GivenTo (t .rows) (t .sheet) (run .labels) p i none))
+
+abbrev pub KeepsAbsences : (Buffers → Reply) → Task → Type 0
+KeepsAbsences call t = (b : Buffers) (outcome : Outcome) (steps total : ℕ) → call b .answer ≡ Ran outcome steps total → HandedLists t b (call b) outcome steps total
+
+abbrev pub ListsAnswered : Type 0
+ListsAnswered = (t : Task) → KeepsAbsences (reply t) t
+
+abbrev pub ListsAnsweredBytes : Type 0
+ListsAnsweredBytes = (table sheet choices : List ℕ) (budget : ℕ) → KeepsAbsences (replyToBytes table sheet choices budget) (taskOfBytes table sheet choices budget)

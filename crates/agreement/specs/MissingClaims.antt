@@ -2,17 +2,17 @@
 -- that the number stored for an unset cell is never looked at, and that its printed field is empty.
 use mathlib.Core.Path.{_≡_}
 use mathlib.Core.Logic.{_⊎_, _↔_, _≢_}
-use mathlib.Core.Bool.{false}
+use mathlib.Core.Bool.{true, false}
 use mathlib.Core.Option.{none, some}
 use mathlib.Core.List.{List, [], _∷_, _++_, List·Memᴰ}
 use Prim.Native.Nat.{ℕ, _+_, _<_, _≤_}
 use lib.IntN.{ℤ, pos}
-use lib.ListN.{length, getD, take as front}
+use lib.ListN.{length, getD, getElem?, take as front}
 use Rattle.meaning.specs.declared.Value.the-variants.{Number, Missing}
 use Rattle.meaning.specs.declared.Index.the-variants.{At, Fails}
 use Rattle.meaning.specs.Limits.{maxCells}
-use Rattle.meaning.specs.Declarations.{Variable, Channel, sumBelow, cellsAt, variables}
-use Rattle.meaning.specs.Tree.{Expr, element, monadic, dyadic, ChannelInput, IfChoice, AltOption, Action, assign, input, output, conditional, loop, alternation}
+use Rattle.meaning.specs.Declarations.{Variable, Channel, sumBelow, cellsAt, hostChannelsAt, capacityAt, variables, channels}
+use Rattle.meaning.specs.Tree.{Expr, element, monadic, given, dyadic, ChannelInput, IfChoice, AltOption, Action, assign, input, output, conditional, loop, alternation}
 use Rattle.meaning.specs.Values.{Message, decides, value, index}
 use Rattle.meaning.specs.State.{State, Program, program, Effect}
 use Rattle.meaning.specs.Labels.{Label, own, pass, takeOption, takeWithOutput}
@@ -23,14 +23,18 @@ use Rattle.meaning.specs.Order.{OrderOf}
 use Rattle.meaning.specs.Run.{RunResult, go}
 use Rattle.meaning.specs.Buffers.{Buffers, sized, mark, numberIn, encode, decoded}
 use Rattle.meaning.specs.Answers.{check}
-use Rattle.meaning.specs.Printing.{Line, line, varWord, runLines, valueBytes}
-use Rattle.meaning.specs.Step.{channelElement, Holds, Refuted, Complete, AllComplete, Lacks, InnerInput, HostInput, InnerOutput, Live, becomes, effect, Allows, Leaves, Step}
+use Rattle.meaning.specs.Printing.{Line, line, varWord, outWord, runLines, valueBytes}
+use Rattle.meaning.specs.Step.{channelElement, Holds, Refuted, Complete, AllComplete, Passes, Lacks, InnerInput, HostInput, InnerOutput, Live, becomes, effect, Allows, Leaves, Step}
 use Rattle.agreement.specs.Statements.{Reached}
 use Rattle.agreement.specs.RowsOfSteps.{RowOf}
 
 -- a cell of a state: none where it is unset
 abbrev pub cellAt : State → ℕ → Message
 cellAt s a = getD (s .store .cells) a none
+
+-- the list of a host output channel, by its number
+abbrev pub listAt : State → ℕ → List Message
+listAt s p = getD (s .store .outputs) p []
 
 module _ (P : Program) (sheet : Sheet) (s : State) where
   -- the step of a label hands a message to a cell: a rule for each way
@@ -48,12 +52,28 @@ module _ (P : Program) (sheet : Sheet) (s : State) where
         → Holds (s .store .cells) (b .guard .boolean) → b .guard .input ≡ some i → InnerInput (s .store) i d a → InnerOutput (s .store) c e f d m
         → Delivers (takeWithOutput r (b .row) o) a m
 
-  -- the step of a label takes an absent reading from the host for a cell
-  pub data ReadsAbsent : Label → ℕ → Type 0 where
-    input-absent : {r a n : ℕ} {i : ChannelInput} → Live P s r (input i) → HostInput sheet (s .store) i a none n → ReadsAbsent (own r) a
+  -- the step of a label takes an absence for a cell: an absent reading from the host, or one that an output of an unset element passes
+  pub data TakesAbsent : Label → ℕ → Type 0 where
+    input-absent : {r a n : ℕ} {i : ChannelInput} → Live P s r (input i) → HostInput sheet (s .store) i a none n → TakesAbsent (own r) a
+    input-passed : {r o d a : ℕ} {i : ChannelInput} {c : Channel} {e f : Expr} → Live P s r (input i) → Live P s o (output c e f)
+        → InnerInput (s .store) i d a → InnerOutput (s .store) c e f d none → TakesAbsent (pass r o) a
     option-absent : {r a n : ℕ} {bs : List AltOption} {b : AltOption} {i : ChannelInput} → Live P s r (alternation bs)
         → AllComplete (s .store .cells) bs → List·Memᴰ b bs → Holds (s .store .cells) (b .guard .boolean) → b .guard .input ≡ some i
-        → HostInput sheet (s .store) i a none n → ReadsAbsent (takeOption r (b .row)) a
+        → HostInput sheet (s .store) i a none n → TakesAbsent (takeOption r (b .row)) a
+    option-passed : {r o d a : ℕ} {bs : List AltOption} {b : AltOption} {i : ChannelInput} {c : Channel} {e f : Expr}
+        → Live P s r (alternation bs) → AllComplete (s .store .cells) bs → List·Memᴰ b bs → Live P s o (output c e f)
+        → Holds (s .store .cells) (b .guard .boolean) → b .guard .input ≡ some i → InnerInput (s .store) i d a → InnerOutput (s .store) c e f d none
+        → TakesAbsent (takeWithOutput r (b .row) o) a
+
+  -- the step of a label gives a message to a host output channel, at the end of its list
+  pub data GivesHost : Label → ℕ → Message → Type 0 where
+    by-host-write : {r d : ℕ} {c : Channel} {e f : Expr} {m : Message} → Live P s r (output c e f) → c .host ≡ true
+        → index (s .store .cells) (c .first) (c .size) e ≡ At d → Passes (s .store .cells) f m
+        → length (getD (s .store .outputs) (c .number) []) < c .capacity → GivesHost (own r) (c .number) m
+
+-- the effect of a stop of row r for a reason
+abbrev pub stopEffect : ℕ → ℕ → Effect
+stopEffect r reason = effect (becomes r r (10 + reason) ∷ []) []
 
 -- a step leaves every cell as it was, but for one to which it hands a message: that cell holds the message
 abbrev pub SetOnly : Type 0
@@ -65,22 +85,43 @@ abbrev pub SetByNumber : Type 0
 SetByNumber = (P : Program) (sheet : Sheet) (s : State) (x : Label) (t : State) → Step P sheet s x t → (a : ℕ) (z : ℤ)
     → cellAt t a ≡ some z → (cellAt s a ≡ some z) ⊎ Delivers P sheet s x a (some z)
 
--- a cell that is unset after a step was unset before, or the step took an absent reading for it
+-- a cell that is unset after a step was unset before, or the step took an absent reading or a passed absence for it
 abbrev pub OnlyAbsentUnsets : Type 0
 OnlyAbsentUnsets = (P : Program) (sheet : Sheet) (s : State) (x : Label) (t : State) → Step P sheet s x t → (a : ℕ)
-    → cellAt t a ≡ none → (cellAt s a ≡ none) ⊎ ReadsAbsent P sheet s x a
+    → cellAt t a ≡ none → (cellAt s a ≡ none) ⊎ TakesAbsent P sheet s x a
 
 -- a step that hands a message to a cell leaves that message in it
 abbrev pub DeliveredHolds : Type 0
 DeliveredHolds = (rows : List ℤ) (sheet : Sheet) (s : State) (x : Label) (t : State) → Step (program rows) sheet s x t → (a : ℕ) (m : Message)
     → Delivers (program rows) sheet s x a m → a < length (s .store .cells) → cellAt t a ≡ m
 
--- "An empty field is an absent reading: the input takes place and makes its target unset"
+-- "An empty field is an absent reading: the input takes place and makes its target unset"; of an absence passed on, "The receiver's target becomes unset"
 abbrev pub AbsentUnsets : Type 0
-AbsentUnsets = (rows : List ℤ) (sheet : Sheet) (s : State) (x : Label) (a : ℕ) → ReadsAbsent (program rows) sheet s x a
+AbsentUnsets = (rows : List ℤ) (sheet : Sheet) (s : State) (x : Label) (a : ℕ) → TakesAbsent (program rows) sheet s x a
     → ((e : Effect) × Allows (program rows) sheet s x e)
     × (check rows ≡ none → Reached rows sheet s → (t : State) × Step (program rows) sheet s x t)
     × ((t : State) → Step (program rows) sheet s x t → cellAt t a ≡ none)
+
+-- a step leaves every host output list as it was, but for one to which it gives a message: that list has the message at its end
+abbrev pub GivenOnly : Type 0
+GivenOnly = (P : Program) (sheet : Sheet) (s : State) (x : Label) (t : State) → Step P sheet s x t → (p : ℕ)
+    → (listAt t p ≡ listAt s p) ⊎ ((m : Message) × GivesHost P sheet s x p m × (listAt t p ≡ listAt s p ++ (m ∷ [])))
+
+-- an output of an element that is unset inside its array, where its channel's subscript has a value: it never stops; every step of it hands the absence to
+-- a cell, which is unset after the step, or to the end of its channel's list; at a host channel with room it has a step, and at a full one none
+pub record PassesOn (rows : List ℤ) (sheet : Sheet) (s : State) (r : ℕ) (c : Channel) : Type 0 where
+  pub never-stops : (reason : ℕ) → ¬ Allows (program rows) sheet s (own r) (stopEffect r reason)
+  pub to-cell : c .host ≡ false → (x : Label) (t : State) → Step (program rows) sheet s x t → RowOf x r
+      → (a : ℕ) × TakesAbsent (program rows) sheet s x a × (cellAt t a ≡ none)
+  pub to-host : c .host ≡ true → (x : Label) (t : State) → Step (program rows) sheet s x t → RowOf x r
+      → GivesHost (program rows) sheet s x (c .number) none
+  pub writes-with-room : c .host ≡ true → length (listAt s (c .number)) < c .capacity
+      → ((e : Effect) × Allows (program rows) sheet s (own r) e) × (check rows ≡ none → Reached rows sheet s → (t : State) × Step (program rows) sheet s (own r) t)
+  pub waits-when-full : c .host ≡ true → c .capacity ≤ length (listAt s (c .number)) → (x : Label) (t : State) → Step (program rows) sheet s x t → ¬ RowOf x r
+
+abbrev pub AbsencePassed : Type 0
+AbsencePassed = (rows : List ℤ) (sheet : Sheet) (s : State) (r d : ℕ) (c : Channel) (e f : Expr) → Live (program rows) s r (output c e f)
+    → index (s .store .cells) (c .first) (c .size) e ≡ At d → Passes (s .store .cells) f none → PassesOn rows sheet s r c
 
 -- a number that a cell holds after an order of steps was handed to it by one of them, in the state that the steps before it left
 abbrev pub SetInOrder : Type 0
@@ -88,10 +129,18 @@ SetInOrder = (rows : List ℤ) (sheet : Sheet) (l : List Label) (s : State) → 
     → (before : List Label) × ((x : Label) × ((later : List Label) × ((u : State)
     × ((l ≡ before ++ (x ∷ later)) × OrderOf rows sheet before u × Delivers (program rows) sheet u x a (some z)))))
 
--- the value of an expression needs a cell that is unset: operands are taken left to right, and one that is not looked at is not needed
+-- a message of a host output list after an order of steps was given by one of them, when the list held the messages before it
+abbrev pub GivenInOrder : Type 0
+GivenInOrder = (rows : List ℤ) (sheet : Sheet) (l : List Label) (s : State) → OrderOf rows sheet l s → (p i : ℕ) (m : Message) → getElem? (listAt s p) i ≡ some m
+    → (before : List Label) × ((x : Label) × ((later : List Label) × ((u : State)
+    × ((l ≡ before ++ (x ∷ later)) × OrderOf rows sheet before u × GivesHost (program rows) sheet u x p m × (length (listAt u p) ≡ i)))))
+
+-- the value of an expression needs a cell that is unset: operands are taken left to right, and one that is not looked at is not needed; GIVEN needs its
+-- subscript's value and not its element's
 pub data NeedsUnset (cells : List Message) : Expr → Type 0 where
   cell-unset : {v : Variable} {e : Expr} {i : ℕ} → index cells (v .first) (v .size) e ≡ At i → getD cells i none ≡ none → NeedsUnset cells (element v e)
   in-subscript : {v : Variable} {e : Expr} → NeedsUnset cells e → NeedsUnset cells (element v e)
+  in-given : {v : Variable} {e : Expr} → NeedsUnset cells e → NeedsUnset cells (given v e)
   in-operand : {op : ℕ} {e : Expr} → NeedsUnset cells e → NeedsUnset cells (monadic op e)
   in-first : {op : ℕ} {e f : Expr} → NeedsUnset cells e → NeedsUnset cells (dyadic op e f)
   in-second : {op : ℕ} {e f : Expr} {x : ℤ} → value cells e ≡ Number x → decides op x ≡ false → NeedsUnset cells f → NeedsUnset cells (dyadic op e f)
@@ -106,10 +155,6 @@ UnsetSubscript = (cells : List Message) (first n : ℕ) (e : Expr) → (index ce
 -- an action lacks a value for one reason
 abbrev pub OneReason : Type 0
 OneReason = (cells : List Message) (a : Action) (k l : ℕ) → Lacks cells a k → Lacks cells a l → k ≡ l
-
--- the effect of a stop of row r for a reason
-abbrev pub stopEffect : ℕ → ℕ → Effect
-stopEffect r reason = effect (becomes r r (10 + reason) ∷ []) []
 
 -- a row has one step, the stop for a reason: a rule allows it, it leads to a state where orders of an accepted table come, and no other step is of the row
 abbrev pub OnlyStops : List ℤ → Sheet → State → ℕ → ℕ → Type 0
@@ -140,13 +185,22 @@ pub data OptionNeedsUnset (cells : List Message) : List AltOption → Type 0 whe
       → OptionNeedsUnset cells (b ∷ l)
   in-later-option : {b : AltOption} {l : List AltOption} → Complete cells b → OptionNeedsUnset cells l → OptionNeedsUnset cells (b ∷ l)
 
+-- an expression that is one element
+abbrev pub IsElement : Expr → Type 0
+IsElement f = (v : Variable) × ((e : Expr) × (f ≡ element v e))
+
+-- an output needs an unset cell for what it passes: an element for its subscript alone, any other expression for its value
+pub data PassNeedsUnset (cells : List Message) : Expr → Type 0 where
+  in-passed-subscript : {v : Variable} {e : Expr} → NeedsUnset cells e → PassNeedsUnset cells (element v e)
+  in-passed-value : {f : Expr} → ¬ IsElement f → NeedsUnset cells f → PassNeedsUnset cells f
+
 -- an action, test or guard needs an unset cell, before any other value that it lacks
 pub data ActionNeedsUnset (cells : List Message) : Action → Type 0 where
   assign-to : {v : Variable} {e f : Expr} → NeedsUnset cells e → ActionNeedsUnset cells (assign v e f)
   assign-from : {v : Variable} {e f : Expr} {a : ℕ} → index cells (v .first) (v .size) e ≡ At a → NeedsUnset cells f → ActionNeedsUnset cells (assign v e f)
   in-input : {i : ChannelInput} → InputNeedsUnset cells i → ActionNeedsUnset cells (input i)
   output-to : {c : Channel} {e f : Expr} → NeedsUnset cells e → ActionNeedsUnset cells (output c e f)
-  output-from : {c : Channel} {e f : Expr} {a : ℕ} → index cells (c .first) (c .size) e ≡ At a → NeedsUnset cells f → ActionNeedsUnset cells (output c e f)
+  output-from : {c : Channel} {e f : Expr} {a : ℕ} → index cells (c .first) (c .size) e ≡ At a → PassNeedsUnset cells f → ActionNeedsUnset cells (output c e f)
   in-while : {e : Expr} {b : ℕ} → NeedsUnset cells e → ActionNeedsUnset cells (loop e b)
   in-if : {ts : List IfChoice} → TestNeedsUnset cells ts → ActionNeedsUnset cells (conditional ts)
   in-alt : {bs : List AltOption} → OptionNeedsUnset cells bs → ActionNeedsUnset cells (alternation bs)
@@ -215,3 +269,18 @@ VariableLines = (rows : List ℤ) (r : RunResult) (l : Line) → List·Memᴰ l 
 abbrev pub CellsPrinted : Type 0
 CellsPrinted = (rows : List ℤ) (r : RunResult) (v i : ℕ) → List·Memᴰ v (variables rows) → i < cellsAt rows v → cellNumber rows v i < length (r .state .store .cells)
     → List·Memᴰ (line varWord v i (cellAt (r .state) (cellNumber rows v i))) (runLines rows r)
+
+-- each printed line of a host output is of one message of its channel's list; its field is empty exactly if the message's mark in the lent buffers is 0
+abbrev pub OutputLines : Type 0
+OutputLines = (rows : List ℤ) (sheet : Sheet) (r : RunResult) → check rows ≡ none → Reached rows sheet (r .state) → (l : Line)
+    → List·Memᴰ l (runLines rows r) → l .what ≡ outWord
+    → let p = sumBelow (hostChannelsAt 2 rows) (l .name) in
+    let i = sumBelow (capacityAt rows) (l .name) + l .at in
+    (getElem? (listAt (r .state) p) (l .at) ≡ some (l .value))
+    × ((b : Buffers) → (valueBytes (l .value) ≡ []) ↔ (getD (encode rows (r .state) b .outputMarks) i 0 ≡ 0))
+
+-- and each message of a list has its line
+abbrev pub OutputsPrinted : Type 0
+OutputsPrinted = (rows : List ℤ) (sheet : Sheet) (r : RunResult) → check rows ≡ none → Reached rows sheet (r .state) → (c i : ℕ) (m : Message)
+    → List·Memᴰ c (channels rows 2) → getElem? (listAt (r .state) (sumBelow (hostChannelsAt 2 rows) c)) i ≡ some m
+    → List·Memᴰ (line outWord c i m) (runLines rows r)

@@ -127,12 +127,12 @@ ListsGrow = (rows : List ℤ) (sheet : Sheet) (s t : State) (x : Label) → Step
     → (channel : ℕ) → (more : List Message) × (getD (t .store .outputs) channel [] ≡ getD (s .store .outputs) channel [] ++ more)
 
 -- if one order comes to rest in s after n steps: no order is longer, and each at rest has exactly n steps and is in s: equal
--- outcome, cells, set marks, row states, places in the readings and lists, since all of these are in the state
+-- outcome, cells, set marks, row states, places in the readings and lists, values and absences, since all of these are in the state
 abbrev pub OneRest : List ℤ → Sheet → List Label → State → Type 0
 OneRest rows sheet l s = (k : List Label) (t : State) → OrderOf rows sheet k t
     → (length k ≤ length l) × (RestOf rows sheet t → (length k ≡ length l) × (t ≡ s) × (outcomeOf rows t ≡ outcomeOf rows s))
 
--- the answers to calls, whatever the choices: with a budget of n or more that outcome after n steps with none ready, the six buffers
+-- the answers to calls, whatever the choices: with a budget of n or more that outcome after n steps with none ready, the seven buffers
 -- holding s; with less, spent after as many steps as the budget with some ready
 abbrev pub CallsAnswer : (List ℕ → ℕ → Buffers → Reply) → List ℤ → List Label → State → Type 0
 CallsAnswer call rows l s = (choices : List ℕ) (budget : ℕ) (b : Buffers) → tooShort b ≡ false → budget ≤ maxBudget

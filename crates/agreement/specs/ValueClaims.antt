@@ -3,12 +3,19 @@ use mathlib.Core.Path.{_≡_}
 use mathlib.Core.Logic.{_≢_, _⊎_}
 use Prim.Native.Nat.{ℕ, _<_}
 use mathlib.Core.List.{List}
+use mathlib.Core.Option.{none, some}
+use lib.ListN.{getD}
+use Rattle.meaning.specs.declared.Index.the-variants.{At, Fails}
+use Rattle.meaning.specs.Declarations.{Variable}
+use Rattle.meaning.specs.Rows.{fieldAt, kindAt}
+use Rattle.meaning.specs.References.{of-b, Refers}
+use Rattle.meaning.specs.Answers.{check}
 use lib.IntN.{ℤ, pos, negsuc, negℤ, natAbs, _+ℤ_, _-ℤ_, _*ℤ_}
 use lib.Signed.{_≤ℤ_, _<ℤ_}
 use Rattle.meaning.specs.declared.Value.{Value}
 use Rattle.meaning.specs.declared.Value.the-variants.{Number, Missing}
-use Rattle.meaning.specs.Tree.{Expr, monadic, dyadic}
-use Rattle.meaning.specs.Values.{Message, operate, monadicOf, value}
+use Rattle.meaning.specs.Tree.{Expr, element, monadic, given, dyadic, contentAt}
+use Rattle.meaning.specs.Values.{Message, operate, monadicOf, value, index}
 
 -- 32 signed bits hold z
 abbrev pub Fits : ℤ → Type 0
@@ -83,3 +90,17 @@ pub record TakesOperands (cells : List Message) (op : ℕ) (e f : Expr) : Type 0
 
 abbrev pub OperandsInTurn : Type 0
 OperandsInTurn = (cells : List Message) (op : ℕ) (e f : Expr) → TakesOperands cells op e f
+
+-- GIVEN "gives 1 if it is set, 0 if not; its subscript can still fail"
+pub record GivenTells (cells : List Message) (v : Variable) (e : Expr) : Type 0 where
+  pub inside : (a : ℕ) → index cells (v .first) (v .size) e ≡ At a → Tells (value cells (given v e)) ((z : ℤ) × (getD cells a none ≡ some z))
+  pub outside : (k : ℕ) → index cells (v .first) (v .size) e ≡ Fails k → value cells (given v e) ≡ Missing k
+
+abbrev pub GivenExact : Type 0
+GivenExact = (cells : List Message) (v : Variable) (e : Expr) → GivenTells cells v e
+
+-- in an accepted table a row of kind 12 with operator 2 refers to an element, and is GIVEN of that element
+abbrev pub GivenRows : Type 0
+GivenRows = (rows : List ℤ) (r : ℕ) → check rows ≡ none → kindAt rows r ≡ 12 → fieldAt rows r 1 ≡ pos 2
+    → (t : ℕ) × Refers rows r of-b t
+    × ((v : Variable) × ((e : Expr) × (contentAt rows t .expr ≡ element v e) × (contentAt rows r .expr ≡ given v e)))

@@ -7,16 +7,16 @@ use lib.IntN.{ℤ, pos}
 use lib.Dec.{eqb}
 use Rattle.meaning.specs.Basics.{ifElse}
 use borrow.Author.Tests.{ne-eqb}
-use Rattle.meaning.specs.Kinds.{Field, unused, literalValue, within, elements, capacity, variable, channel}
+use Rattle.meaning.specs.Kinds.{Field, unused, literalValue, within, elements, capacity, operator, variable, channel}
 use Rattle.meaning.specs.Verdict.{leads, target}
 use Rattle.base_kinds.specs.Table.{numbersIn, fieldMeant}
 
 -- an entry of no other sort is unused
-pub other-sort : (e : ℕ) → (e % 16 ≡ 1 → ⊥) → (e % 16 ≡ 2 → ⊥) → (e % 16 ≡ 3 → ⊥) → (e % 16 ≡ 4 → ⊥) → (e % 16 ≡ 5 → ⊥) → (e % 16 ≡ 6 → ⊥) → (e % 16 ≡ 7 → ⊥) → (e % 16 ≡ 8 → ⊥) → fieldMeant e ≡ unused
+pub other-sort : (e : ℕ) → (e % 16 ≡ 1 → ⊥) → (e % 16 ≡ 2 → ⊥) → (e % 16 ≡ 3 → ⊥) → (e % 16 ≡ 4 → ⊥) → (e % 16 ≡ 5 → ⊥) → (e % 16 ≡ 6 → ⊥) → (e % 16 ≡ 7 → ⊥) → (e % 16 ≡ 8 → ⊥) → (e % 16 ≡ 9 → ⊥) → fieldMeant e ≡ unused
 unfolding fieldMeant
-other-sort e a b c d f g h i =
+other-sort e a b c d f g h i j =
     let s = e % 16 in
-    simp (ne-eqb s 1 a, ne-eqb s 2 b, ne-eqb s 3 c, ne-eqb s 4 d, ne-eqb s 5 f, ne-eqb s 6 g, ne-eqb s 7 h, ne-eqb s 8 i)
+    simp (ne-eqb s 1 a, ne-eqb s 2 b, ne-eqb s 3 c, ne-eqb s 4 d, ne-eqb s 5 f, ne-eqb s 6 g, ne-eqb s 7 h, ne-eqb s 8 i, ne-eqb s 9 j)
 
 module _ (rows : List ℤ) (r : ℕ) (z : ℤ) where
   abbrev Plain : Field → Type 0
@@ -38,4 +38,5 @@ module _ (rows : List ℤ) (r : ℕ) (z : ℤ) where
       (either (eqb s 3) elements _ (refl, refl)
       (either (eqb s 4) capacity _ (refl, refl)
       (either (eqb s 5) variable _ (refl, refl)
-      (either (eqb s 6) (channel (numbersIn m)) unused (refl, refl) (refl, refl)))))))
+      (either (eqb s 6) (channel (numbersIn m)) _ (refl, refl)
+      (either (eqb s 9) operator unused (refl, refl) (refl, refl))))))))

@@ -12,7 +12,7 @@ use Rattle.meaning.specs.Basics.{ifElse, allBelow}
 use Rattle.meaning.specs.Usage.{numbersFrom}
 use Rattle.meaning.specs.Kinds as K
 use Rattle.base_kinds.specs.declared.Shape.{Shape}
-use Rattle.meaning.specs.Kinds.{Field, unused, literalValue, within, elements, capacity, variable, channel, reference, link, shape, shapeOf}
+use Rattle.meaning.specs.Kinds.{Field, unused, literalValue, within, elements, capacity, operator, variable, channel, reference, link, shape, shapeOf}
 
 -- a set of numbers below 64 as a mask: bit k is set
 abbrev pub inMask : ℕ → ℕ → Bool
@@ -32,22 +32,23 @@ sorted sort m =
     (ifElse (eqb sort 6) (channel (numbersIn m))
     (ifElse (eqb sort 7) (reference (numbersIn m))
     (ifElse (eqb sort 8) (link (numbersIn m))
-    unused)))))))
+    (ifElse (eqb sort 9) operator
+    unused))))))))
 
 -- the field that an entry means: its sort is in the last four bits
 unfoldable pub fieldMeant : ℕ → Field
 fieldMeant entry = sorted (entry % 16) (entry / 16)
 
--- the shape that three entries mean; those of no kind begin with sort 9
+-- the shape that three entries mean; those of no kind begin with sort 10
 unfoldable pub meantShape : ℕ → Shape → Option K.Shape
-meantShape k s = ifElse (eqb (s .a) 9) none (some (shape k (fieldMeant (s .a)) (fieldMeant (s .b)) (fieldMeant (s .c))))
+meantShape k s = ifElse (eqb (s .a) 10) none (some (shape k (fieldMeant (s .a)) (fieldMeant (s .b)) (fieldMeant (s .c))))
 
 -- the entries of a kind in a table
 abbrev pub entriesOf : List (List ℕ) → ℕ → Shape
 entriesOf table k = let line = getD table k [] in record { a = getD line 0 0; b = getD line 1 0; c = getD line 2 0 }
 
 abbrev pub noEntries : Shape
-noEntries = record { a = 9; b = 9; c = 9 }
+noEntries = record { a = 10; b = 10; c = 10 }
 
 unfoldable pub tableShape : List (List ℕ) → ℕ → Shape
 tableShape table k = ifElse (ltb k (length table)) (entriesOf table k) noEntries
@@ -72,10 +73,11 @@ fieldEntry variable = 5
 fieldEntry (channel roles) = 6 + 16 * maskOf roles
 fieldEntry (reference kinds) = 7 + 16 * maskOf kinds
 fieldEntry (link kinds) = 8 + 16 * maskOf kinds
+fieldEntry operator = 9
 
 -- the line of a kind
 abbrev pub kindLine : Option K.Shape → List ℕ
-kindLine none = 9 ∷ 9 ∷ 9 ∷ []
+kindLine none = 10 ∷ 10 ∷ 10 ∷ []
 kindLine (some s) = fieldEntry (s .a) ∷ fieldEntry (s .b) ∷ fieldEntry (s .c) ∷ []
 
 -- the table of the kinds 0 to 43, the last there is

@@ -37,8 +37,11 @@ pub const REFERENCE: u64 = 7;
 // the same, or -1 for none
 pub const LINK: u64 = 8;
 
+// a monadic operator: 0 to 2; not 2 where its operand is a row of another kind than an element
+pub const OPERATOR: u64 = 9;
+
 // a number that is no kind
-pub const NO_KIND: u64 = 9;
+pub const NO_KIND: u64 = 10;
 
 const NONE: [u64; 3] = [NO_KIND, NO_KIND, NO_KIND];
 
@@ -46,8 +49,6 @@ const NONE: [u64; 3] = [NO_KIND, NO_KIND, NO_KIND];
 const CELLS: u64 = RANGE + 16 * (1 + 256 * 64);
 
 const ROLE: u64 = RANGE + 16 * (256 * 2);
-
-const MONADIC: u64 = RANGE + 16 * (256 * 1);
 
 const DYADIC: u64 = RANGE + 16 * (256 * 15);
 
@@ -89,7 +90,7 @@ const KINDS: [[u64; 3]; 44] = [
     NONE, // 9
     [VALUE, UNUSED, UNUSED], // 10 literal
     [VARIABLE, EXPRESSION, UNUSED], // 11 element
-    [MONADIC, EXPRESSION, UNUSED], // 12 monadic
+    [OPERATOR, EXPRESSION, UNUSED], // 12 monadic
     [DYADIC, EXPRESSION, EXPRESSION], // 13 dyadic
     NONE, // 14
     NONE, // 15

@@ -4,3 +4,4 @@ pub mod RowSums
 pub mod NameLists
 pub mod Layouts
 pub mod Parts
+pub mod GivenOperands

@@ -10,7 +10,7 @@ use lib.Dec.{eqb}
 use Rattle.meaning.specs.Basics.{ifElse}
 use borrow.Author.Tests.{ne-eqb}
 use Rattle.meaning.specs.Rows.{naturalOf}
-use Rattle.meaning.specs.Kinds.{Field, unused, literalValue, within, elements, capacity, variable, channel}
+use Rattle.meaning.specs.Kinds.{Field, unused, literalValue, within, elements, capacity, operator, variable, channel}
 use Rattle.base_kinds.specs.Table.{numbersIn, fieldMeant}
 use Rattle.base_top_down.specs.Forms.{isReference}
 use Rattle.base_numbering.specs.Fields.{heldIn, placedIn}
@@ -30,7 +30,8 @@ no-reference e a b =
     (either (eqb s 3) elements _ refl
     (either (eqb s 4) capacity _ refl
     (either (eqb s 5) variable _ refl
-    (either (eqb s 6) (channel (numbersIn m)) unused refl refl))))))
+    (either (eqb s 6) (channel (numbersIn m)) _ refl
+    (either (eqb s 9) operator unused refl refl)))))))
 
 -- a field by whether it refers to a row, and by whether that is in the list
 module _ (l : List ℕ) (b : Bool) (z : ℤ) where

@@ -14,7 +14,7 @@ use lib.Seq.{set-out, getD-set-same, getD-set-other}
 use Rattle.meaning.specs.Basics.{ifElse}
 use Rattle.meaning.specs.Rows.{naturalOf, rowCount, kindAt}
 use Rattle.meaning.specs.Kinds as M
-use Rattle.meaning.specs.Kinds.{Field, unused, literalValue, within, elements, capacity, variable, channel, reference, link, shapeOf}
+use Rattle.meaning.specs.Kinds.{Field, unused, literalValue, within, elements, capacity, operator, variable, channel, reference, link, shapeOf}
 use Rattle.meaning.specs.Declarations.{declarations}
 use Rattle.meaning.specs.References.{Column, of-a, of-b, of-c, fieldOf, numberOf, IsTarget, RefersBy, IsOf, Refers}
 use Rattle.meaning.specs.Faults.{Leads}
@@ -37,7 +37,7 @@ entryOf s of-c = s .c
 -- entries that mean a shape
 meant : (k : ℕ) (s : Shape) (u : M.Shape) → meantShape k s ≡ some u → (p : Column) → fieldOf u p ≡ K.fieldMeant (entryOf s p)
 unfolding meantShape
-meant k s u = go (eqb (s .a) 9)
+meant k s u = go (eqb (s .a) 10)
   where
     is : M.Shape
     is = M.shape k (K.fieldMeant (s .a)) (K.fieldMeant (s .b)) (K.fieldMeant (s .c))
@@ -75,6 +75,7 @@ refers-is rows r t literalValue z h = absurd h
 refers-is rows r t (within lo hi) z h = absurd h
 refers-is rows r t elements z h = absurd h
 refers-is rows r t capacity z h = absurd h
+refers-is rows r t operator z h = absurd h
 refers-is rows r t variable z h = absurd h
 refers-is rows r t (channel roles) z h = absurd h
 refers-is rows r t (reference kinds) z h = (refl, h .0, h .1 .1)
@@ -107,6 +108,7 @@ module _ (rows : List ℤ) (sound : FormPassed rows) (r : ℕ) (d : declarations
   held-field (within lo hi) z sizes w h = refl
   held-field elements z sizes w h = refl
   held-field capacity z sizes w h = refl
+  held-field operator z sizes w h = refl
   held-field variable z sizes w h = refl
   held-field (channel roles) z sizes w h = refl
   held-field (reference kinds) z sizes w h = held-child kinds z sizes w h
@@ -133,6 +135,7 @@ module _ (rows : List ℤ) (sound : FormPassed rows) (r : ℕ) (d : declarations
   keep-field (within lo hi) z numbers v q h w t g = g
   keep-field elements z numbers v q h w t g = g
   keep-field capacity z numbers v q h w t g = g
+  keep-field operator z numbers v q h w t g = g
   keep-field variable z numbers v q h w t g = g
   keep-field (channel roles) z numbers v q h w t g = g
   keep-field (reference kinds) z numbers v q h w t g = keep-child z numbers v (w .0) (h (w .0) (w .1, w .2)) (w .1) t g

@@ -15,7 +15,7 @@ use lib.Seq.{set-out, getD-set-same, getD-set-other, ext-getD}
 use Rattle.meaning.specs.Basics.{ifElse}
 use Rattle.meaning.specs.Rows.{naturalOf, rowCount, fieldAt, kindAt}
 use Rattle.meaning.specs.Kinds as M
-use Rattle.meaning.specs.Kinds.{Field, unused, literalValue, within, elements, capacity, variable, channel, reference, link, shapes, shapeIn, shapeOf}
+use Rattle.meaning.specs.Kinds.{Field, unused, literalValue, within, elements, capacity, operator, variable, channel, reference, link, shapes, shapeIn, shapeOf}
 use Rattle.meaning.specs.Declarations.{declarations}
 use Rattle.meaning.specs.References.{Column, of-a, of-b, of-c, fieldOf, numberOf, RefersBy, Refers}
 use Rattle.meaning.specs.Faults.{Leads}
@@ -162,6 +162,7 @@ module _ (rows : List ℤ) (sound : FormPassed rows) (r : ℕ) (d : declarations
   field-small (within lo hi) z h x = absurd (false≢true x)
   field-small elements z h x = absurd (false≢true x)
   field-small capacity z h x = absurd (false≢true x)
+  field-small operator z h x = absurd (false≢true x)
   field-small variable z h x = absurd (false≢true x)
   field-small (channel roles) z h x = absurd (false≢true x)
   field-small (reference kinds) z h x = child-small rows sound r numbers small z (h .0) (h .1) (h .2 .0) (h .2 .1) d
@@ -189,6 +190,7 @@ module _ (rows : List ℤ) (sound : FormPassed rows) (r : ℕ) (d : declarations
   field-written (within lo hi) z v h x = refl
   field-written elements z v h x = refl
   field-written capacity z v h x = refl
+  field-written operator z v h x = refl
   field-written variable z v h x = refl
   field-written (channel roles) z v h x = refl
   field-written (reference kinds) z v h x = child-written z v (h .0) (h .1) (h .2 .0) (h .2 .1) (x (h .0) (h .1, h .2))

@@ -1,8 +1,8 @@
 -- A form whose rows are all right as far as the stages 4 and 5 say, by the declarations of a table; accepted rows have such a form.
 use mathlib.Core.Path.{_≡_, refl, sym, ap, _∙_, subst}
-use mathlib.Core.Logic.{inl, inr}
+use mathlib.Core.Logic.{_⊎_, inl, inr}
 use mathlib.Core.Bool.{Bool, true, false, not, _||_, false≢true}
-use mathlib.Core.List.{List, [], _∷_}
+use mathlib.Core.List.{List, [], _∷_, List·Memᴰ, List·Memᴰ·head}
 use mathlib.Core.Option.{Option, none, some, Option·none-ne-some, Option·some-injective}
 use Prim.Native.Nat.{ℕ, zero, suc, _+_, _≤_, _<_}
 use native.Mathlib.Decide.{decLt}
@@ -12,11 +12,12 @@ use lib.Dec.{ltb, eqb}
 use Rattle.meaning.specs.Basics.{ifElse}
 use borrow.Author.Tests.{eqb-true, ne-eqb, not-true}
 use Rattle.meaning.specs.Rows.{rowCount, fieldAt, kindAt}
-use Rattle.meaning.specs.Kinds.{Field, unused, literalValue, within, elements, capacity, variable, channel, reference, link, Shape, shapes, shapeIn, shapeOf}
+use Rattle.meaning.specs.Kinds.{Field, unused, literalValue, within, elements, capacity, operator, variable, channel, reference, link, Shape, shapes, shapeIn, shapeOf}
 use Rattle.meaning.specs.Declarations.{declarations}
 use Rattle.meaning.specs.Verdict.{formFault, treeFault}
 use Rattle.meaning.specs.References.{Column, of-a, of-b, of-c, fieldOf, numberOf, IsTarget, IsOf}
 use Rattle.meaning.specs.Faults.{MayHold, Leads, WellFormed, WellPlaced, Placed}
+use Rattle.meaning.proofs.Decides.{Decides, holding, failing, decides-eq}
 use Rattle.meaning.proofs.NoFault.{or-false}
 use Rattle.base_top_down.specs.Forms.{Form, absent, row, isReference, orPlain, referred, itemOf, formAt}
 use Rattle.base_top_down.specs.Good.{Child, Suited, Good}
@@ -43,13 +44,14 @@ listed test (u ∷ ss) k s e i = go (test u) refl (eqb k (u .kind)) refl e i (li
         let same = Option·some-injective u s i in
         subst (λ (w : Shape). (test w ≡ true) × (k ≡ w .kind)) same (x, eqb-true k (u .kind) y)
 
--- a field whose range hangs on another field of its row
+-- a field whose range hangs on the role of its row
 unfoldable pub isSize : Field → Bool
 isSize unused = false
 isSize literalValue = false
 isSize (within lo hi) = false
 isSize elements = true
 isSize capacity = true
+isSize operator = false
 isSize variable = false
 isSize (channel roles) = false
 isSize (reference kinds) = false
@@ -76,6 +78,64 @@ no-size k s e n m = λ p. go (isSize (s .a)) (isSize (s .b)) (isSize (s .c)) ref
     go x y z u v w h of-a = u ∙ or-false x y (or-false (x || y) z h .0) .0
     go x y z u v w h of-b = v ∙ or-false x y (or-false (x || y) z h .0) .1
     go x y z u v w h of-c = w ∙ or-false (x || y) z h .1
+
+-- a field whose range hangs on the row that field b refers to
+unfoldable pub isOperator : Field → Bool
+isOperator unused = false
+isOperator literalValue = false
+isOperator (within lo hi) = false
+isOperator elements = false
+isOperator capacity = false
+isOperator operator = true
+isOperator variable = false
+isOperator (channel roles) = false
+isOperator (reference kinds) = false
+isOperator (link kinds) = false
+
+-- a field that always refers to a row
+unfoldable alwaysRefers : Field → Bool
+alwaysRefers unused = false
+alwaysRefers literalValue = false
+alwaysRefers (within lo hi) = false
+alwaysRefers elements = false
+alwaysRefers capacity = false
+alwaysRefers operator = false
+alwaysRefers variable = false
+alwaysRefers (channel roles) = false
+alwaysRefers (reference kinds) = true
+alwaysRefers (link kinds) = false
+
+-- declarations have no operator
+pub no-operator : (k : ℕ) (s : Shape) → shapeOf k ≡ some s → (k ≡ 1) ⊎ (k ≡ 2) → (p : Column) → isOperator (fieldOf s p) ≡ false
+unfolding shapeOf shapeIn shapes isOperator
+no-operator k s e = go
+  where
+    to : (n : ℕ) (u : Shape) → k ≡ n → shapeOf n ≡ some u → (p : Column) → isOperator (fieldOf u p) ≡ false → isOperator (fieldOf s p) ≡ false
+    to n u j h p f = subst (λ (w : Shape). isOperator (fieldOf w p) ≡ false) (Option·some-injective u s (sym h ∙ ap shapeOf (sym j) ∙ e)) f
+
+    go : (k ≡ 1) ⊎ (k ≡ 2) → (p : Column) → isOperator (fieldOf s p) ≡ false
+    go (inl i) of-a = to 1 _ i refl of-a refl
+    go (inl i) of-b = to 1 _ i refl of-b refl
+    go (inl i) of-c = to 1 _ i refl of-c refl
+    go (inr i) of-a = to 2 _ i refl of-a refl
+    go (inr i) of-b = to 2 _ i refl of-b refl
+    go (inr i) of-c = to 2 _ i refl of-c refl
+
+-- beside an operator, field b refers to a row
+operands : Shape → Bool
+operands s = ifElse (isOperator (s .a) || isOperator (s .b) || isOperator (s .c)) (alwaysRefers (s .b)) true
+
+has-operand : (k : ℕ) (s : Shape) → shapeOf k ≡ some s → (p : Column) → isOperator (fieldOf s p) ≡ true → alwaysRefers (s .b) ≡ true
+unfolding shapeOf all operands shapes isOperator alwaysRefers
+has-operand k s e p h = go (isOperator (s .a)) (isOperator (s .b)) (isOperator (s .c)) refl refl refl (listed operands shapes k s refl e .0) p h
+  where
+    go : (x y z : Bool) → isOperator (s .a) ≡ x → isOperator (s .b) ≡ y → isOperator (s .c) ≡ z → ifElse (x || y || z) (alwaysRefers (s .b)) true ≡ true → (p : Column) → isOperator (fieldOf s p) ≡ true → alwaysRefers (s .b) ≡ true
+    go true y z u v w h p i = h
+    go false true z u v w h p i = h
+    go false false true u v w h p i = h
+    go false false false u v w h of-a i = absurd (false≢true (sym u ∙ i))
+    go false false false u v w h of-b i = absurd (false≢true (sym v ∙ i))
+    go false false false u v w h of-c i = absurd (false≢true (sym w ∙ i))
 
 -- Accepted rows have good forms -------------------------------------------------------------------------------------------------
 
@@ -113,18 +173,39 @@ module _ (rows : List ℤ) (r : ℕ) (f : (t : ℕ) → r < t → t < rowCount r
       subst (λ (x : Form). Child kinds x × Good rows x) (sym (above rows r (h .0) (h .2 .0)) ∙ ap (referred at) (sym (h .1)))
       (subst (Child kinds) (sym (formAt-at rows (h .0) (h .2 .1))) (h .2 .2), f (h .0) (h .2 .0) (h .2 .1))
 
-  good-item : (g : Field) (z : ℤ) → isSize g ≡ false → MayHold rows r g z → Leads rows r g z → Suited rows g (itemOf at (isReference g) z) × Good rows (itemOf at (isReference g) z)
-  unfolding Suited Good MayHold Leads isReference isSize
-  good-item unused z e h l = ((z, refl, h), tt)
-  good-item literalValue z e h l = ((z, refl, h), tt)
-  good-item (within lo hi) z e h l = ((z, refl, h), tt)
-  good-item elements z e h l = absurd (false≢true (sym e))
-  good-item capacity z e h l = absurd (false≢true (sym e))
-  good-item variable z e h l = ((z, refl, h), tt)
-  good-item (channel roles) z e h l = ((z, refl, h), tt)
-  good-item (reference kinds) z e h l = child kinds z l
-  good-item (link kinds) z e h (inl i) = subst (λ (y : ℤ). Suited rows (link kinds) (referred at y) × Good rows (referred at y)) (sym i) (inl refl, tt)
-  good-item (link kinds) z e h (inr i) = let c = child kinds z i in (inr (c .0), c .1)
+  -- GIVEN's operand
+  given-operand : (g : Field) (y z : ℤ) → alwaysRefers g ≡ true → fieldAt rows r 2 ≡ y → Leads rows r g y → MayHold rows r operator z → z ≡ pos 2 → Child (11 ∷ []) (itemOf at (isReference g) y)
+  unfolding alwaysRefers Leads MayHold isReference
+  given-operand unused y z e b l h i = absurd (false≢true e)
+  given-operand literalValue y z e b l h i = absurd (false≢true e)
+  given-operand (within lo hi) y z e b l h i = absurd (false≢true e)
+  given-operand elements y z e b l h i = absurd (false≢true e)
+  given-operand capacity y z e b l h i = absurd (false≢true e)
+  given-operand operator y z e b l h i = absurd (false≢true e)
+  given-operand variable y z e b l h i = absurd (false≢true e)
+  given-operand (channel roles) y z e b l h i = absurd (false≢true e)
+  given-operand (link kinds) y z e b l h i = absurd (false≢true e)
+  given-operand (reference kinds) y z e b l h i =
+      subst (Child (11 ∷ [])) (sym (formAt-at rows (l .0) (l .2 .1)) ∙ sym (above rows r (l .0) (l .2 .0)) ∙ ap (referred at) (sym (l .1))) (go (decides-eq (kindAt rows (l .0)) 11))
+    where
+      go : {t : Bool} → Decides (kindAt rows (l .0) ≡ 11) t → List·Memᴰ (kindAt rows (l .0)) (11 ∷ [])
+      go (holding k) = List·Memᴰ·head k
+      go (failing k) = absurd (h .1 (i, (l .0, (b ∙ l .1, l .2 .1, k))))
+
+  good-item : (g : Field) (z : ℤ) (b : Form) → isSize g ≡ false → (isOperator g ≡ true → MayHold rows r operator z → z ≡ pos 2 → Child (11 ∷ []) b)
+      → MayHold rows r g z → Leads rows r g z → Suited rows g b (itemOf at (isReference g) z) × Good rows (itemOf at (isReference g) z)
+  unfolding Suited Good MayHold Leads isReference isSize isOperator
+  good-item unused z b e o h l = ((z, refl, h), tt)
+  good-item literalValue z b e o h l = ((z, refl, h), tt)
+  good-item (within lo hi) z b e o h l = ((z, refl, h), tt)
+  good-item elements z b e o h l = absurd (false≢true (sym e))
+  good-item capacity z b e o h l = absurd (false≢true (sym e))
+  good-item operator z b e o h l = ((z, refl, h .0, o refl h), tt)
+  good-item variable z b e o h l = ((z, refl, h), tt)
+  good-item (channel roles) z b e o h l = ((z, refl, h), tt)
+  good-item (reference kinds) z b e o h l = child kinds z l
+  good-item (link kinds) z b e o h (inl i) = subst (λ (y : ℤ). Suited rows (link kinds) b (referred at y) × Good rows (referred at y)) (sym i) (inl refl, tt)
+  good-item (link kinds) z b e o h (inr i) = let c = child kinds z i in (inr (c .0), c .1)
 
   good-row : r < rowCount rows → RightRow rows r → Good rows (formAt rows r)
   unfolding RightRow Good
@@ -142,14 +223,17 @@ module _ (rows : List ℤ) (r : ℕ) (f : (t : ℕ) → r < t → t < rowCount r
       no : (p : Column) → isSize (fieldOf s p) ≡ false
       no = no-size (kindAt rows r) s (h .1 .1) (h .0 .0) (h .0 .1)
 
-      a : Suited rows (s .a) (item (s .a) 1) × Good rows (item (s .a) 1)
-      a = good-item (s .a) (fieldAt rows r 1) (no of-a) (h .1 .2 of-a .0) (h .1 .2 of-a .1)
+      given : (p : Column) (z : ℤ) → isOperator (fieldOf s p) ≡ true → MayHold rows r operator z → z ≡ pos 2 → Child (11 ∷ []) (item (s .b) 2)
+      given p z e = given-operand (s .b) (fieldAt rows r 2) z (has-operand (kindAt rows r) s (h .1 .1) p e) refl (h .1 .2 of-b .1)
 
-      b : Suited rows (s .b) (item (s .b) 2) × Good rows (item (s .b) 2)
-      b = good-item (s .b) (fieldAt rows r 2) (no of-b) (h .1 .2 of-b .0) (h .1 .2 of-b .1)
+      a : Suited rows (s .a) (item (s .b) 2) (item (s .a) 1) × Good rows (item (s .a) 1)
+      a = good-item (s .a) (fieldAt rows r 1) (item (s .b) 2) (no of-a) (given of-a (fieldAt rows r 1)) (h .1 .2 of-a .0) (h .1 .2 of-a .1)
 
-      c : Suited rows (s .c) (item (s .c) 3) × Good rows (item (s .c) 3)
-      c = good-item (s .c) (fieldAt rows r 3) (no of-c) (h .1 .2 of-c .0) (h .1 .2 of-c .1)
+      b : Suited rows (s .b) (item (s .b) 2) (item (s .b) 2) × Good rows (item (s .b) 2)
+      b = good-item (s .b) (fieldAt rows r 2) (item (s .b) 2) (no of-b) (given of-b (fieldAt rows r 2)) (h .1 .2 of-b .0) (h .1 .2 of-b .1)
+
+      c : Suited rows (s .c) (item (s .b) 2) (item (s .c) 3) × Good rows (item (s .c) 3)
+      c = good-item (s .c) (fieldAt rows r 3) (item (s .b) 2) (no of-c) (given of-c (fieldAt rows r 3)) (h .1 .2 of-c .0) (h .1 .2 of-c .1)
 
 pub good : (rows : List ℤ) → formFault rows ≡ none → treeFault rows ≡ none → (k r : ℕ) → rowCount rows ≤ r + k → declarations rows ≤ r → Good rows (formAt rows r)
 unfolding Good

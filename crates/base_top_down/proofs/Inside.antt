@@ -8,7 +8,7 @@ use native.Mathlib.Decide.{decLt}
 use native.Mathlib.Omega.{arith}
 use lib.IntN.{ℤ, pos}
 use Rattle.meaning.specs.Rows.{rowCount}
-use Rattle.meaning.specs.Kinds.{Field, unused, literalValue, within, elements, capacity, variable, channel, reference, link}
+use Rattle.meaning.specs.Kinds.{Field, unused, literalValue, within, elements, capacity, operator, variable, channel, reference, link}
 use Rattle.meaning.specs.Declarations.{declarations}
 use Rattle.meaning.specs.Verdict.{treeFault}
 use Rattle.meaning.specs.References.{Column, of-a, of-b, of-c, fieldOf, numberOf, RefersBy, Refers, Beneath, direct, further}
@@ -31,6 +31,7 @@ field-one rows r t literalValue z h = absurd h
 field-one rows r t (within lo hi) z h = absurd h
 field-one rows r t elements z h = absurd h
 field-one rows r t capacity z h = absurd h
+field-one rows r t operator z h = absurd h
 field-one rows r t variable z h = absurd h
 field-one rows r t (channel roles) z h = absurd h
 field-one rows r t (reference kinds) z h = h .0

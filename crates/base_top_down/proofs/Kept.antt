@@ -2,7 +2,7 @@
 use mathlib.Core.Path.{_≡_, refl, sym, ap, ap₂, _∙_, subst}
 use mathlib.Core.Logic.{inl, inr, ⊎-elim}
 use mathlib.Core.Bool.{Bool, true, false, false≢true, _||_}
-use mathlib.Core.List.{List, [], _∷_, _++_, List·Memᴰ}
+use mathlib.Core.List.{List, [], _∷_, _++_, List·Memᴰ, List·Memᴰ·head}
 use mathlib.Core.Option.{Option, none, Option·some-injective}
 use Prim.Native.Nat.{ℕ, suc, _+_, _≤_, _<_}
 use native.Mathlib.Decide.{decLt}
@@ -12,12 +12,13 @@ use lib.Dec.{leb, eqb}
 use Rattle.meaning.specs.Basics.{ifElse}
 use borrow.Author.Tests.{le-leb, lt-leb, ne-eqb}
 use Rattle.meaning.specs.Rows.{naturalOf, rowCount, fieldAt, kindAt}
-use Rattle.meaning.specs.Kinds.{Field, unused, literalValue, within, elements, capacity, variable, channel, reference, link, Shape, shapeOf, processes}
+use Rattle.meaning.specs.Kinds.{Field, unused, literalValue, within, elements, capacity, operator, variable, channel, reference, link, Shape, shapeOf, processes}
 use Rattle.meaning.specs.Declarations.{declarations, root}
 use Rattle.meaning.specs.Verdict.{formFault, treeFault, targetOf, target, targetsBy, targets, targetsBelow, occurrences}
 use Rattle.meaning.specs.References.{Column, of-a, of-b, of-c, fieldOf, numberOf, IsTarget}
 use Rattle.meaning.specs.Faults.{MayHold, Leads, WellFormed, WellPlaced, Placed}
-use Rattle.meaning.proofs.Decides.{Decides, holding, failing, decides-le, decides-eq}
+use Rattle.meaning.proofs.Decides.{Decides, holding, failing, decides-le, decides-eq, pos-injective}
+use Rattle.meaning.proofs.OneTreeLaw.{declared as declares-either}
 use Rattle.meaning.proofs.Counting.{occurrences-append}
 use Rattle.meaning.proofs.ReferenceCounts.{decides-target, Never, count-all, never-zero, once-one}
 use Rattle.base_top_down.specs.Forms.{Form, absent, number, row, formSize, writtenField, rowOfB, rowOfC, formOf, tableOf, topDown}
@@ -25,7 +26,7 @@ use Rattle.base_top_down.specs.Laid.{Laid, FormKept, TreeKept}
 use Rattle.base_top_down.specs.Good.{Child, Suited, Good, FlattenRight}
 use Rattle.base_top_down.proofs.Again.{declarations-le, table-count, table-fields, table-laid, table-declarations, rooted}
 use Rattle.base_top_down.proofs.Stages.{well-formed, well-placed, form-nothing, tree-nothing, no-targets-below}
-use Rattle.base_top_down.proofs.Good.{isSize, RightRow, good}
+use Rattle.base_top_down.proofs.Good.{isSize, isOperator, no-operator, RightRow, good}
 
 -- Counting numbers from j on ----------------------------------------------------------------------------------------------------
 
@@ -55,36 +56,25 @@ one j (row k a b c) t = ifElse (eqb t j) 1 0
 
 module _ (rows T : List ℤ) (same : declarations T ≡ declarations rows) (fields : (q j : ℕ) → q < declarations rows → j < 4 → fieldAt T q j ≡ fieldAt rows q j) where
   -- what a field may hold
-  holds-to : (g : Field) (z : ℤ) (r m : ℕ) → (isSize g ≡ true → fieldAt T m 2 ≡ fieldAt rows r 2) → MayHold rows r g z → MayHold T m g z
-  unfolding MayHold isSize
-  holds-to unused z r m e h = h
-  holds-to literalValue z r m e h = h
-  holds-to (within lo hi) z r m e h = h
-  holds-to elements z r m e h = (h .0, ⊎-elim (λ i. inl (e refl ∙ i)) inr (h .1))
-  holds-to capacity z r m e h = (h .0, ⊎-elim (λ i. inl (e refl ∙ i)) inr (h .1))
-  holds-to variable z r m e h =
+  holds-to : (g : Field) (z : ℤ) (r m : ℕ) → (isSize g ≡ true → fieldAt T m 2 ≡ fieldAt rows r 2) → isOperator g ≡ false → MayHold rows r g z → MayHold T m g z
+  unfolding MayHold isSize isOperator
+  holds-to unused z r m e n h = h
+  holds-to literalValue z r m e n h = h
+  holds-to (within lo hi) z r m e n h = h
+  holds-to elements z r m e n h = (h .0, ⊎-elim (λ i. inl (e refl ∙ i)) inr (h .1))
+  holds-to capacity z r m e n h = (h .0, ⊎-elim (λ i. inl (e refl ∙ i)) inr (h .1))
+  holds-to operator z r m e n h = absurd (false≢true (sym n))
+  holds-to variable z r m e n h =
       let l = h .1 .1 in
       (h .0, (h .1 .0, omega arith, ap naturalOf (fields (h .0) 0 l (omega arith)) ∙ h .1 .2))
-  holds-to (channel roles) z r m e h =
+  holds-to (channel roles) z r m e n h =
       let l = h .1 .1 in
       (h .0, (h .1 .0, omega arith, ap naturalOf (fields (h .0) 0 l (omega arith)) ∙ h .1 .2), (h .2 .0, h .2 .1, ap naturalOf (fields (h .0) 2 l (omega arith)) ∙ h .2 .2))
-  holds-to (reference kinds) z r m e h = h
-  holds-to (link kinds) z r m e h = h
+  holds-to (reference kinds) z r m e n h = h
+  holds-to (link kinds) z r m e n h = h
 
-  held : (g : Field) (x : Form) (m j : ℕ) → isSize g ≡ false → (z : ℤ) × (x ≡ number z) × MayHold rows 0 g z → MayHold T m g (writtenField j x)
-  held g x m j e h = subst (λ (y : Form). MayHold T m g (writtenField j y)) (sym (h .1)) (holds-to g (h .0) 0 m (λ i. absurd (false≢true (sym e ∙ i))) (h .2))
-
-  suited-holds : (g : Field) (x : Form) (m j : ℕ) → Suited rows g x → MayHold T m g (writtenField j x)
-  unfolding Suited MayHold isSize
-  suited-holds unused x m j h = held unused x m j refl h
-  suited-holds literalValue x m j h = held literalValue x m j refl h
-  suited-holds (within lo hi) x m j h = held (within lo hi) x m j refl h
-  suited-holds elements x m j h = absurd h
-  suited-holds capacity x m j h = absurd h
-  suited-holds variable x m j h = held variable x m j refl h
-  suited-holds (channel roles) x m j h = held (channel roles) x m j refl h
-  suited-holds (reference kinds) x m j h = tt
-  suited-holds (link kinds) x m j h = tt
+  held : (g : Field) (x : Form) (m j : ℕ) → isSize g ≡ false → isOperator g ≡ false → (z : ℤ) × (x ≡ number z) × MayHold rows 0 g z → MayHold T m g (writtenField j x)
+  held g x m j e n h = subst (λ (y : Form). MayHold T m g (writtenField j y)) (sym (h .1)) (holds-to g (h .0) 0 m (λ i. absurd (false≢true (sym e ∙ i))) n (h .2))
 
   -- where a reference leads
   child-target : (kinds : List ℕ) (x : Form) (m j : ℕ) → m < j → Laid T j x → Child kinds x → (writtenField j x ≡ pos j) × IsTarget T m kinds j
@@ -93,18 +83,39 @@ module _ (rows T : List ℤ) (same : declarations T ≡ declarations rows) (fiel
   child-target kinds (number z) m j l d h = absurd h
   child-target kinds (row k a b c) m j l d h = (refl, (l, d .0 .0, subst (λ (x : ℕ). List·Memᴰ x kinds) (sym (ap naturalOf (d .0 .1))) h))
 
-  suited-leads : (g : Field) (x : Form) (m j : ℕ) → m < j → Laid T j x → Suited rows g x → Leads T m g (writtenField j x)
+  -- b is what field b of row m holds
+  suited-holds : (g : Field) (b x : Form) (m i j : ℕ) → m < i → fieldAt T m 2 ≡ writtenField i b → Laid T i b → Suited rows g b x → MayHold T m g (writtenField j x)
+  unfolding Suited MayHold isSize isOperator
+  suited-holds unused b x m i j l e d h = held unused x m j refl refl h
+  suited-holds literalValue b x m i j l e d h = held literalValue x m j refl refl h
+  suited-holds (within lo hi) b x m i j l e d h = held (within lo hi) x m j refl refl h
+  suited-holds elements b x m i j l e d h = absurd h
+  suited-holds capacity b x m i j l e d h = absurd h
+  suited-holds operator b x m i j l e d h = subst (λ (y : Form). MayHold T m operator (writtenField j y)) (sym (h .1)) (h .2, λ q. q .1 .1 .2 (element (q .1 .0) (q .1 .1 .0) (child-target (11 ∷ []) b m i l d (h .3 (q .0)))))
+    where
+      element : (t : ℕ) → fieldAt T m 2 ≡ pos t → (writtenField i b ≡ pos i) × IsTarget T m (11 ∷ []) i → kindAt T t ≡ 11
+      element t q c = ap (kindAt T) (pos-injective (sym q ∙ e ∙ c .0)) ∙ only (c .1 .2)
+        where
+          only : {k : ℕ} → List·Memᴰ k (11 ∷ []) → k ≡ 11
+          only (List·Memᴰ·head k) = k
+  suited-holds variable b x m i j l e d h = held variable x m j refl refl h
+  suited-holds (channel roles) b x m i j l e d h = held (channel roles) x m j refl refl h
+  suited-holds (reference kinds) b x m i j l e d h = tt
+  suited-holds (link kinds) b x m i j l e d h = tt
+
+  suited-leads : (g : Field) (b x : Form) (m j : ℕ) → m < j → Laid T j x → Suited rows g b x → Leads T m g (writtenField j x)
   unfolding Suited Leads
-  suited-leads unused x m j l d h = tt
-  suited-leads literalValue x m j l d h = tt
-  suited-leads (within lo hi) x m j l d h = tt
-  suited-leads elements x m j l d h = tt
-  suited-leads capacity x m j l d h = tt
-  suited-leads variable x m j l d h = tt
-  suited-leads (channel roles) x m j l d h = tt
-  suited-leads (reference kinds) x m j l d h = let c = child-target kinds x m j l d h in (j, c .0, c .1)
-  suited-leads (link kinds) x m j l d (inl e) = inl (ap (writtenField j) e)
-  suited-leads (link kinds) x m j l d (inr h) = let c = child-target kinds x m j l d h in inr (j, c .0, c .1)
+  suited-leads unused b x m j l d h = tt
+  suited-leads literalValue b x m j l d h = tt
+  suited-leads (within lo hi) b x m j l d h = tt
+  suited-leads elements b x m j l d h = tt
+  suited-leads capacity b x m j l d h = tt
+  suited-leads operator b x m j l d h = tt
+  suited-leads variable b x m j l d h = tt
+  suited-leads (channel roles) b x m j l d h = tt
+  suited-leads (reference kinds) b x m j l d h = let c = child-target kinds x m j l d h in (j, c .0, c .1)
+  suited-leads (link kinds) b x m j l d (inl e) = inl (ap (writtenField j) e)
+  suited-leads (link kinds) b x m j l d (inr h) = let c = child-target kinds x m j l d h in inr (j, c .0, c .1)
 
   -- a row of a good form is right
   row-right : (m k : ℕ) (a b c : Form) → Laid T m (row k a b c) → Good rows (row k a b c) → RightRow T m
@@ -124,9 +135,9 @@ module _ (rows T : List ℤ) (same : declarations T ≡ declarations rows) (fiel
       to f e h i = subst (λ (x : ℤ). MayHold T m f x × Leads T m f x) (sym e) (h, i)
 
       each : (p : Column) → MayHold T m (fieldOf s p) (numberOf T m p) × Leads T m (fieldOf s p) (numberOf T m p)
-      each of-a = to (s .a) (l .0 .2) (suited-holds (s .a) a m (suc m) (g .1 .2 .0 .0)) (suited-leads (s .a) a m (suc m) (omega arith) (l .1 .0 .0) (g .1 .2 .0 .0))
-      each of-b = to (s .b) (l .0 .3) (suited-holds (s .b) b m (rowOfB m a) (g .1 .2 .0 .1)) (suited-leads (s .b) b m (rowOfB m a) (omega arith) (l .1 .0 .1) (g .1 .2 .0 .1))
-      each of-c = to (s .c) (l .0 .4) (suited-holds (s .c) c m (rowOfC m a b) (g .1 .2 .1)) (suited-leads (s .c) c m (rowOfC m a b) (omega arith) (l .1 .1) (g .1 .2 .1))
+      each of-a = to (s .a) (l .0 .2) (suited-holds (s .a) b a m (rowOfB m a) (suc m) (omega arith) (l .0 .3) (l .1 .0 .1) (g .1 .2 .0 .0)) (suited-leads (s .a) b a m (suc m) (omega arith) (l .1 .0 .0) (g .1 .2 .0 .0))
+      each of-b = to (s .b) (l .0 .3) (suited-holds (s .b) b b m (rowOfB m a) (rowOfB m a) (omega arith) (l .0 .3) (l .1 .0 .1) (g .1 .2 .0 .1)) (suited-leads (s .b) b b m (rowOfB m a) (omega arith) (l .1 .0 .1) (g .1 .2 .0 .1))
+      each of-c = to (s .c) (l .0 .4) (suited-holds (s .c) b c m (rowOfB m a) (rowOfC m a b) (omega arith) (l .0 .3) (l .1 .0 .1) (g .1 .2 .1)) (suited-leads (s .c) b c m (rowOfC m a b) (omega arith) (l .1 .1) (g .1 .2 .1))
 
   rows-right : (n : ℕ) (f : Form) → Laid T n f → Good rows f → (i : ℕ) → n ≤ i → i < n + formSize f → RightRow T i
   unfolding Laid Good formSize
@@ -161,18 +172,19 @@ module _ (rows T : List ℤ) (same : declarations T ≡ declarations rows) (fiel
   none-count : (x : Form) (z : ℤ) (j t : ℕ) → x ≡ number z → 0 ≡ one j x t
   none-count x z j t e = sym (ap (λ (y : Form). one j y t) e)
 
-  field-count : (g : Field) (x : Form) (m j t : ℕ) → m < j → Laid T j x → Suited rows g x → occurrences t (target T m g (writtenField j x)) ≡ one j x t
+  field-count : (g : Field) (b x : Form) (m j t : ℕ) → m < j → Laid T j x → Suited rows g b x → occurrences t (target T m g (writtenField j x)) ≡ one j x t
   unfolding Suited target occurrences
-  field-count unused x m j t l d h = none-count x (h .0) j t (h .1)
-  field-count literalValue x m j t l d h = none-count x (h .0) j t (h .1)
-  field-count (within lo hi) x m j t l d h = none-count x (h .0) j t (h .1)
-  field-count elements x m j t l d h = absurd h
-  field-count capacity x m j t l d h = absurd h
-  field-count variable x m j t l d h = none-count x (h .0) j t (h .1)
-  field-count (channel roles) x m j t l d h = none-count x (h .0) j t (h .1)
-  field-count (reference kinds) x m j t l d h = child-count kinds x m j t l d h
-  field-count (link kinds) x m j t l d (inl e) = subst (λ (y : Form). occurrences t (targetOf T m kinds (writtenField j y)) ≡ one j y t) (sym e) refl
-  field-count (link kinds) x m j t l d (inr h) = child-count kinds x m j t l d h
+  field-count unused b x m j t l d h = none-count x (h .0) j t (h .1)
+  field-count literalValue b x m j t l d h = none-count x (h .0) j t (h .1)
+  field-count (within lo hi) b x m j t l d h = none-count x (h .0) j t (h .1)
+  field-count elements b x m j t l d h = absurd h
+  field-count capacity b x m j t l d h = absurd h
+  field-count operator b x m j t l d h = none-count x (h .0) j t (h .1)
+  field-count variable b x m j t l d h = none-count x (h .0) j t (h .1)
+  field-count (channel roles) b x m j t l d h = none-count x (h .0) j t (h .1)
+  field-count (reference kinds) b x m j t l d h = child-count kinds x m j t l d h
+  field-count (link kinds) b x m j t l d (inl e) = subst (λ (y : Form). occurrences t (targetOf T m kinds (writtenField j y)) ≡ one j y t) (sym e) refl
+  field-count (link kinds) b x m j t l d (inr h) = child-count kinds x m j t l d h
 
   row-count : (m k t : ℕ) (a b c : Form) → Laid T m (row k a b c) → Good rows (row k a b c) → occurrences t (targets T m) ≡ one (suc m) a t + one (rowOfB m a) b t + one (rowOfC m a b) c t
   unfolding Laid Good
@@ -182,9 +194,9 @@ module _ (rows T : List ℤ) (same : declarations T ≡ declarations rows) (fiel
       ∙ ap₂ (λ (x y : ℕ). x + y)
       (occurrences-append t (ta (fieldAt T m 1)) (tb (fieldAt T m 2))
       ∙ ap₂ (λ (x y : ℕ). x + y)
-      (ap (λ (z : ℤ). occurrences t (ta z)) (l .0 .2) ∙ field-count (s .a) a m (suc m) t (omega arith) (l .1 .0 .0) (g .1 .2 .0 .0))
-      (ap (λ (z : ℤ). occurrences t (tb z)) (l .0 .3) ∙ field-count (s .b) b m (rowOfB m a) t (omega arith) (l .1 .0 .1) (g .1 .2 .0 .1)))
-      (ap (λ (z : ℤ). occurrences t (tc z)) (l .0 .4) ∙ field-count (s .c) c m (rowOfC m a b) t (omega arith) (l .1 .1) (g .1 .2 .1))
+      (ap (λ (z : ℤ). occurrences t (ta z)) (l .0 .2) ∙ field-count (s .a) b a m (suc m) t (omega arith) (l .1 .0 .0) (g .1 .2 .0 .0))
+      (ap (λ (z : ℤ). occurrences t (tb z)) (l .0 .3) ∙ field-count (s .b) b b m (rowOfB m a) t (omega arith) (l .1 .0 .1) (g .1 .2 .0 .1)))
+      (ap (λ (z : ℤ). occurrences t (tc z)) (l .0 .4) ∙ field-count (s .c) b c m (rowOfC m a b) t (omega arith) (l .1 .1) (g .1 .2 .1))
     where
       s : Shape
       s = g .1 .0
@@ -250,14 +262,17 @@ module _ (rows T : List ℤ) (k : ℕ) (a b c : Form)
     unfolding WellFormed
     declared-right r l = (
       (λ e. let s = same in omega arith),
-      (w .1 .0, ap (λ (z : ℤ). shapeOf (naturalOf z)) (fields r 0 l (omega arith)) ∙ w .1 .1, to (w .1 .0 .a) 1 (omega arith) (w .1 .2), to (w .1 .0 .b) 2 (omega arith) (w .1 .3), to (w .1 .0 .c) 3 (omega arith) (w .1 .4)),
+      (w .1 .0, ap (λ (z : ℤ). shapeOf (naturalOf z)) (fields r 0 l (omega arith)) ∙ w .1 .1, to (w .1 .0 .a) 1 (omega arith) (plain of-a) (w .1 .2), to (w .1 .0 .b) 2 (omega arith) (plain of-b) (w .1 .3), to (w .1 .0 .c) 3 (omega arith) (plain of-c) (w .1 .4)),
     )
       where
         w : WellFormed rows r
         w = declared r l
 
-        to : (f : Field) (j : ℕ) → j < 4 → MayHold rows r f (fieldAt rows r j) → MayHold T r f (fieldAt T r j)
-        to f j h i = subst (MayHold T r f) (sym (fields r j l h)) (holds-to rows T same fields f (fieldAt rows r j) r r (λ e. fields r 2 l (omega arith)) i)
+        plain : (p : Column) → isOperator (fieldOf (w .1 .0) p) ≡ false
+        plain = no-operator (kindAt rows r) (w .1 .0) (w .1 .1) (declares-either rows r l)
+
+        to : (f : Field) (j : ℕ) → j < 4 → isOperator f ≡ false → MayHold rows r f (fieldAt rows r j) → MayHold T r f (fieldAt T r j)
+        to f j h n i = subst (MayHold T r f) (sym (fields r j l h)) (holds-to rows T same fields f (fieldAt rows r j) r r (λ e. fields r 2 l (omega arith)) n i)
 
     formed : (r : ℕ) → r < rowCount T → WellFormed T r
     unfolding WellFormed RightRow

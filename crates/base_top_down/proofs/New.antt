@@ -10,7 +10,7 @@ use lib.IntN.{ℤ}
 use lib.Dec.{ltb}
 use Rattle.meaning.specs.Basics.{ifElse}
 use Rattle.meaning.specs.Rows.{rowCount, kindAt}
-use Rattle.meaning.specs.Kinds.{Field, unused, literalValue, within, elements, capacity, variable, channel, reference, link, Shape, shapeOf}
+use Rattle.meaning.specs.Kinds.{Field, unused, literalValue, within, elements, capacity, operator, variable, channel, reference, link, Shape, shapeOf}
 use Rattle.meaning.specs.Declarations.{declarations, root}
 use Rattle.meaning.specs.Verdict.{treeFault}
 use Rattle.meaning.specs.References.{Column, of-a, of-b, of-c, fieldOf, numberOf, RefersBy, IsOf, Refers}
@@ -57,6 +57,7 @@ module _ (rows : List ℤ) where
   refers-item r t (within lo hi) z h = absurd h
   refers-item r t elements z h = absurd h
   refers-item r t capacity z h = absurd h
+  refers-item r t operator z h = absurd h
   refers-item r t variable z h = absurd h
   refers-item r t (channel roles) z h = absurd h
   refers-item r t (reference kinds) z h = ap (referred (λ t. ifElse (ltb r t) (formAt rows t) absent)) (h .0) ∙ above rows r t (h .1 .0)
@@ -188,6 +189,7 @@ module _ (rows : List ℤ) (tree : treeFault rows ≡ none) where
   field-some r (within lo hi) z h l = absurd (omega arith)
   field-some r elements z h l = absurd (omega arith)
   field-some r capacity z h l = absurd (omega arith)
+  field-some r operator z h l = absurd (omega arith)
   field-some r variable z h l = absurd (omega arith)
   field-some r (channel roles) z h l = absurd (omega arith)
   field-some r (reference kinds) z h l = (h .0, (h .1, h .2))

@@ -12,7 +12,7 @@ use lib.Dec.{ltb, eqb}
 use Rattle.meaning.specs.Basics.{ifElse}
 use Rattle.meaning.specs.Rows.{rowCount, fieldAt, kindAt}
 use Rattle.meaning.specs.Declarations.{declarations, root, sumBelow}
-use Rattle.meaning.specs.Kinds.{Field, unused, literalValue, within, elements, capacity, variable, channel, reference, link, Shape, shapes, shapeIn, shapeOf}
+use Rattle.meaning.specs.Kinds.{Field, unused, literalValue, within, elements, capacity, operator, variable, channel, reference, link, Shape, shapes, shapeIn, shapeOf}
 use Rattle.meaning.specs.Verdict.{treeFault, targetOf, target, targetsBy, targets, targetsBelow, occurrences}
 use Rattle.meaning.specs.References.{Column, of-a, of-b, of-c, fieldOf, numberOf, IsTarget, IsOf, Refers}
 use Rattle.meaning.specs.Faults.{Leads, WellPlaced, Placed}
@@ -102,6 +102,7 @@ module _ (rows : List ℤ) where
     field-size (within lo hi) z h = refl
     field-size elements z h = refl
     field-size capacity z h = refl
+    field-size operator z h = refl
     field-size variable z h = refl
     field-size (channel roles) z h = refl
     field-size (reference kinds) z h = child-size kinds z h

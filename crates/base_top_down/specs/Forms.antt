@@ -6,7 +6,7 @@ use Prim.Native.Nat.{ℕ, suc, _+_, _*_}
 use lib.IntN.{ℤ, pos, negsuc}
 use lib.ListN.{take}
 use Rattle.meaning.specs.Rows.{rowCount, fieldAt, kindAt}
-use Rattle.meaning.specs.Kinds.{Field, unused, literalValue, within, elements, capacity, variable, channel, reference, link, Shape, shape, shapeOf}
+use Rattle.meaning.specs.Kinds.{Field, unused, literalValue, within, elements, capacity, operator, variable, channel, reference, link, Shape, shape, shapeOf}
 use Rattle.meaning.specs.Declarations.{declarations, root}
 use Rattle.meaning.specs.HigherRows.{atRow}
 
@@ -23,6 +23,7 @@ isReference literalValue = false
 isReference (within lo hi) = false
 isReference elements = false
 isReference capacity = false
+isReference operator = false
 isReference variable = false
 isReference (channel roles) = false
 isReference (reference kinds) = true

@@ -1,8 +1,8 @@
--- Every state of an order of an accepted table is one that a printed text can be made of: its sizes agree, and each output list is within its capacity and holds numbers only.
-use mathlib.Core.Path.{_≡_, refl, sym, ap, subst, _∙_}
+-- Every state of an order of an accepted table is one that a printed text can be made of: its sizes agree, and each output list is within its capacity.
+use mathlib.Core.Path.{_≡_, sym, ap, subst, _∙_}
 use mathlib.Core.Bool.{true}
 use mathlib.Core.List.{List, [], _∷_, _++_}
-use mathlib.Core.Option.{none, some}
+use mathlib.Core.Option.{none}
 use Prim.Native.Nat.{ℕ, suc, _<_, _≤_}
 use native.Mathlib.Omega.{arith}
 use lib.IntN.{ℤ}
@@ -17,7 +17,6 @@ use Rattle.meaning.specs.Step.{Live, live, Allows, Step, assignment, while-fals
 use Rattle.meaning.specs.Order.{Begins, Order, halt, next-step, OrderOf}
 use Rattle.meaning.specs.Buffers.{capacities}
 use Rattle.meaning.specs.Answers.{check}
-use Rattle.meaning.specs.PrintedForms.{each-none, each-more}
 use Rattle.meaning.specs.Run.{run}
 use Rattle.meaning.proofs.LentLaws.{defaults-at}
 use Rattle.agreement.proofs.KnownStates.{set-keeps}
@@ -25,19 +24,18 @@ use Rattle.agreement.proofs.RunTakesOrder.{run-takes-order}
 use Rattle.machine.proofs.Declared.{capacities-length, capacities-sum, room}
 use Rattle.machine.proofs.NamesInRange.{SinkIn, ActionIn, names-in}
 use Rattle.machine.proofs.StateSizes.{lengths}
-use Rattle.write_lines.proofs.Encoded.{Numbers, Within, within-none, within-more, Held}
-use Rattle.call_runner.proofs.Lists.{each-both}
+use Rattle.write_lines.proofs.Encoded.{Within, within-none, within-more, Held}
 
--- a list of numbers that is within a capacity
+-- a list that is within a capacity
 abbrev Fits : ℕ → List Message → Type 0
-Fits k xs = (length xs ≤ k) × Numbers xs
+Fits k xs = length xs ≤ k
 
 -- lists one by one
 within : (ks : List ℕ) (xss : List (List Message)) → length xss ≡ length ks → ((p : ℕ) → Fits (getD ks p 0) (getD xss p [])) → Within ks xss
 within [] [] e h = within-none
 within [] (xs ∷ xss) e h = absurd (omega (arith, e))
 within (k ∷ ks) [] e h = absurd (omega (arith, e))
-within (k ∷ ks) (xs ∷ xss) e h = within-more (h 0 .0) (h 0 .1) (within ks xss (omega (arith, e)) (λ p. h (suc p)))
+within (k ∷ ks) (xs ∷ xss) e h = within-more (h 0) (within ks xss (omega (arith, e)) (λ p. h (suc p)))
 
 module _ (rows : List ℤ) where
   -- every output list of a store
@@ -46,20 +44,17 @@ module _ (rows : List ℤ) where
 
   begins-fits : (s : State) → Begins (program rows) s → ListsFit (s .store)
   unfolding program
-  begins-fits s b p = rw (b .unwritten, defaults-at {A = List Message} [] (hostChannels 2 rows) p) (omega arith, each-none)
+  begins-fits s b p = rw (b .unwritten, defaults-at {A = List Message} [] (hostChannels 2 rows) p) (omega arith)
 
   sink-in : (s : State) (r : ℕ) (c : Channel) (e f : Expr) → Live (program rows) s r (output c e f) → SinkIn rows c
   sink-in s r c e f (live p z i) = subst (λ (q : Process). ActionIn rows (actionOf q)) p (names-in rows r)
 
-  -- a host write appends a number where capacity is left
-  write-fits : (s : State) → ListsFit (s .store) → (c : Channel) → SinkIn rows c → c .host ≡ true → (l : List Message) (z : ℤ) → getD (s .store .outputs) (c .number) [] ≡ l → length l < c .capacity
-      → (p : ℕ) → Fits (getD (capacities rows) p 0) (getD (set (s .store .outputs) (c .number) (l ++ (some z ∷ []))) p [])
-  write-fits s h c k i l z e m p =
-      set-keeps (Fits (getD (capacities rows) p 0)) [] (s .store .outputs) (c .number) (l ++ (some z ∷ [])) p (h p)
-      (λ q. (
-        (let b = k i .1 in let d = ap (λ (a : ℕ). getD (capacities rows) a 0) q in omega (arith, length-append l (some z ∷ []))),
-        each-both (subst Numbers e (h (c .number) .1)) (each-more refl each-none),
-      ))
+  -- a host write appends a message where capacity is left
+  write-fits : (s : State) → ListsFit (s .store) → (c : Channel) → SinkIn rows c → c .host ≡ true → (l : List Message) (m : Message) → length l < c .capacity
+      → (p : ℕ) → Fits (getD (capacities rows) p 0) (getD (set (s .store .outputs) (c .number) (l ++ (m ∷ []))) p [])
+  write-fits s h c k i l m n p =
+      set-keeps (Fits (getD (capacities rows) p 0)) [] (s .store .outputs) (c .number) (l ++ (m ∷ [])) p (h p)
+      (λ q. let b = k i .1 in let d = ap (λ (a : ℕ). getD (capacities rows) a 0) q in omega (arith, length-append l (m ∷ [])))
 
   module _ (sheet : Sheet) where
     effect-fits : (s : State) (x : Label) (e : Effect) → Allows (program rows) sheet s x e → ListsFit (s .store) → ListsFit (writeAll (e .writes) (s .store))
@@ -69,7 +64,7 @@ module _ (rows : List ℤ) where
     effect-fits s x t (if-true g k) h = h
     effect-fits s x t (communication g k i w) h = h
     effect-fits s x t (host-read g k) h = h
-    effect-fits s x t (host-write {r} {c} {e} {f} {z} {l} g k p q o m) h = write-fits s h c (sink-in s r c e f g) k l z o m
+    effect-fits s x t (host-write {r} {c} {e} {f} {m} {l} g k p q o n) h = write-fits s h c (sink-in s r c e f g) k l m n
     effect-fits s x t (alt-skip g c m k q) h = h
     effect-fits s x t (alt-read g c m k q i) h = h
     effect-fits s x t (alt-communication g c m k i q w y) h = h

@@ -16,16 +16,16 @@ use Rattle.meaning.specs.declared.Index.{Index}
 use Rattle.meaning.specs.declared.Index.the-variants.{At, Fails}
 use Rattle.meaning.specs.declared.Node.{Node}
 use Rattle.meaning.specs.declared.Node.the-variants.{Literal, Element, Monadic, Dyadic, Stop, Skip, Assignment, Input, Output, Seq, Par, If, While, Alt, Member, Choice, OptionRow, Guard, Other}
-use Rattle.meaning.specs.Basics.{ifElse, eqZ}
+use Rattle.meaning.specs.Basics.{ifElse, eqZ, isSome}
 use Rattle.meaning.specs.Rows.{kindAt}
 use Rattle.meaning.specs.Declarations.{totalCells, hostChannels}
 use Rattle.meaning.specs.Nodes.{nodeAt}
-use Rattle.meaning.specs.Tree.{Expr, literal, element, monadic, dyadic, noExpr, Action, stop, skip, sequence, parallel, assign, input, output, conditional, loop, alternation, Process, Content, contentOf, contentAt, orStop, actionOf}
-use Rattle.meaning.specs.Values.{Message, fitted, signed32, wrapped, isTrue, truth, quotient, remainder, operators, operate, monadicOf, decides, whenNumber, dyadicOf, inArray, cellValue, readCell, value}
+use Rattle.meaning.specs.Tree.{Expr, literal, element, monadic, given, dyadic, noExpr, Action, stop, skip, sequence, parallel, assign, input, output, conditional, loop, alternation, Process, Content, contentOf, contentAt, orStop, actionOf}
+use Rattle.meaning.specs.Values.{Message, fitted, signed32, wrapped, isTrue, truth, quotient, remainder, operators, operate, monadicOf, decides, whenNumber, dyadicOf, inArray, cellValue, readCell, givenValue, value}
 use Rattle.meaning.specs.State.{Store, State, program, writeAll, Effect}
 use Rattle.meaning.specs.Labels.{Label}
 use Rattle.meaning.specs.Readings.{Sheet}
-use Rattle.meaning.specs.Step.{Live, live, host-input, inner-output, Allows, Step, assignment, while-false, while-true, if-true, communication, host-read, host-write, alt-skip, alt-read, alt-communication, stopping}
+use Rattle.meaning.specs.Step.{Live, live, host-input, Passes, passes-value, passes-absence, inner-output, Allows, Step, assignment, while-false, while-true, if-true, communication, host-read, host-write, alt-skip, alt-read, alt-communication, stopping}
 use Rattle.meaning.specs.Order.{Begins, Order, halt, next-step, OrderOf}
 use Rattle.meaning.specs.PrintedForms.{Each, each-none, each-more, In32, IsReading}
 use Rattle.agreement.proofs.KnownStates.{set-keeps}
@@ -133,11 +133,16 @@ read-in : (cells : List Message) → CellsIn cells → (i : Index) → ValueIn (
 read-in cells h (At i) = cell-in (getD cells i none) (h i)
 read-in cells h (Fails k) = tt
 
+given-in : (cells : List Message) (i : Index) → ValueIn (givenValue cells i)
+given-in cells (At i) = truth-in (isSome (getD cells i none))
+given-in cells (Fails k) = tt
+
 -- an expression that is a literal
 abbrev ExprIn : Expr → Type 0
 ExprIn (literal x) = In32 x
 ExprIn (element v e) = Unit {0}
 ExprIn (monadic op e) = Unit {0}
+ExprIn (given v e) = Unit {0}
 ExprIn (dyadic op e f) = Unit {0}
 ExprIn noExpr = Unit {0}
 
@@ -146,6 +151,7 @@ unfolding value
 value-in cells h (literal x) k = k
 value-in cells h (element v e) k = read-in cells h (inArray (v .first) (v .size) (value cells e))
 value-in cells h (monadic op e) k = when-in (value cells e) (monadicOf op) (monadic-in op)
+value-in cells h (given v e) k = given-in cells (inArray (v .first) (v .size) (value cells e))
 value-in cells h (dyadic op e f) k = dyadic-in op (value cells e) (value cells f)
 value-in cells h noExpr k = tt
 
@@ -212,7 +218,11 @@ module _ (rows : List ℤ) (numbers : Each In32 rows) where
   part-in : (r : ℕ) (at : ℕ → Content) → ((b : ℕ) → PartIn b (at b)) → (k : Node) → NodeIn k → PartIn r (contentOf rows r at k)
   part-in r at h (Literal x) n = (n, tt)
   part-in r at h (Element a b) n = (tt, tt)
-  part-in r at h (Monadic a b) n = (tt, tt)
+  part-in r at h (Monadic a b) n = (operation-in (eqb a 2), tt)
+    where
+      operation-in : (t : Bool) → ExprIn (ifElse t (given (at b .target .name) (at b .target .subscript)) (monadic a (at b .expr)))
+      operation-in true = tt
+      operation-in false = tt
   part-in r at h (Dyadic a b c) n = (tt, tt)
   part-in r at h Stop n = (tt, tt)
   part-in r at h Skip n = (tt, tt)
@@ -250,7 +260,12 @@ module _ (rows : List ℤ) (numbers : Each In32 rows) where
   number-in : (s : State) → CellsIn (s .store .cells) → (e : Expr) → ExprIn e → (z : ℤ) → value (s .store .cells) e ≡ Number z → In32 z
   number-in s h e k z q = subst ValueIn q (value-in (s .store .cells) h e k)
 
-  -- every cell, and every number of an output list
+  -- what an output passes
+  passes-in : (s : State) → CellsIn (s .store .cells) → (e : Expr) → ExprIn e → (m : Message) → Passes (s .store .cells) e m → IsReading m
+  passes-in s h e k (some z) (passes-value q) = number-in s h e k z q
+  passes-in s h (element v e) k none (passes-absence p q) = tt
+
+  -- every cell, and every message of an output list
   pub record StoreIn (x : Store) : Type 0 where
     pub cells : CellsIn (x .cells)
     pub outputs : (p : ℕ) → Each IsReading (getD (x .outputs) p [])
@@ -277,16 +292,16 @@ module _ (rows : List ℤ) (numbers : Each In32 rows) where
     effect-in s x t (while-false g k) h = h
     effect-in s x t (while-true g k) h = h
     effect-in s x t (if-true g k) h = h
-    effect-in s x t (communication {o} {a} {c} {e} {f} g k i (inner-output {v} b d q)) h = cell-written (s .store) (writeAll (t .writes) (s .store)) h a (some v) (number-in s (h .cells) f (action-in s o (output c e f) k) v q) refl refl
+    effect-in s x t (communication {o} {a} {c} {e} {f} g k i (inner-output b d q)) h = cell-written (s .store) (writeAll (t .writes) (s .store)) h a _ (passes-in s (h .cells) f (action-in s o (output c e f) k) _ q) refl refl
     effect-in s x t (host-read {a} {n} {i} {v} g (host-input b c d e f)) h = cell-written (s .store) (writeAll (t .writes) (s .store)) h a v (readings (i .channel .number) n v f) refl refl
-    effect-in s x t (host-write {r} {c} {e} {f} {z} {l} g k p q o m) h =
+    effect-in s x t (host-write {r} {c} {e} {f} {m} {l} g k p q o n) h =
         record {
           cells = h .cells;
-          outputs = λ y. set-keeps (Each IsReading) [] (s .store .outputs) (c .number) (l ++ (some z ∷ [])) y (h .outputs y) (λ i. each-both (subst (Each IsReading) o (h .outputs (c .number))) (each-more (number-in s (h .cells) f (action-in s r (output c e f) g) z q) each-none));
+          outputs = λ y. set-keeps (Each IsReading) [] (s .store .outputs) (c .number) (l ++ (m ∷ [])) y (h .outputs y) (λ i. each-both (subst (Each IsReading) o (h .outputs (c .number))) (each-more (passes-in s (h .cells) f (action-in s r (output c e f) g) m q) each-none));
         }
     effect-in s x t (alt-skip g c m k q) h = h
     effect-in s x t (alt-read {a} {n} {i} {v} g c m k q (host-input b d e f j)) h = cell-written (s .store) (writeAll (t .writes) (s .store)) h a v (readings (i .channel .number) n v j) refl refl
-    effect-in s x t (alt-communication {o} {a} {c} {e} {f} g y m k i q w (inner-output {v} b d j)) h = cell-written (s .store) (writeAll (t .writes) (s .store)) h a (some v) (number-in s (h .cells) f (action-in s o (output c e f) k) v j) refl refl
+    effect-in s x t (alt-communication {o} {a} {c} {e} {f} g y m k i q w (inner-output b d j)) h = cell-written (s .store) (writeAll (t .writes) (s .store)) h a _ (passes-in s (h .cells) f (action-in s o (output c e f) k) _ j) refl refl
     effect-in s x t (stopping g k) h = h
 
     step-in : (s : State) (x : Label) (t : State) → Step (program rows) sheet s x t → StoreIn (s .store) → StoreIn (t .store)

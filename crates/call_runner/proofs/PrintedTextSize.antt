@@ -114,7 +114,7 @@ out-lines : (f : ℕ → ℕ) (cs : List ℕ) (xss : List (List Message)) → Ea
     → (length (outLines cs xss) ≤ total f cs) × Each Fine (outLines cs xss)
 unfolding outLines total
 out-lines f [] [] h within-none k g = (omega arith, each-none)
-out-lines f (c ∷ cs) (xs ∷ xss) (each-more l h) (within-more n o w) k g =
+out-lines f (c ∷ cs) (xs ∷ xss) (each-more l h) (within-more n w) k g =
     let ih = out-lines f cs xss h w (omega arith) (λ p. g (suc p)) in (
       (let a = ih .0 in omega (arith, length-append (numbered outWord c 0 xs) (outLines cs xss), numbered-length outWord c 0 xs)),
       each-both (numbered-fine outWord c 0 xs l (omega arith) (g 0)) (ih .1),

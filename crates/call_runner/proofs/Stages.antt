@@ -81,7 +81,7 @@ module _ (rows : List ℤ) (sheet : List ℕ) (d : Done) (e : replyIn d ≡ repl
     -- the printed text of an answer and its arrays
     abbrev shown : Answer → Buffers → List ℕ
     shown (Refused n p) b = []
-    shown (Ran o n m) b = printedLines (endLines (tableRows rows) o n (stateIn (tableRows rows) (b .cells) (b .marks) (b .states) (b .numbers) (b .counts)))
+    shown (Ran o n m) b = printedLines (endLines (tableRows rows) o n (stateIn (tableRows rows) (b .cells) (b .marks) (b .states) (b .numbers) (b .counts) (b .outputMarks)))
 
     -- the printed text of what a run leaves
     run-printed : shown (Ran o k total) (replyIn d .buffers) ≡ printed
@@ -110,10 +110,10 @@ module _ (rows : List ℤ) (sheet : List ℕ) (d : Done) (e : replyIn d ≡ repl
 
     -- the printed text of a run, in a lent buffer
     pub run-done : (o : Outcome) (k total : ℕ) → d .answer ≡ Ran o k total → (states : List ℕ) → states ≡ d .states → ((i : ℕ) → getD (d .states) i 0 < 256) → (w : ℕ × List ℕ)
-        → w ≡ printedIn (printedLines (endLines (tableRows rows) o k (stateIn (tableRows rows) (d .cells) (d .marks) states (d .numbers) (d .counts)))) old → (w ≡ printedIn printed old) × (Each In32 rows → length printed ≤ maxPrintedText)
+        → w ≡ printedIn (printedLines (endLines (tableRows rows) o k (stateIn (tableRows rows) (d .cells) (d .marks) states (d .numbers) (d .counts) (d .«output_marks»)))) old → (w ≡ printedIn printed old) × (Each In32 rows → length printed ≤ maxPrintedText)
     run-done o k total a states is bytes w h = (
       h
-          ∙ ap (λ (l : List ℕ). printedIn (printedLines (endLines (tableRows rows) o k (stateIn (tableRows rows) (d .cells) (d .marks) l (d .numbers) (d .counts)))) old) is
+          ∙ ap (λ (l : List ℕ). printedIn (printedLines (endLines (tableRows rows) o k (stateIn (tableRows rows) (d .cells) (d .marks) l (d .numbers) (d .counts) (d .«output_marks»)))) old) is
           ∙ ap (λ (l : List ℕ). printedIn l old) (run-printed o k total a),
       λ i. run-fits o k total a i bytes,
     )

@@ -64,6 +64,7 @@ fn rows_printed_text(rows: &[i32], sheet: &[u8], out: &mut [u8]) -> usize
             let states = done.states;
             let numbers = done.numbers;
             let counts = done.counts;
+            let output_marks = done.output_marks;
             write_lines::run_printed_text(
                 rows,
                 outcome,
@@ -73,6 +74,7 @@ fn rows_printed_text(rows: &[i32], sheet: &[u8], out: &mut [u8]) -> usize
                 row_states(&states),
                 &numbers,
                 &counts,
+                &output_marks,
                 out,
             )
         }

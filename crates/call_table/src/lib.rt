@@ -1,7 +1,9 @@
-// The run's entries: a table's rows or bytes, a sheet, choices and a budget, and the six lent buffers; a traced run is lent two lists besides.
+// The run's entries: a table's rows or bytes, a sheet, choices and a budget, and the seven lent buffers; a traced run is lent two lists besides.
 ghost use mathlib.Core.Path.{_≡_};
 ghost use Rattle.meaning.specs.Answers.{reply, replyToBytes};
 ghost use Rattle.meaning.specs.Trace.{replyTraced, replyToBytesTraced};
+ghost use Rattle.machine.specs.Lending.{lentLists, leftLists};
+ghost use Rattle.write_buffers.specs.Lending.{lentTask, lentBuffers, leftBuffers};
 use meaning::Answer;
 
 // A run of rows lent as numbers.
@@ -16,8 +18,9 @@ pub fn run_rows(
     places: &mut [u32],
     numbers: &mut [i32],
     counts: &mut [u32],
+    output_marks: &mut [u8],
 ) -> Answer
-    ensures { λ a. ⌜ record { answer = a; buffers = record { cells = now (cells .exit); marks = now (marks .exit); states = now (states .exit); places = now (places .exit); numbers = now (numbers .exit); counts = now (counts .exit) } } ≡ reply (record { rows = now (rows .entry); sheet = now (sheet .entry); choices = now (choices .entry); budget = budget }) (record { cells = now (cells .entry); marks = now (marks .entry); states = now (states .entry); places = now (places .entry); numbers = now (numbers .entry); counts = now (counts .entry) }) ⌝ }
+    ensures { λ a. ⌜ record { answer = a; buffers = leftBuffers cells marks states places numbers counts «output_marks» } ≡ reply (lentTask rows sheet choices budget) (lentBuffers cells marks states places numbers counts «output_marks») ⌝ }
 {
     if write_buffers::too_short(
         cells.len(),
@@ -26,13 +29,23 @@ pub fn run_rows(
         places.len(),
         numbers.len(),
         counts.len(),
+        output_marks.len(),
     ) {
         return Answer::Refused(1, 0);
     }
     let mut readied = [0u16; 1];
     let mut taken = [0u16; 1];
     let done = call_tasks::do_rows(rows, sheet, choices, budget, &mut readied, &mut taken);
-    write_buffers::put_done(done, cells, marks, states, places, numbers, counts)
+    write_buffers::put_done(
+        done,
+        cells,
+        marks,
+        states,
+        places,
+        numbers,
+        counts,
+        output_marks,
+    )
 }
 
 // A run of a table's bytes.
@@ -47,8 +60,9 @@ pub fn run_table(
     places: &mut [u32],
     numbers: &mut [i32],
     counts: &mut [u32],
+    output_marks: &mut [u8],
 ) -> Answer
-    ensures { λ a. ⌜ record { answer = a; buffers = record { cells = now (cells .exit); marks = now (marks .exit); states = now (states .exit); places = now (places .exit); numbers = now (numbers .exit); counts = now (counts .exit) } } ≡ replyToBytes (now (table .entry)) (now (sheet .entry)) (now (choices .entry)) budget (record { cells = now (cells .entry); marks = now (marks .entry); states = now (states .entry); places = now (places .entry); numbers = now (numbers .entry); counts = now (counts .entry) }) ⌝ }
+    ensures { λ a. ⌜ record { answer = a; buffers = leftBuffers cells marks states places numbers counts «output_marks» } ≡ replyToBytes (now (table .entry)) (now (sheet .entry)) (now (choices .entry)) budget (lentBuffers cells marks states places numbers counts «output_marks») ⌝ }
 {
     if write_buffers::too_short(
         cells.len(),
@@ -57,13 +71,23 @@ pub fn run_table(
         places.len(),
         numbers.len(),
         counts.len(),
+        output_marks.len(),
     ) {
         return Answer::Refused(1, 0);
     }
     let mut readied = [0u16; 1];
     let mut taken = [0u16; 1];
     let done = call_tasks::do_table(table, sheet, choices, budget, &mut readied, &mut taken);
-    write_buffers::put_done(done, cells, marks, states, places, numbers, counts)
+    write_buffers::put_done(
+        done,
+        cells,
+        marks,
+        states,
+        places,
+        numbers,
+        counts,
+        output_marks,
+    )
 }
 
 // A traced run of rows lent as numbers: for each step the two lists get how many steps were ready, and the row that orders the one taken.
@@ -78,10 +102,11 @@ pub fn run_rows_traced(
     places: &mut [u32],
     numbers: &mut [i32],
     counts: &mut [u32],
+    output_marks: &mut [u8],
     readied: &mut [u16],
     taken: &mut [u16],
 ) -> Answer
-    ensures { λ a. ⌜ record { reply = record { answer = a; buffers = record { cells = now (cells .exit); marks = now (marks .exit); states = now (states .exit); places = now (places .exit); numbers = now (numbers .exit); counts = now (counts .exit) } }; lists = record { readyCounts = now (readied .exit); takenRows = now (taken .exit) } } ≡ replyTraced (record { rows = now (rows .entry); sheet = now (sheet .entry); choices = now (choices .entry); budget = budget }) (record { cells = now (cells .entry); marks = now (marks .entry); states = now (states .entry); places = now (places .entry); numbers = now (numbers .entry); counts = now (counts .entry) }) (record { readyCounts = now (readied .entry); takenRows = now (taken .entry) }) ⌝ }
+    ensures { λ a. ⌜ record { reply = record { answer = a; buffers = leftBuffers cells marks states places numbers counts «output_marks» }; lists = leftLists readied taken } ≡ replyTraced (lentTask rows sheet choices budget) (lentBuffers cells marks states places numbers counts «output_marks») (lentLists readied taken) ⌝ }
 {
     if run_trace::lists_short(readied.len(), taken.len()) {
         return Answer::Refused(1, 0);
@@ -93,11 +118,21 @@ pub fn run_rows_traced(
         places.len(),
         numbers.len(),
         counts.len(),
+        output_marks.len(),
     ) {
         return Answer::Refused(1, 0);
     }
     let done = call_tasks::do_rows(rows, sheet, choices, budget, readied, taken);
-    write_buffers::put_done(done, cells, marks, states, places, numbers, counts)
+    write_buffers::put_done(
+        done,
+        cells,
+        marks,
+        states,
+        places,
+        numbers,
+        counts,
+        output_marks,
+    )
 }
 
 // A traced run of a table's bytes.
@@ -112,10 +147,11 @@ pub fn run_table_traced(
     places: &mut [u32],
     numbers: &mut [i32],
     counts: &mut [u32],
+    output_marks: &mut [u8],
     readied: &mut [u16],
     taken: &mut [u16],
 ) -> Answer
-    ensures { λ a. ⌜ record { reply = record { answer = a; buffers = record { cells = now (cells .exit); marks = now (marks .exit); states = now (states .exit); places = now (places .exit); numbers = now (numbers .exit); counts = now (counts .exit) } }; lists = record { readyCounts = now (readied .exit); takenRows = now (taken .exit) } } ≡ replyToBytesTraced (now (table .entry)) (now (sheet .entry)) (now (choices .entry)) budget (record { cells = now (cells .entry); marks = now (marks .entry); states = now (states .entry); places = now (places .entry); numbers = now (numbers .entry); counts = now (counts .entry) }) (record { readyCounts = now (readied .entry); takenRows = now (taken .entry) }) ⌝ }
+    ensures { λ a. ⌜ record { reply = record { answer = a; buffers = leftBuffers cells marks states places numbers counts «output_marks» }; lists = leftLists readied taken } ≡ replyToBytesTraced (now (table .entry)) (now (sheet .entry)) (now (choices .entry)) budget (lentBuffers cells marks states places numbers counts «output_marks») (lentLists readied taken) ⌝ }
 {
     if run_trace::lists_short(readied.len(), taken.len()) {
         return Answer::Refused(1, 0);
@@ -127,9 +163,19 @@ pub fn run_table_traced(
         places.len(),
         numbers.len(),
         counts.len(),
+        output_marks.len(),
     ) {
         return Answer::Refused(1, 0);
     }
     let done = call_tasks::do_table(table, sheet, choices, budget, readied, taken);
-    write_buffers::put_done(done, cells, marks, states, places, numbers, counts)
+    write_buffers::put_done(
+        done,
+        cells,
+        marks,
+        states,
+        places,
+        numbers,
+        counts,
+        output_marks,
+    )
 }

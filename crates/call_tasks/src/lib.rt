@@ -6,10 +6,11 @@ ghost use Prim.Native.Nat.{ℕ, _≤_};
 ghost use Rattle.meaning.specs.Readings.{Sheet};
 ghost use Rattle.meaning.specs.Answers.{check};
 ghost use Rattle.machine.specs.Held.{blank, KeptReadings};
+ghost use Rattle.machine.specs.Lending.{lentLists, leftLists};
 ghost use Rattle.meaning.specs.declared.Answer.the-variants.{Refused, Ran};
 ghost use Rattle.run_steps.specs.Ran.{arraysIn};
-ghost use Rattle.run_turns.specs.Showing.{listsLent};
 ghost use Rattle.write_buffers.specs.Replies.{replyIn};
+ghost use Rattle.write_buffers.specs.Lending.{lentTask};
 ghost use Rattle.call_tasks.specs.Tasks.{taskWith, DoneAs, TableDoneAs, SheetKept};
 use meaning::Answer;
 use meaning::Verdict;
@@ -28,6 +29,7 @@ fn refused(number: u8, place: u32) -> Done
     let places = [0u32; 8];
     let numbers = [0i32; 1024];
     let counts = [0u32; 8];
+    let output_marks = [0u8; 1024];
     Done {
         answer: Answer::Refused(number, place),
         cells,
@@ -36,6 +38,7 @@ fn refused(number: u8, place: u32) -> Done
         places,
         numbers,
         counts,
+        output_marks,
     }
 }
 
@@ -50,6 +53,7 @@ fn ran(r: Run) -> Done
     let places = r.places;
     let numbers = r.numbers;
     let counts = r.counts;
+    let output_marks = r.output_marks;
     Done {
         answer: Answer::Ran(outcome, r.steps, r.ready),
         cells,
@@ -58,6 +62,7 @@ fn ran(r: Run) -> Done
         places,
         numbers,
         counts,
+        output_marks,
     }
 }
 
@@ -75,7 +80,7 @@ fn run_readings<'a>(
     requires accepted { ⌜ check (now rows) ≡ none ⌝ }
     requires kept { ⌜ ((sheet : Sheet) × KeptReadings (now rows) sheet (now readings) (now given) lines) ⌝ }
     requires few { ⌜ lines ≤ 128 ⌝ }
-    ensures { λ d. ⌜ ((sheet : List ℕ) → SheetKept (now (rows .entry)) sheet (now (readings .entry)) (now (given .entry)) lines → DoneAs (taskWith (now (rows .entry)) sheet (now (choices .entry)) budget) d (listsLent (now (readied .entry)) (now (taken .entry))) (listsLent (now (readied .exit)) (now (taken .exit)))) ⌝ }
+    ensures { λ d. ⌜ ((sheet : List ℕ) → SheetKept (now (rows .entry)) sheet (now (readings .entry)) (now (given .entry)) lines → DoneAs (taskWith (now (rows .entry)) sheet (now (choices .entry)) budget) d (lentLists readied taken) (leftLists readied taken)) ⌝ }
 {
     if 65536 < budget {
         return refused(11, 0);
@@ -104,7 +109,7 @@ fn run_wide(
     taken: &mut [u16],
 ) -> Done
     requires { ⌜ check (now rows) ≡ none ⌝ }
-    ensures { λ d. ⌜ DoneAs (taskWith (now (rows .entry)) (now (sheet .entry)) (now (choices .entry)) budget) d (listsLent (now (readied .entry)) (now (taken .entry))) (listsLent (now (readied .exit)) (now (taken .exit))) ⌝ }
+    ensures { λ d. ⌜ DoneAs (lentTask rows sheet choices budget) d (lentLists readied taken) (leftLists readied taken) ⌝ }
 {
     let mut readings = [0i32; 1024];
     let mut given = [0u8; 1024];
@@ -134,7 +139,7 @@ fn run_sheet(
     taken: &mut [u16],
 ) -> Done
     requires { ⌜ check (now rows) ≡ none ⌝ }
-    ensures { λ d. ⌜ DoneAs (taskWith (now (rows .entry)) (now (sheet .entry)) (now (choices .entry)) budget) d (listsLent (now (readied .entry)) (now (taken .entry))) (listsLent (now (readied .exit)) (now (taken .exit))) ⌝ }
+    ensures { λ d. ⌜ DoneAs (lentTask rows sheet choices budget) d (lentLists readied taken) (leftLists readied taken) ⌝ }
 {
     let mut readings = [0i32; 512];
     let mut given = [0u8; 512];
@@ -163,7 +168,7 @@ pub fn do_rows(
     readied: &mut [u16],
     taken: &mut [u16],
 ) -> Done
-    ensures { λ d. ⌜ DoneAs (taskWith (now (rows .entry)) (now (sheet .entry)) (now (choices .entry)) budget) d (listsLent (now (readied .entry)) (now (taken .entry))) (listsLent (now (readied .exit)) (now (taken .exit))) ⌝ }
+    ensures { λ d. ⌜ DoneAs (lentTask rows sheet choices budget) d (lentLists readied taken) (leftLists readied taken) ⌝ }
 {
     let verdict = check_verdict::check_rows(rows);
     match verdict {
@@ -181,7 +186,7 @@ pub fn do_table(
     readied: &mut [u16],
     taken: &mut [u16],
 ) -> Done
-    ensures { λ d. ⌜ TableDoneAs (now (table .entry)) (now (sheet .entry)) (now (choices .entry)) budget d (listsLent (now (readied .entry)) (now (taken .entry))) (listsLent (now (readied .exit)) (now (taken .exit))) ⌝ }
+    ensures { λ d. ⌜ TableDoneAs (now (table .entry)) (now (sheet .entry)) (now (choices .entry)) budget d (lentLists readied taken) (leftLists readied taken) ⌝ }
 {
     let mut small = [0i32; 512];
     match read_table::read_table(table, &mut small) {
@@ -200,7 +205,7 @@ fn do_large(
     readied: &mut [u16],
     taken: &mut [u16],
 ) -> Done
-    ensures { λ d. ⌜ TableDoneAs (now (table .entry)) (now (sheet .entry)) (now (choices .entry)) budget d (listsLent (now (readied .entry)) (now (taken .entry))) (listsLent (now (readied .exit)) (now (taken .exit))) ⌝ }
+    ensures { λ d. ⌜ TableDoneAs (now (table .entry)) (now (sheet .entry)) (now (choices .entry)) budget d (lentLists readied taken) (leftLists readied taken) ⌝ }
 {
     let mut large = [0i32; 4096];
     match read_table::read_table(table, &mut large) {

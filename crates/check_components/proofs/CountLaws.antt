@@ -1,12 +1,15 @@
 -- What a subscript counts for, by the row of the subscript: a literal only its number, any other row every number.
 use mathlib.Core.Path.{_≡_, refl, sym, ap, _∙_}
+use mathlib.Core.Bool.{Bool, true, false}
 use mathlib.Core.List.{List, [], _∷_}
 use Prim.Native.Nat.{ℕ, _+_, _<_, _≤_}
 use native.Mathlib.Omega.{arith}
 use lib.IntN.{ℤ, pos, negsuc}
+use lib.Dec.{eqb}
 use borrow.Author.Tests.{lt-ltb, le-ltb}
+use Rattle.meaning.specs.Basics.{ifElse}
 use Rattle.meaning.specs.Rows.{naturalOf, rowCount, fieldAt, naturalAt, kindAt}
-use Rattle.meaning.specs.Tree.{Expr, literal, Content, contentAt, contentOf}
+use Rattle.meaning.specs.Tree.{literal, monadic, given, Content, operation, contentAt, contentOf}
 use Rattle.meaning.specs.Usage.{numbersFrom, countsFor}
 use Rattle.base_layout.proofs.Parts.{part-past, higherContent, part-of-kind}
 use Rattle.check_components.proofs.RowKinds.{each-kind, by-kind}
@@ -35,10 +38,18 @@ module _ (rows : List ℤ) (first size e : ℕ) where
   unfolding countsFor
   counts-past h = ap (λ (p : Content). countsFor first size (p .expr)) (part-past rows e h)
 
+  operation-all : (op : ℕ) (p : Content) → countsFor first size (operation op p) ≡ numbersFrom first size
+  unfolding countsFor
+  operation-all op p = go (eqb op 2)
+    where
+      go : (t : Bool) → countsFor first size (ifElse t (given (p .target .name) (p .target .subscript)) (monadic op (p .expr))) ≡ numbersFrom first size
+      go true = refl
+      go false = refl
+
   pub counts-all : e < rowCount rows → (kindAt rows e ≡ 10 → ⊥) → countsFor first size (contentAt rows e .expr) ≡ numbersFrom first size
   unfolding countsFor
   counts-all h n =
       by-kind rows e h (λ p. countsFor first size (p .expr) ≡ numbersFrom first size)
       (each-kind (λ x. countsFor first size (contentOf rows e (higherContent rows e) x .expr) ≡ numbersFrom first size) (kindAt rows e) (fieldAt rows e 1) (naturalAt rows e 1) (naturalAt rows e 2) (naturalAt rows e 3)
-      (λ q. absurd (n q)) (λ q. refl) (λ q. refl) (λ q. refl) (λ q. refl) (λ q. refl) (λ q. refl) (λ q. refl) (λ q. refl)
+      (λ q. absurd (n q)) (λ q. refl) (λ q. operation-all (naturalAt rows e 1) (higherContent rows e (naturalAt rows e 2))) (λ q. refl) (λ q. refl) (λ q. refl) (λ q. refl) (λ q. refl) (λ q. refl)
       (λ q. refl) (λ q. refl) (λ q. refl) (λ q. refl) (λ q. refl) (λ q. refl) (λ q. refl) (λ q. refl) (λ q. refl) refl)

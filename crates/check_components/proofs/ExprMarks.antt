@@ -1,14 +1,19 @@
 -- What the expression, the target, the input or the output of a row counts for, from what its operands do.
-use mathlib.Core.Path.{_≡_, refl, sym, ap, ap₂, _∙_}
-use mathlib.Core.List.{List, [], _∷_, _++_, append-nil, append-assoc}
-use mathlib.Core.Option.{Option, none, some}
+use mathlib.Core.Path.{_≡_, refl, sym, ap, ap₂, _∙_, subst}
+use mathlib.Core.Bool.{Bool, true, false}
+use mathlib.Core.List.{List, [], _∷_, _++_}
 use Prim.Native.Nat.{ℕ, _<_, _≤_}
+use native.Mathlib.Decide.{decLt}
+use native.Mathlib.Omega.{arith}
 use lib.IntN.{ℤ}
+use lib.Dec.{eqb}
+use borrow.Author.Tests.{eqb-true}
+use Rattle.meaning.specs.Basics.{ifElse}
 use Rattle.meaning.specs.Rows.{rowCount, fieldAt, naturalAt, kindAt}
 use Rattle.meaning.specs.Declarations.{variableAt, sourceAt, sinkAt}
-use Rattle.meaning.specs.Tree.{Expr, Target, ChannelInput, output, Content, contentOf, contentAt}
+use Rattle.meaning.specs.Tree.{monadic, given, output, Content, operation, contentOf, contentAt}
 use Rattle.meaning.specs.Usage.{numbersFrom, countsFor, standsIn}
-use Rattle.base_layout.specs.Operands.{operandAt}
+use Rattle.base_layout.specs.Operands.{operandAt, GivenElements}
 use Rattle.base_layout.proofs.Parts.{part-past, higherContent, part-of-kind}
 use Rattle.base_sets.specs.Sets.{inSort}
 use Rattle.check_components.specs.Marks.{markExpr, markTarget, markInput, marks}
@@ -44,6 +49,18 @@ module _ (rows : List ℤ) (r : ℕ) where
   unfolding marks outputIn
   of-output-marks p q s t = rw (p, q, s, t)
 
+  -- what GIVEN refers to is an element, or is not there
+  given-marks : (b : ℕ) → (b < rowCount rows → kindAt rows b ≡ 11) → markExpr (given (contentAt rows b .target .name) (contentAt rows b .target .subscript)) ≡ markExpr (contentAt rows b .expr)
+  unfolding markExpr standsIn countsFor numbersFrom
+  given-marks b f = go (decLt b (rowCount rows))
+    where
+      Same : Content → Type 0
+      Same p = markExpr (given (p .target .name) (p .target .subscript)) ≡ markExpr (p .expr)
+
+      go : Dec (b < rowCount rows) → Same (contentAt rows b)
+      go (yes l) = subst Same (sym (part-of-kind rows b 11 l (f l))) refl
+      go (no l) = subst Same (sym (part-past rows b (omega arith))) refl
+
   module _ (h : r < rowCount rows) where
     pub element-marks : kindAt rows r ≡ 11 → {b : ℕ} → b ≡ operandAt rows r 2 → markExpr (contentAt rows r .expr) ≡ inSort 1 (cellsIn rows r) ++ markExpr (contentAt rows b .expr)
     unfolding markExpr standsIn cellsIn targetIn
@@ -54,9 +71,19 @@ module _ (rows : List ℤ) (r : ℕ) where
         ∙ sort-append 1 (countsFor (v .first) (v .size) x) (standsIn x)
         ∙ ap₂ (λ (p q : Content). inSort 1 (countsFor (v .first) (v .size) (p .expr)) ++ inSort 1 (standsIn (q .expr))) (above-operand rows r 2 refl) (above-operand rows r 2 p)
 
-    pub monadic-marks : kindAt rows r ≡ 12 → {b : ℕ} → b ≡ operandAt rows r 2 → markExpr (contentAt rows r .expr) ≡ markExpr (contentAt rows b .expr)
+    pub monadic-marks : GivenElements rows → kindAt rows r ≡ 12 → {b : ℕ} → b ≡ operandAt rows r 2 → markExpr (contentAt rows r .expr) ≡ markExpr (contentAt rows b .expr)
     unfolding markExpr standsIn
-    monadic-marks e p = ap (λ (p : Content). markExpr (p .expr)) (part-of-kind rows r 12 h e) ∙ ap (λ (p : Content). markExpr (p .expr)) (above-operand rows r 2 p)
+    monadic-marks elements e {b} p =
+        ap (λ (p : Content). markExpr (p .expr)) (part-of-kind rows r 12 h e)
+        ∙ ap (λ (p : Content). markExpr (operation (naturalAt rows r 1) p)) (above-operand rows r 2 p)
+        ∙ go (eqb (naturalAt rows r 1) 2) refl
+      where
+        q : Content
+        q = contentAt rows b
+
+        go : (t : Bool) → eqb (naturalAt rows r 1) 2 ≡ t → markExpr (ifElse t (given (q .target .name) (q .target .subscript)) (monadic (naturalAt rows r 1) (q .expr))) ≡ markExpr (q .expr)
+        go true i = given-marks b (λ l. ap (kindAt rows) p ∙ elements r h e (eqb-true _ 2 i) (omega arith))
+        go false i = refl
 
     pub dyadic-marks : kindAt rows r ≡ 13 → {b c : ℕ} → b ≡ operandAt rows r 2 → c ≡ operandAt rows r 3 → markExpr (contentAt rows r .expr) ≡ markExpr (contentAt rows b .expr) ++ markExpr (contentAt rows c .expr)
     unfolding markExpr standsIn

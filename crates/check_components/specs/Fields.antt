@@ -1,4 +1,4 @@
--- What the fields of a row name and refer to: its operands' expressions, a target, an input, an output; and whether it is a link to members.
+-- What the fields of a row name and refer to: its operands' expressions, a target, an input, an output; whether it is a link to members; and what a walk over rows goes by.
 use mathlib.Core.Path.{_≡_}
 use mathlib.Core.Bool.{Bool, _&&_}
 use mathlib.Core.List.{List}
@@ -8,8 +8,14 @@ use lib.Dec.{leb, ltb}
 use Rattle.meaning.specs.Rows.{rowCount, naturalAt, kindAt}
 use Rattle.meaning.specs.Declarations.{variableAt, sourceAt, sinkAt}
 use Rattle.meaning.specs.Tree.{Expr, Target, ChannelInput, Action, output, contentAt}
-use Rattle.base_layout.specs.Operands.{operandAt}
+use Rattle.base_layout.specs.Operands.{operandAt, GivenElements}
+use Rattle.base_layout.specs.Names.{Named}
 use Rattle.check_components.specs.Marks.{targetCells}
+
+-- the names of the rows are noted, and what GIVEN refers to is an element
+pub record WalkFacts (rows : List ℤ) (names : List ℕ) : Type 0 where
+  pub named : Named rows names
+  pub given : GivenElements rows
 
 module _ (rows : List ℤ) (r : ℕ) where
   abbrev pub exprIn : ℕ → Expr

@@ -5,11 +5,10 @@ ghost use Rattle.meaning.specs.Rows.{rowCount, naturalAt};
 ghost use Rattle.meaning.specs.Declarations.{variableAt};
 ghost use Rattle.meaning.specs.Tree.{contentAt};
 ghost use Rattle.meaning.specs.Usage.{countsFor, ofGuard, gatherAll};
-ghost use Rattle.base_layout.specs.Names.{Named};
 ghost use Rattle.base_layout.specs.Operands.{operandAt};
 ghost use Rattle.base_sets.specs.Sets.{withAll, inSort};
 ghost use Rattle.check_components.specs.Marks.{markExpr, markTarget, markInput, markChoices, markGuard, markOptions, marks, ownMarks, allMarks};
-ghost use Rattle.check_components.specs.Fields.{targetIn, cellsIn, inputIn, outputIn, isLink, NotIfWhileAlt};
+ghost use Rattle.check_components.specs.Fields.{targetIn, cellsIn, inputIn, outputIn, isLink, NotIfWhileAlt, WalkFacts};
 use base_layout::nodes::natural;
 use base_layout::nodes::operand;
 use base_layout::sink_at;
@@ -46,7 +45,7 @@ fn count(rows: &[i32], e: usize, sort: usize, first: u32, size: u32, sets: &mut 
 
 // The cells that row r means by the variable of its field a and the subscript of its field b.
 fn cells<'a>(rows: &'a [i32], names: &'a [u16], r: usize, sort: usize, sets: &mut [u64])
-    requires { ⌜ (sort < 4) × (r < rowCount (now rows)) × Named (now rows) (now names) ⌝ }
+    requires { ⌜ (sort < 4) × (r < rowCount (now rows)) × WalkFacts (now rows) (now names) ⌝ }
     ensures { λ _. ⌜ now (sets .exit) ≡ withAll (now (sets .entry)) (inSort sort (cellsIn (now (rows .entry)) r)) ⌝ }
 {
     let v = variable_at(names, natural(rows, r, 1));
@@ -55,7 +54,7 @@ fn cells<'a>(rows: &'a [i32], names: &'a [u16], r: usize, sort: usize, sets: &mu
 
 // The cells that stand in the expression of row e, subscripts included.
 fn expression<'a>(rows: &'a [i32], names: &'a [u16], e: usize, sets: &mut [u64])
-    requires { ⌜ Named (now rows) (now names) ⌝ }
+    requires { ⌜ WalkFacts (now rows) (now names) ⌝ }
     ensures { λ _. ⌜ now (sets .exit) ≡ withAll (now (sets .entry)) (markExpr (contentAt (now (rows .entry)) e .expr)) ⌝ }
 {
     if rows.len() / 4 <= e {
@@ -79,7 +78,7 @@ fn expression<'a>(rows: &'a [i32], names: &'a [u16], e: usize, sets: &mut [u64])
 
 // The target of row r, by its fields a and b: it is changed and used, and its subscript stands in it.
 fn target<'a>(rows: &'a [i32], names: &'a [u16], r: usize, sets: &mut [u64])
-    requires { ⌜ (r < rowCount (now rows)) × Named (now rows) (now names) ⌝ }
+    requires { ⌜ (r < rowCount (now rows)) × WalkFacts (now rows) (now names) ⌝ }
     ensures { λ _. ⌜ now (sets .exit) ≡ withAll (now (sets .entry)) (markTarget (targetIn (now (rows .entry)) r)) ⌝ }
 {
     cells(rows, names, r, CHANGED, sets);
@@ -89,7 +88,7 @@ fn target<'a>(rows: &'a [i32], names: &'a [u16], r: usize, sets: &mut [u64])
 
 // The target that stands at row c, if one does.
 fn target_at<'a>(rows: &'a [i32], names: &'a [u16], c: usize, sets: &mut [u64])
-    requires { ⌜ Named (now rows) (now names) ⌝ }
+    requires { ⌜ WalkFacts (now rows) (now names) ⌝ }
     ensures { λ _. ⌜ now (sets .exit) ≡ withAll (now (sets .entry)) (markTarget (contentAt (now (rows .entry)) c .target)) ⌝ }
 {
     if c < rows.len() / 4 {
@@ -101,7 +100,7 @@ fn target_at<'a>(rows: &'a [i32], names: &'a [u16], c: usize, sets: &mut [u64])
 
 // The input of row r: its target, its subscript, and the elements of its channel.
 fn of_input<'a>(rows: &'a [i32], names: &'a [u16], r: usize, sets: &mut [u64])
-    requires { ⌜ (r < rowCount (now rows)) × Named (now rows) (now names) ⌝ }
+    requires { ⌜ (r < rowCount (now rows)) × WalkFacts (now rows) (now names) ⌝ }
     ensures { λ _. ⌜ now (sets .exit) ≡ withAll (now (sets .entry)) (markInput (inputIn (now (rows .entry)) r)) ⌝ }
 {
     target_at(rows, names, operand(rows, r, 3), sets);
@@ -113,7 +112,7 @@ fn of_input<'a>(rows: &'a [i32], names: &'a [u16], r: usize, sets: &mut [u64])
 
 // The output of row r: the elements of its channel, its subscript, and its expression.
 fn of_output<'a>(rows: &'a [i32], names: &'a [u16], r: usize, sets: &mut [u64])
-    requires { ⌜ (r < rowCount (now rows)) × Named (now rows) (now names) ⌝ }
+    requires { ⌜ (r < rowCount (now rows)) × WalkFacts (now rows) (now names) ⌝ }
     ensures { λ _. ⌜ now (sets .exit) ≡ withAll (now (sets .entry)) (marks (outputIn (now (rows .entry)) r)) ⌝ }
 {
     let at = operand(rows, r, 2);
@@ -125,7 +124,7 @@ fn of_output<'a>(rows: &'a [i32], names: &'a [u16], r: usize, sets: &mut [u64])
 
 // The booleans of the choices from row m on.
 fn choices<'a>(rows: &'a [i32], names: &'a [u16], m: usize, sets: &mut [u64])
-    requires { ⌜ Named (now rows) (now names) ⌝ }
+    requires { ⌜ WalkFacts (now rows) (now names) ⌝ }
     ensures { λ _. ⌜ now (sets .exit) ≡ withAll (now (sets .entry)) (markChoices (contentAt (now (rows .entry)) m .tests)) ⌝ }
 {
     if rows.len() / 4 <= m {
@@ -139,7 +138,7 @@ fn choices<'a>(rows: &'a [i32], names: &'a [u16], m: usize, sets: &mut [u64])
 
 // The input of the guard of row g, if it has one.
 fn guard_input<'a>(rows: &'a [i32], names: &'a [u16], g: usize, sets: &mut [u64])
-    requires { ⌜ Named (now rows) (now names) ⌝ }
+    requires { ⌜ WalkFacts (now rows) (now names) ⌝ }
     ensures { λ _. ⌜ now (sets .exit) ≡ withAll (now (sets .entry)) (ofGuard markInput (contentAt (now (rows .entry)) g .guard .input)) ⌝ }
 {
     if rows.len() / 4 <= g {
@@ -158,7 +157,7 @@ fn guard_input<'a>(rows: &'a [i32], names: &'a [u16], g: usize, sets: &mut [u64]
 
 // The boolean of the guard of row g.
 fn guard_boolean<'a>(rows: &'a [i32], names: &'a [u16], g: usize, sets: &mut [u64])
-    requires { ⌜ Named (now rows) (now names) ⌝ }
+    requires { ⌜ WalkFacts (now rows) (now names) ⌝ }
     ensures { λ _. ⌜ now (sets .exit) ≡ withAll (now (sets .entry)) (markExpr (contentAt (now (rows .entry)) g .guard .boolean)) ⌝ }
 {
     if g < rows.len() / 4 {
@@ -170,7 +169,7 @@ fn guard_boolean<'a>(rows: &'a [i32], names: &'a [u16], g: usize, sets: &mut [u6
 
 // The guards of the options from row m on.
 fn options<'a>(rows: &'a [i32], names: &'a [u16], m: usize, sets: &mut [u64])
-    requires { ⌜ Named (now rows) (now names) ⌝ }
+    requires { ⌜ WalkFacts (now rows) (now names) ⌝ }
     ensures { λ _. ⌜ now (sets .exit) ≡ withAll (now (sets .entry)) (markOptions (contentAt (now (rows .entry)) m .options)) ⌝ }
 {
     if rows.len() / 4 <= m {
@@ -186,7 +185,7 @@ fn options<'a>(rows: &'a [i32], names: &'a [u16], m: usize, sets: &mut [u64])
 
 // What the assignment, input or output at row r counts for; nothing if another row stands there that is no IF, WHILE or ALT.
 fn step<'a>(rows: &'a [i32], names: &'a [u16], r: usize, sets: &mut [u64])
-    requires { ⌜ (r < rowCount (now rows)) × Named (now rows) (now names) × NotIfWhileAlt (now rows) r ⌝ }
+    requires { ⌜ (r < rowCount (now rows)) × WalkFacts (now rows) (now names) × NotIfWhileAlt (now rows) r ⌝ }
     ensures { λ _. ⌜ now (sets .exit) ≡ withAll (now (sets .entry)) (ownMarks (contentAt (now (rows .entry)) r .process)) ⌝ }
 {
     match natural(rows, r, 0) {
@@ -206,7 +205,7 @@ fn step<'a>(rows: &'a [i32], names: &'a [u16], r: usize, sets: &mut [u64])
 
 // What the process of row r does by itself, if one stands there.
 fn action<'a>(rows: &'a [i32], names: &'a [u16], r: usize, sets: &mut [u64])
-    requires { ⌜ (r < rowCount (now rows)) × Named (now rows) (now names) ⌝ }
+    requires { ⌜ (r < rowCount (now rows)) × WalkFacts (now rows) (now names) ⌝ }
     ensures { λ _. ⌜ now (sets .exit) ≡ withAll (now (sets .entry)) (ownMarks (contentAt (now (rows .entry)) r .process)) ⌝ }
 {
     match natural(rows, r, 0) {
@@ -241,7 +240,7 @@ pub fn is_link(rows: &[i32], m: usize) -> bool
 
 // The walk over a process, if one stands at row r: its own action, and then its members.
 pub fn walk_process<'a>(rows: &'a [i32], names: &'a [u16], r: usize, sets: &mut [u64])
-    requires { ⌜ Named (now rows) (now names) ⌝ }
+    requires { ⌜ WalkFacts (now rows) (now names) ⌝ }
     ensures { λ _. ⌜ now (sets .exit) ≡ withAll (now (sets .entry)) (allMarks (contentAt (now (rows .entry)) r .process)) ⌝ }
 {
     if rows.len() / 4 <= r {
@@ -270,7 +269,7 @@ pub fn walk_process<'a>(rows: &'a [i32], names: &'a [u16], r: usize, sets: &mut 
 
 // The walk over the member list at row m.
 fn walk_members<'a>(rows: &'a [i32], names: &'a [u16], m: usize, sets: &mut [u64])
-    requires { ⌜ Named (now rows) (now names) ⌝ }
+    requires { ⌜ WalkFacts (now rows) (now names) ⌝ }
     ensures { λ _. ⌜ now (sets .exit) ≡ withAll (now (sets .entry)) (gatherAll (contentAt (now (rows .entry)) m .listed) marks) ⌝ }
 {
     if is_link(rows, m) {

@@ -1,7 +1,8 @@
 // Refusal 4: what each field of a row may hold, by the shape of its kind.
 ghost use mathlib.Core.Path.{_≡_};
-ghost use mathlib.Core.Bool.{_&&_, _||_};
+ghost use mathlib.Core.Bool.{not, _&&_, _||_};
 ghost use Prim.Native.Nat.{ℕ};
+ghost use lib.IntN.{pos};
 ghost use lib.Dec.{eqb};
 ghost use Rattle.meaning.specs.Basics.{eqZ, inside, anyPasses, lowest};
 ghost use Rattle.meaning.specs.Rows.{rowCount, kindAt};
@@ -54,6 +55,33 @@ fn names_channel(rows: &[i32], d: usize, roles: u64, z: i32) -> bool
     false
 }
 
+// Whether a number names a row of another kind than an element.
+fn names_other(rows: &[i32], z: i32) -> bool
+    ensures { λ t. ⌜ t ≡ names (rowCount (now (rows .entry))) (λ q. not (eqb (kindAt (now (rows .entry)) q) 11)) z ⌝ }
+{
+    if z < 0 {
+        return false;
+    }
+    let q = base_rows::natural(z) as usize;
+    if q < base_rows::row_count(rows) {
+        return base_rows::kind(rows, q) != 11;
+    }
+    false
+}
+
+// Whether a number is a monadic operator, beside its operand: 0 to 2; not 2 where the operand is a row of another kind than an element.
+fn is_operator(rows: &[i32], operand: i32, z: i32) -> bool
+    ensures { λ t. ⌜ t ≡ (inside (pos 0) (pos 2) z && not (eqZ z (pos 2) && names (rowCount (now (rows .entry))) (λ q. not (eqb (kindAt (now (rows .entry)) q) 11)) operand)) ⌝ }
+{
+    if base_rows::inside(0, 2, z) {
+        if base_rows::same(z, 2) {
+            return !names_other(rows, operand);
+        }
+        return true;
+    }
+    false
+}
+
 // Whether a field of row r, of d declarations, may hold a number: by its entry in the table of kinds.
 fn holds(rows: &[i32], d: usize, r: usize, entry: u64, z: i32) -> bool
     requires { ⌜ d ≡ declarations (now rows) ⌝ }
@@ -69,6 +97,7 @@ fn holds(rows: &[i32], d: usize, r: usize, entry: u64, z: i32) -> bool
         base_kinds::CHANNEL => names_channel(rows, d, m, z),
         base_kinds::REFERENCE => true,
         base_kinds::LINK => true,
+        base_kinds::OPERATOR => is_operator(rows, base_rows::field(rows, r, 2), z),
         _ => base_rows::same(z, 0),
     }
 }

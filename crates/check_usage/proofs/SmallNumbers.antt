@@ -11,7 +11,7 @@ use Rattle.meaning.specs.Rows.{naturalAt, kindAt}
 use Rattle.meaning.specs.Basics.{ifElse, anyPasses, among}
 use Rattle.meaning.specs.Declarations.{declarations, Variable, Channel, noVariable, noChannel, sumBelow, isVariable, isChannel, hasRole, cellsAt, elementsAt, hostChannelsAt, capacityAt, variableAt, channelAt, sourceAt, sinkAt}
 use Rattle.meaning.specs.Faults.{WithinLimits}
-use Rattle.meaning.specs.Tree.{Expr, literal, element, monadic, dyadic, noExpr}
+use Rattle.meaning.specs.Tree.{Expr, literal, element, monadic, given, dyadic, noExpr}
 use Rattle.meaning.specs.Usage.{numbersFrom, onlyIf, countsFor}
 use Rattle.base_sets.specs.Sets.{inSort}
 use Rattle.check_usage.proofs.Compared.{Small}
@@ -46,6 +46,7 @@ module _ (s : ℕ) (hs : s < 4) where
   counts-small first n (literal (negsuc k)) h = none-small
   counts-small first n (element v e) h = range-small first n h
   counts-small first n (monadic op e) h = range-small first n h
+  counts-small first n (given v e) h = range-small first n h
   counts-small first n (dyadic op e f) h = range-small first n h
   counts-small first n noExpr h = range-small first n h
 

@@ -7,21 +7,21 @@ use Prim.Native.Nat.{ℕ, zero, suc, _-_, _<_, _≤_}
 use native.Mathlib.Decide.{decLt}
 use native.Mathlib.Omega.{arith}
 use lib.IntN.{ℤ, pos}
-use lib.Dec.{ltb}
+use lib.Dec.{ltb, eqb}
 use Rattle.meaning.specs.Basics.{ifElse}
 use borrow.Author.Tests.{ltb-true}
 use Rattle.meaning.specs.Rows.{rowCount, fieldAt, naturalAt, kindAt}
 use Rattle.meaning.specs.Declarations.{declarations, Variable, variableAt, sourceAt, sinkAt}
 use Rattle.meaning.specs.Faults.{WithinLimits}
-use Rattle.meaning.specs.Tree.{Expr, literal, element, monadic, dyadic, noExpr, Target, ChannelInput, IfChoice, AltGuard, AltOption, Action, stop, skip, sequence, parallel, assign, input, output, conditional, loop, alternation, Process, node, Processes, empty, andProcess, Content, noContent, contentOf, contentAt, ofExpr, ofElement, ofProcess, ofGuarded, ofGuardRow, ofLink}
+use Rattle.meaning.specs.Tree.{Expr, literal, element, monadic, given, dyadic, noExpr, Target, ChannelInput, IfChoice, AltGuard, AltOption, Action, stop, skip, sequence, parallel, assign, input, output, conditional, loop, alternation, Process, node, Processes, empty, andProcess, Content, noContent, operation, contentOf, contentAt, ofExpr, ofElement, ofProcess, ofGuarded, ofGuardRow, ofLink}
 use Rattle.meaning.specs.Usage.{numbersFrom, countsFor, standsIn, ofGuard, gather, gatherAll}
 use Rattle.base_layout.proofs.Parts.{part-past, higherContent}
 use Rattle.base_sets.specs.Sets.{inSort}
-use Rattle.check_components.specs.Marks.{markExpr, markTarget, markInput, markChoices, markGuard, markOptions, marks, allMarks}
+use Rattle.check_components.specs.Marks.{targetCells, markExpr, markTarget, markInput, markChoices, markGuard, markOptions, marks, allMarks}
 use Rattle.base_sets.proofs.SetLaws.{sort-append}
 use Rattle.check_components.proofs.RowKinds.{each-kind, by-kind}
 use Rattle.check_components.proofs.Links.{and-member}
-use Rattle.check_usage.proofs.Compared.{Small, small-append}
+use Rattle.check_usage.proofs.Compared.{Small, small-right, small-append}
 use Rattle.check_usage.proofs.SmallNumbers.{none-small, counts-small, variable-small, source-small, sink-small}
 
 -- all that counts at a part
@@ -100,9 +100,18 @@ module _ (rows : List ℤ) (limits : (r : ℕ) → r < declarations rows → Wit
   unfolding markExpr standsIn
   dyadic-small op e f h g = subst Small (sym (sort-append 1 (standsIn e) (standsIn f))) (small-append (inSort 1 (standsIn e)) (inSort 1 (standsIn f)) h g)
 
-  monadic-small : (op : ℕ) (e : Expr) → Small (markExpr e) → Small (markExpr (monadic op e))
+  -- GIVEN's element counts as a target does, but is not changed
+  given-small : (t : Target) → Small (markTarget t) → Small (markExpr (given (t .name) (t .subscript)))
+  unfolding markTarget markExpr standsIn
+  given-small t h = subst Small (sym (sort-append 1 (targetCells t) (standsIn (t .subscript)))) (small-right (inSort 0 (targetCells t)) _ h)
+
+  operation-small : (op : ℕ) (p : Content) → PartSmall p → Small (markExpr (operation op p))
   unfolding markExpr standsIn
-  monadic-small op e h = h
+  operation-small op p h = go (eqb op 2)
+    where
+      go : (t : Bool) → Small (markExpr (ifElse t (given (p .target .name) (p .target .subscript)) (monadic op (p .expr))))
+      go true = given-small (p .target) (h .target)
+      go false = h .expr
 
   target-small : (a : ℕ) (e : Expr) → Small (markExpr e) → Small (markTarget (record { name = variableAt rows a; subscript = e }))
   unfolding markTarget
@@ -162,7 +171,7 @@ module _ (rows : List ℤ) (limits : (r : ℕ) → r < declarations rows → Wit
         (each-kind (λ x. PartSmall (contentOf rows r (higherContent rows r) x)) (kindAt rows r) (fieldAt rows r 1) a b c
         (λ q. from-expr _ (no-expr (fieldAt rows r 1)))
         (λ q. from-element _ _ (element-small a _ (at b .expr)) (target-small a _ (at b .expr)))
-        (λ q. from-expr _ (monadic-small a _ (at b .expr)))
+        (λ q. from-expr _ (operation-small a (higherContent rows r b) (at b)))
         (λ q. from-expr _ (dyadic-small a _ _ (at b .expr) (at c .expr)))
         (λ q. from-process stop r empty (plain .0) no-members)
         (λ q. from-guarded skip r none (plain .1) none-small)

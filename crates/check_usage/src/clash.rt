@@ -4,8 +4,8 @@ ghost use Prim.Native.Nat.{_<_};
 ghost use lib.ListN.{length};
 ghost use Rattle.meaning.specs.Rows.{rowCount};
 ghost use Rattle.meaning.specs.Tree.{contentAt};
-ghost use Rattle.base_layout.specs.Names.{Named};
 ghost use Rattle.base_sets.specs.Sets.{noNumbers};
+ghost use Rattle.check_components.specs.Fields.{WalkFacts};
 ghost use Rattle.check_usage.specs.Clashes.{bothOf, clashWith, clashesFrom, clashesAt};
 use base_layout::nodes::natural;
 use base_layout::nodes::operand;
@@ -39,7 +39,7 @@ fn with_member<'a>(c: Clash, before: &'a [u64], own: &'a [u64]) -> Clash
 
 // The clashes of the members at row m with each other.
 fn among_members<'a>(rows: &'a [i32], names: &'a [u16], m: usize) -> Clash
-    requires { ⌜ Named (now rows) (now names) ⌝ }
+    requires { ⌜ WalkFacts (now rows) (now names) ⌝ }
     ensures { λ c. ⌜ c ≡ clashesFrom noNumbers (contentAt (now (rows .entry)) m .listed) ⌝ }
 {
     let mut earlier = [0u64; 16];
@@ -61,7 +61,7 @@ fn among_members<'a>(rows: &'a [i32], names: &'a [u16], m: usize) -> Clash
 
 // The clashes of the members of the PAR at row r, if it is one.
 pub fn clash_at<'a>(rows: &'a [i32], names: &'a [u16], r: usize) -> Clash
-    requires { ⌜ (r < rowCount (now rows)) × Named (now rows) (now names) ⌝ }
+    requires { ⌜ (r < rowCount (now rows)) × WalkFacts (now rows) (now names) ⌝ }
     ensures { λ c. ⌜ c ≡ clashesAt (now (rows .entry)) r ⌝ }
 {
     if natural(rows, r, 0) == 31 {

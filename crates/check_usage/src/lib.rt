@@ -3,10 +3,10 @@ ghost use mathlib.Core.Path.{_≡_};
 ghost use mathlib.Core.Option.{none};
 ghost use Prim.Native.Nat.{_≤_};
 ghost use Rattle.meaning.specs.Rows.{rowCount};
-ghost use Rattle.meaning.specs.Verdict.{limitFault};
+ghost use Rattle.meaning.specs.Verdict.{formFault, limitFault};
 ghost use Rattle.meaning.specs.Usage.{usageFault};
 ghost use Rattle.meaning.specs.Answers.{verdictOf};
-ghost use Rattle.base_layout.specs.Names.{Named};
+ghost use Rattle.check_components.specs.Fields.{WalkFacts};
 ghost use Rattle.check_usage.specs.Clashes.{earliest};
 
 mod clash; // clash.rt: clashes of the members of a PAR
@@ -29,7 +29,7 @@ fn earliest_of(found: usize, n: usize, here: bool, r: usize) -> usize
 
 // The refusal of a table within the limits whose rows name what `names` says.
 fn usage_fault_with<'a>(rows: &'a [i32], names: &'a [u16]) -> Verdict
-    requires { ⌜ (rowCount (now rows) ≤ 1024) × (limitFault (now rows) ≡ none) × Named (now rows) (now names) ⌝ }
+    requires { ⌜ (rowCount (now rows) ≤ 1024) × (limitFault (now rows) ≡ none) × WalkFacts (now rows) (now names) ⌝ }
     ensures { λ v. ⌜ v ≡ verdictOf (usageFault (now (rows .entry))) ⌝ }
 {
     let n = rows.len() / 4;
@@ -54,9 +54,9 @@ fn usage_fault_with<'a>(rows: &'a [i32], names: &'a [u16]) -> Verdict
     Verdict::Accepted
 }
 
-// The refusal of a table within the limits. A table of at most 200 rows has room in a shorter list of names.
+// The refusal of a table of right form within the limits. A table of at most 200 rows has room in a shorter list of names.
 pub fn usage_fault(rows: &[i32]) -> Verdict
-    requires { ⌜ (rowCount (now rows) ≤ 1024) × (limitFault (now rows) ≡ none) ⌝ }
+    requires { ⌜ (rowCount (now rows) ≤ 1024) × (formFault (now rows) ≡ none) × (limitFault (now rows) ≡ none) ⌝ }
     ensures { λ v. ⌜ v ≡ verdictOf (usageFault (now (rows .entry))) ⌝ }
 {
     if rows.len() <= 800 {

@@ -38,12 +38,12 @@ module _ (rows : List ℤ) where
   pub usage-judged : firstFault formStages rows ≡ none → verdictOf (usageFault rows) ≡ verdictOf (check rows)
   usage-judged e = rw (checked, e)
 
-  -- rows that the stages 3 to 6 refuse nothing in are within the limits
-  pub form-limits : firstFault formStages rows ≡ none → (rowCount rows ≤ 1024) × (limitFault rows ≡ none)
+  -- rows that the stages 3 to 6 refuse nothing in are few, of right form and within the limits
+  pub form-limits : firstFault formStages rows ≡ none → (rowCount rows ≤ 1024) × (formFault rows ≡ none) × (limitFault rows ≡ none)
   form-limits e = go (none-found rows formStages e)
     where
-      go : Each (λ (s : Stage (List ℤ)). s rows ≡ none) formStages → (rowCount rows ≤ 1024) × (limitFault rows ≡ none)
-      go (each-more a (each-more b (each-more c (each-more d each-none)))) = (whole-passes rows .0 a .1, d)
+      go : Each (λ (s : Stage (List ℤ)). s rows ≡ none) formStages → (rowCount rows ≤ 1024) × (formFault rows ≡ none) × (limitFault rows ≡ none)
+      go (each-more a (each-more b (each-more c (each-more d each-none)))) = (whole-passes rows .0 a .1, b, d)
 
 module _ (bytes : List ℕ) where
   pub bytes-refused : (n p : ℕ) → bytesFault bytes ≡ some (n, p) → Rejected n p ≡ verdictOf (checkBytes bytes)

@@ -1,6 +1,6 @@
 -- The machine's arrays: what is read from them, and that they hold a changed state after the matching change of one element.
 use mathlib.Core.Path.{_≡_, refl, sym, ap, ap₂, _∙_}
-use mathlib.Core.Option.{none, some}
+use mathlib.Core.Option.{none}
 use mathlib.Core.List.{List, [], _∷_, _++_, map}
 use Prim.Native.Nat.{ℕ, suc, _+_, _<_, _≤_}
 use native.Mathlib.Omega.{arith}
@@ -13,19 +13,15 @@ use Rattle.meaning.specs.Values.{Message}
 use Rattle.meaning.specs.State.{State, program, writeCell, writePlace, writeOutput}
 use Rattle.meaning.specs.Settle.{start}
 use Rattle.meaning.specs.Buffers.{Buffers, lent, mark, numberIn, capacities, strips, encode, cellOf}
-use Rattle.meaning.proofs.LentLaws.{lent-set, blank-at, blank-length, blank-defaults}
+use Rattle.meaning.proofs.LentLaws.{cell-back, lent-set, blank-at, blank-length, blank-defaults}
 use Rattle.machine.specs.Held.{blank, HoldsState, sumOf, stripStart, withWrite, withState, putCell, putPlace, putState, putOutput, Lengths, Room}
 use Rattle.machine.proofs.Lists.{map-set, map-replicate}
 use Rattle.machine.proofs.Strips.{strip-within, strips-length, strips-more, strips-empty}
 use Rattle.machine.proofs.Declared.{capacities-length}
 
 -- buffers with equal fields
-pub buffers-path : (b c : Buffers) → b .cells ≡ c .cells → b .marks ≡ c .marks → b .states ≡ c .states → b .places ≡ c .places → b .numbers ≡ c .numbers → b .counts ≡ c .counts → b ≡ c
-buffers-path b c p q r t u v = λ i. record { cells = p i; marks = q i; states = r i; places = t i; numbers = u i; counts = v i }
-
-cell-back : (m : Message) → cellOf (numberIn m) (mark m) ≡ m
-cell-back none = refl
-cell-back (some x) = refl
+pub buffers-path : (b c : Buffers) → b .cells ≡ c .cells → b .marks ≡ c .marks → b .states ≡ c .states → b .places ≡ c .places → b .numbers ≡ c .numbers → b .counts ≡ c .counts → b .outputMarks ≡ c .outputMarks → b ≡ c
+buffers-path b c p q r t u v w = λ i. record { cells = p i; marks = q i; states = r i; places = t i; numbers = u i; counts = v i; outputMarks = w i }
 
 -- ---- the arrays
 
@@ -50,9 +46,13 @@ module _ (rows : List ℤ) (s : State) (b : Buffers) (h : HoldsState rows s b) w
   unfolding encode blank
   counts-are = ap (λ (c : Buffers). c .counts) h
 
-  numbers-are : b .numbers ≡ lent maxCapacity (pos 0) (strips (capacities rows) (s .store .outputs)) (replicate maxCapacity (pos 0))
+  numbers-are : b .numbers ≡ lent maxCapacity (pos 0) (map numberIn (strips (capacities rows) (s .store .outputs))) (replicate maxCapacity (pos 0))
   unfolding encode blank
   numbers-are = ap (λ (c : Buffers). c .numbers) h
+
+  output-marks-are : b .outputMarks ≡ lent maxCapacity 0 (map mark (strips (capacities rows) (s .store .outputs))) (replicate maxCapacity 0)
+  unfolding encode blank
+  output-marks-are = ap (λ (c : Buffers). c .outputMarks) h
 
   pub marks-long : length (b .marks) ≡ maxCells
   marks-long = rw marks-are (blank-length 0 maxCells (map mark (s .store .cells)))
@@ -118,7 +118,7 @@ module _ (rows : List ℤ) (R : Room rows) (s : State) (L : Lengths rows s) (b :
       ∙ ap (λ (l : List ℤ). lent maxCells (pos 0) l (replicate maxCells (pos 0))) (sym (map-set numberIn (s .store .cells) a m)))
       (changed maxCells a 0 (mark m) (map mark (s .store .cells)) (b .marks) (replicate maxCells 0) (marks-are rows s b h) (omega (arith, length-map (s .store .cells) mark, L .cells)) marks-fit
       ∙ ap (λ (l : List ℕ). lent maxCells 0 l (replicate maxCells 0)) (sym (map-set mark (s .store .cells) a m)))
-      (ap (λ (c : Buffers). c .states) h) (ap (λ (c : Buffers). c .places) h) (ap (λ (c : Buffers). c .numbers) h) (ap (λ (c : Buffers). c .counts) h)
+      (ap (λ (c : Buffers). c .states) h) (ap (λ (c : Buffers). c .places) h) (ap (λ (c : Buffers). c .numbers) h) (ap (λ (c : Buffers). c .counts) h) (ap (λ (c : Buffers). c .outputMarks) h)
 
   -- a place
   pub hold-place : (p k : ℕ) → p < hostChannels 1 rows → HoldsState rows (withWrite (writePlace p k) s) (putPlace p k b)
@@ -127,7 +127,7 @@ module _ (rows : List ℤ) (R : Room rows) (s : State) (L : Lengths rows s) (b :
       buffers-path (putPlace p k b) (encode rows (withWrite (writePlace p k) s) blank)
       (ap (λ (c : Buffers). c .cells) h) (ap (λ (c : Buffers). c .marks) h) (ap (λ (c : Buffers). c .states) h)
       (changed maxHostChannels p 0 k (s .store .places) (b .places) (replicate maxHostChannels 0) (places-are rows s b h) (omega (arith, L .places)) places-fit)
-      (ap (λ (c : Buffers). c .numbers) h) (ap (λ (c : Buffers). c .counts) h)
+      (ap (λ (c : Buffers). c .numbers) h) (ap (λ (c : Buffers). c .counts) h) (ap (λ (c : Buffers). c .outputMarks) h)
 
   -- the state of a row
   pub hold-state : (r v : ℕ) → r < rowCount rows → HoldsState rows (withState r v s) (putState r v b)
@@ -136,24 +136,38 @@ module _ (rows : List ℤ) (R : Room rows) (s : State) (L : Lengths rows s) (b :
       buffers-path (putState r v b) (encode rows (withState r v s) blank)
       (ap (λ (c : Buffers). c .cells) h) (ap (λ (c : Buffers). c .marks) h)
       (changed maxRows r 0 v (s .states) (b .states) (replicate maxRows 0) (states-are rows s b h) (omega (arith, L .states)) states-fit)
-      (ap (λ (c : Buffers). c .places) h) (ap (λ (c : Buffers). c .numbers) h) (ap (λ (c : Buffers). c .counts) h)
+      (ap (λ (c : Buffers). c .places) h) (ap (λ (c : Buffers). c .numbers) h) (ap (λ (c : Buffers). c .counts) h) (ap (λ (c : Buffers). c .outputMarks) h)
 
   -- one more message for a channel to the host that has room
   pub hold-output : (p : ℕ) (l : List Message) (m : Message) → p < hostChannels 2 rows → getD (s .store .outputs) p [] ≡ l → length l < getD (capacities rows) p 0
       → HoldsState rows (withWrite (writeOutput p (l ++ (m ∷ []))) s) (putOutput rows p (length l) m b)
   unfolding encode blank stripStart
   hold-output p l m k e c =
-      let n = strips-length (capacities rows) (s .store .outputs) same-count in
-      let w = strip-within (capacities rows) p (omega (arith, capacities-length rows)) in
       let counts = map (λ (x : List Message). length x) (s .store .outputs) in
       let one : length (l ++ (m ∷ [])) ≡ suc (length l) = omega (arith, length-append l (m ∷ [])) in
       buffers-path (putOutput rows p (length l) m b) (encode rows (withWrite (writeOutput p (l ++ (m ∷ []))) s) blank)
       (ap (λ (x : Buffers). x .cells) h) (ap (λ (x : Buffers). x .marks) h) (ap (λ (x : Buffers). x .states) h) (ap (λ (x : Buffers). x .places) h)
-      (changed maxCapacity (sumOf (take p (capacities rows)) + length l) (pos 0) (numberIn m) (strips (capacities rows) (s .store .outputs)) (b .numbers) (replicate maxCapacity (pos 0))
-      (numbers-are rows s b h) (omega (arith, n, w)) (omega (arith, n, R .numbers))
-      ∙ ap (λ (x : List ℤ). lent maxCapacity (pos 0) x (replicate maxCapacity (pos 0))) (sym (strips-more (capacities rows) (s .store .outputs) p l m same-count (omega (arith, L .outputs)) e c)))
+      (in-strip (pos 0) numberIn (b .numbers) (numbers-are rows s b h))
       (changed maxHostChannels p 0 (suc (length l)) counts (b .counts) (replicate maxHostChannels 0) (counts-are rows s b h) (omega (arith, length-map (s .store .outputs) (λ (x : List Message). length x), L .outputs)) counts-fit
       ∙ ap (λ (x : List ℕ). lent maxHostChannels 0 x (replicate maxHostChannels 0)) (ap (set counts p) (sym one) ∙ sym (map-set (λ (x : List Message). length x) (s .store .outputs) p (l ++ (m ∷ [])))))
+      (in-strip 0 mark (b .outputMarks) (output-marks-are rows s b h))
+    where
+      messages : List Message
+      messages = strips (capacities rows) (s .store .outputs)
+
+      at : ℕ
+      at = sumOf (take p (capacities rows)) + length l
+
+      -- the numbers and the marks of the strips
+      in-strip : {A : Type 0} (d : A) (f : Message → A) (held : List A) → held ≡ lent maxCapacity d (map f messages) (replicate maxCapacity d)
+          → set held at (f m) ≡ lent maxCapacity d (map f (strips (capacities rows) (set (s .store .outputs) p (l ++ (m ∷ []))))) (replicate maxCapacity d)
+      in-strip d f held is =
+          let n = strips-length (capacities rows) (s .store .outputs) same-count in
+          let w = strip-within (capacities rows) p (omega (arith, capacities-length rows)) in
+          let z = length-map messages f in
+          changed maxCapacity at d (f m) (map f messages) held (replicate maxCapacity d) is (omega (arith, n, w, z)) (omega (arith, n, z, R .numbers))
+          ∙ ap (λ (x : List _). lent maxCapacity d x (replicate maxCapacity d))
+          (sym (map-set f messages at m) ∙ ap (map f) (sym (strips-more (capacities rows) (s .store .outputs) p l m same-count (omega (arith, L .outputs)) e c)))
 
 -- ---- the start
 
@@ -165,6 +179,7 @@ pub hold-start : (rows : List ℤ) → HoldsState rows (start (program rows)) (r
   places = blank .places;
   numbers = blank .numbers;
   counts = blank .counts;
+  outputMarks = blank .outputMarks;
 })
 unfolding encode blank start program
 hold-start rows =
@@ -174,5 +189,6 @@ hold-start rows =
     (sym (ap (λ (l : List ℕ). lent maxCells 0 l (replicate maxCells 0)) (map-replicate mark (totalCells rows) none) ∙ blank-defaults 0 maxCells (totalCells rows)))
     refl
     (sym (blank-defaults 0 maxHostChannels (hostChannels 1 rows)))
-    (sym (ap (λ (l : List ℤ). lent maxCapacity (pos 0) l (replicate maxCapacity (pos 0))) e ∙ blank-defaults (pos 0) maxCapacity q))
+    (sym (ap (λ (l : List ℤ). lent maxCapacity (pos 0) l (replicate maxCapacity (pos 0))) (ap (map numberIn) e ∙ map-replicate numberIn q none) ∙ blank-defaults (pos 0) maxCapacity q))
     (sym (ap (λ (l : List ℕ). lent maxHostChannels 0 l (replicate maxHostChannels 0)) (map-replicate (λ (x : List Message). length x) (hostChannels 2 rows) []) ∙ blank-defaults 0 maxHostChannels (hostChannels 2 rows)))
+    (sym (ap (λ (l : List ℕ). lent maxCapacity 0 l (replicate maxCapacity 0)) (ap (map mark) e ∙ map-replicate mark q none) ∙ blank-defaults 0 maxCapacity q))

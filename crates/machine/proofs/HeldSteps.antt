@@ -66,7 +66,7 @@ module _ (rows : List ℤ) (ok : check rows ≡ none) where
   hold-settled t s L b h =
       buffers-path (putSettled rows t b) (encode rows (withSettled rows t s) blank) (ap (λ (c : Buffers). c .cells) h) (ap (λ (c : Buffers). c .marks) h)
       (ap (settle (whole (program rows)) t) (states-are rows s b h) ∙ settle-lent (whole (program rows)) (rowCount rows) maxRows (fit rows ok .sound) (R .states) t (s .states) (L .states))
-      (ap (λ (c : Buffers). c .places) h) (ap (λ (c : Buffers). c .numbers) h) (ap (λ (c : Buffers). c .counts) h)
+      (ap (λ (c : Buffers). c .places) h) (ap (λ (c : Buffers). c .numbers) h) (ap (λ (c : Buffers). c .counts) h) (ap (λ (c : Buffers). c .outputMarks) h)
 
   pub hold-changes : (cs : List StateChange) → ChangesBelow (rowCount rows) cs → (s : State) → Lengths rows s → (b : Buffers) → HoldsState rows s b
       → HoldsState rows (record { states = changeStates cs (s .states); store = s .store }) (putChanges cs b)

@@ -15,7 +15,7 @@ use Rattle.meaning.specs.declared.Index.the-variants.{At, Fails}
 use Rattle.meaning.specs.Basics.{ifElse}
 use Rattle.meaning.specs.Declarations.{Channel, totalCells}
 use Rattle.meaning.specs.Tree.{ChannelInput, IfChoice, AltOption, Action, stop, skip, sequence, parallel, assign, input, output, conditional, loop, alternation, actionOf}
-use Rattle.meaning.specs.Values.{Message, isTrue, value, index}
+use Rattle.meaning.specs.Values.{Message, isTrue, value, index, Sent, gives, lacking, passed}
 use Rattle.meaning.specs.State.{Store, State, program, processAt, writeOutput}
 use Rattle.meaning.specs.Readings.{Sheet}
 use Rattle.meaning.specs.Intent.{Offer, openOffer, inputOffer, Intent, waits, moves, inputsFrom, outputsTo, selects, assigning, testing, choosing, hostWrite, outputting, InputResult, lacks, notYet, reads, fromElement, hostRead, inputResultOf, inputting, OptionsResult, fails, offers, adding, opening, guarding, selecting, inputResult, inputResultIf, tests, optionsResult, intent}
@@ -72,13 +72,13 @@ module _ (rows : List ℤ) (x : Store) where
       go true e = let (p, k) = S h in ((m, p, refl, rw k (ltb-true (length l) (c .capacity) e)), tt)
       go false e = tt
 
-  send-in : (r : ℕ) (c : Channel) (I : Index) (W : Value) → SinkIn rows c → IntentIn (outputting r c (x .outputs) I W)
+  send-in : (r : ℕ) (c : Channel) (I : Index) (W : Sent) → SinkIn rows c → IntentIn (outputting r c (x .outputs) I W)
   send-in r c (Fails k) W S = tt
-  send-in r c (At e) (Missing k) S = tt
-  send-in r c (At e) (Number z) S = go (c .host) refl
+  send-in r c (At e) (lacking k) S = tt
+  send-in r c (At e) (gives m) S = go (c .host) refl
     where
-      go : (t : Bool) → c .host ≡ t → IntentIn (ifElse t (hostWrite r c (getD (x .outputs) (c .number) []) (some z)) (outputsTo e (some z)))
-      go true q = host-in r c (some z) S q
+      go : (t : Bool) → c .host ≡ t → IntentIn (ifElse t (hostWrite r c (getD (x .outputs) (c .number) []) m) (outputsTo e m))
+      go true q = host-in r c m S q
       go false q = tt
 
   -- what an input comes to
@@ -171,7 +171,7 @@ module _ (rows : List ℤ) (x : Store) where
   intent-in sheet r parallel h = tt
   intent-in sheet r (assign v e f) h = assign-in r (index (x .cells) (v .first) (v .size) e) (value (x .cells) f) (λ a q. cell-below rows (x .cells) v a e h q)
   intent-in sheet r (input i) h = input-in r (inputResult sheet i x) (reception-in sheet i h)
-  intent-in sheet r (output c e f) h = send-in r c (index (x .cells) (c .first) (c .size) e) (value (x .cells) f) h
+  intent-in sheet r (output c e f) h = send-in r c (index (x .cells) (c .first) (c .size) e) (passed (x .cells) f) h
   intent-in sheet r (conditional ts) h = tests-in sheet r ts
   intent-in sheet r (loop e b) h = while-in r b (value (x .cells) e)
   intent-in sheet r (alternation bs) h = select-in r (optionsResult sheet bs x) (looks-in sheet bs h)

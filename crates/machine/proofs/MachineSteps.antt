@@ -43,7 +43,7 @@ module _ (rows : List ℤ) (ok : check rows ≡ none) where
   -- the start: the root starts and settles on arrays of zeros
   pub start-held : HoldsState rows (start (program rows)) (putSettled rows true blank)
   unfolding blank
-  start-held = buffers-path _ _ refl refl (sym (start-states rows ok)) refl refl refl ∙ hold-start rows
+  start-held = buffers-path _ _ refl refl (sym (start-states rows ok)) refl refl refl refl ∙ hold-start rows
 
   each-below : (cs : List StateChange) (s : List ℕ) → Each (whole (program rows)) (partsOf cs) s → ChangesBelow (rowCount rows) cs
   each-below [] s h = tt

@@ -27,6 +27,7 @@ blank =
       places = replicate maxHostChannels 0;
       numbers = replicate maxCapacity (pos 0);
       counts = replicate maxHostChannels 0;
+      outputMarks = replicate maxCapacity 0;
     }
 
 -- the arrays hold a state
@@ -59,13 +60,14 @@ putCell a m b =
       places = b .places;
       numbers = b .numbers;
       counts = b .counts;
+      outputMarks = b .outputMarks;
     }
 
 abbrev pub putPlace : ℕ → ℕ → Buffers → Buffers
-putPlace p k b = record { cells = b .cells; marks = b .marks; states = b .states; places = set (b .places) p k; numbers = b .numbers; counts = b .counts }
+putPlace p k b = record { cells = b .cells; marks = b .marks; states = b .states; places = set (b .places) p k; numbers = b .numbers; counts = b .counts; outputMarks = b .outputMarks }
 
 abbrev pub putState : ℕ → ℕ → Buffers → Buffers
-putState r v b = record { cells = b .cells; marks = b .marks; states = set (b .states) r v; places = b .places; numbers = b .numbers; counts = b .counts }
+putState r v b = record { cells = b .cells; marks = b .marks; states = set (b .states) r v; places = b .places; numbers = b .numbers; counts = b .counts; outputMarks = b .outputMarks }
 
 -- one more message for the p-th output channel, which has been given n
 abbrev pub putOutput : List ℤ → ℕ → ℕ → Message → Buffers → Buffers
@@ -77,6 +79,7 @@ putOutput rows p n m b =
       places = b .places;
       numbers = set (b .numbers) (stripStart rows p + n) (numberIn m);
       counts = set (b .counts) p (suc n);
+      outputMarks = set (b .outputMarks) (stripStart rows p + n) (mark m);
     }
 
 -- the row states settle
@@ -85,7 +88,7 @@ withSettled rows t s = record { states = settle (whole (program rows)) t (s .sta
 
 abbrev pub putSettled : List ℤ → Bool → Buffers → Buffers
 putSettled rows t b =
-    record { cells = b .cells; marks = b .marks; states = settle (whole (program rows)) t (b .states); places = b .places; numbers = b .numbers; counts = b .counts }
+    record { cells = b .cells; marks = b .marks; states = settle (whole (program rows)) t (b .states); places = b .places; numbers = b .numbers; counts = b .counts; outputMarks = b .outputMarks }
 
 -- what a step does to the arrays: its changes of data (an output list has its new message last), those of row states, then settling
 abbrev pub putWrite : List ℤ → Write → Buffers → Buffers

@@ -1,23 +1,35 @@
 -- Examples of calls: what is answered, and what is then in the lent buffers.
 use mathlib.Core.Path.{_≡_, refl}
 use mathlib.Core.List.{[], _∷_, _++_}
-use mathlib.Core.Option.{some}
+use mathlib.Core.Option.{none, some}
 use Prim.Native.Nat.{ℕ}
 use Prim.Native.String.{String}
 use lib.IntN.{pos}
 use lib.ListN.{replicate}
 use Rattle.meaning.specs.Texts.{bytes}
 use Rattle.meaning.specs.declared.Answer.the-variants.{Refused, Ran}
-use Rattle.meaning.specs.declared.Outcome.the-variants.{Stuck, Spent}
+use Rattle.meaning.specs.declared.Outcome.the-variants.{Ended, Stuck, Spent}
 use Rattle.meaning.specs.Buffers.{Buffers}
 use Rattle.meaning.specs.Decode.{decode}
 use Rattle.meaning.specs.TableBytes.{rowsOf}
 use Rattle.meaning.specs.Answers.{Reply, reply, replyToBytes}
 use Rattle.meaning.proofs.ComputesAnswers.{computesAnswers}
 
--- buffers as long as their limits, the cells by some numbers more or fewer
+-- buffers as long as their limits, the cells and the marks of outputs by some more or fewer
+abbrev lent : ℕ → ℕ → Buffers
+lent n m =
+    record {
+      cells = replicate n (pos 9);
+      marks = replicate 256 9;
+      states = replicate 1024 9;
+      places = replicate 8 9;
+      numbers = replicate 1024 (pos 9);
+      counts = replicate 8 9;
+      outputMarks = replicate m 9;
+    }
+
 abbrev buffers : ℕ → Buffers
-buffers n = record { cells = replicate n (pos 9); marks = replicate 256 9; states = replicate 1024 9; places = replicate 8 9; numbers = replicate 1024 (pos 9); counts = replicate 8 9 }
+buffers n = lent n 1024
 
 abbrev call : String → String → ℕ → ℕ → Reply
 call rows sheet budget n = replyToBytes (bytes "kind,a,b,c\n" ++ bytes rows) (bytes sheet) [] budget (buffers n)
@@ -72,3 +84,26 @@ back :
     }
 unfolding computesAnswers decode
 back = refl
+
+-- a seventh buffer of 1,023 marks is too short
+few-marks :
+    (replyToBytes (bytes "kind,a,b,c\n20,0,0,0\n") (bytes "\n") [] 0 (lent 256 1023) ≡ record { answer = Refused 1 0; buffers = lent 256 1023 })
+    × (replyToBytes (bytes "kind,a,b,c\n20,0,0,0\n") (bytes "\n") [] 0 (lent 256 1024) .answer ≡ Ran Stuck 0 0)
+unfolding computesAnswers
+few-marks = (refl, refl)
+
+-- b!x, x unset, then b!7: the absence has mark 0 and number 0 and is counted, and what is past the limit is as it was; read back, it is an absence
+absence :
+    let rows = bytes "kind,a,b,c\n2,1,2,2\n1,1,0,0\n30,3,0,0\n40,4,8,0\n24,0,5,6\n10,0,0,0\n11,1,7,0\n10,0,0,0\n40,9,-1,0\n24,0,10,11\n10,0,0,0\n10,7,0,0\n" in
+    let r : Reply = replyToBytes rows (bytes "\n") [] 9 (lent 256 1026) in
+    (r .answer ≡ Ran Ended 2 0)
+    × (r .buffers .outputMarks ≡ 0 ∷ 1 ∷ replicate 1022 0 ++ (9 ∷ 9 ∷ []))
+    × (r .buffers .numbers ≡ pos 0 ∷ pos 7 ∷ replicate 1022 (pos 0))
+    × (r .buffers .counts ≡ 2 ∷ replicate 7 0)
+    × (decode (rowsOf rows) (r .buffers)
+    ≡ record {
+      states = 0 ∷ 0 ∷ 2 ∷ 0 ∷ 2 ∷ 0 ∷ 0 ∷ 0 ∷ 0 ∷ 2 ∷ 0 ∷ 0 ∷ [];
+      store = record { cells = none ∷ []; places = []; outputs = (none ∷ some (pos 7) ∷ []) ∷ [] };
+    })
+unfolding computesAnswers decode
+absence = (refl, refl, refl, refl, refl)

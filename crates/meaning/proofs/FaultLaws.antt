@@ -1,6 +1,6 @@
 -- The stages 4 and 6 answer with the lowest row that is not right.
 use mathlib.Core.Path.{_≡_, refl, sym, _∙_, subst}
-use mathlib.Core.Bool.{Bool}
+use mathlib.Core.Bool.{Bool, not}
 use mathlib.Core.List.{List, List·Memᴰ}
 use mathlib.Core.Option.{Option, none, some, Option·none-ne-some, Option·some-injective}
 use Prim.Native.Nat.{ℕ, suc, _≤_, _<_}
@@ -11,8 +11,8 @@ use Rattle.meaning.specs.Limits.{maxCells, maxElements, maxHostChannels,
 use Rattle.meaning.specs.Rows.{rowCount, fieldAt, naturalAt, kindAt}
 use Rattle.meaning.specs.Declarations.{declarations, sumBelow, hasRole, cellsAt, elementsAt, hostChannelsAt, capacityAt}
 use Rattle.meaning.specs.Basics.{anyPasses, lowest}
-use Rattle.meaning.proofs.Decides.{Decides, holding, failing, decides-iff, decides-and, decides-or, decides-lt, decides-le, decides-eq, decides-eqZ, decides-inside, decides-any, pos-injective, Faults, right, wrong, faults-not, faults-or, faults-if, faults-iff, faults-over, lowest-wrong}
-use Rattle.meaning.specs.Kinds.{Field, unused, literalValue, within, elements, capacity, variable, channel, reference, link, Shape, shapeOf}
+use Rattle.meaning.proofs.Decides.{Decides, holding, failing, decides-iff, decides-and, decides-not, decides-or, decides-lt, decides-le, decides-eq, decides-eqZ, decides-inside, decides-any, pos-injective, Faults, right, wrong, faults-not, faults-or, faults-if, faults-iff, faults-over, lowest-wrong}
+use Rattle.meaning.specs.Kinds.{Field, unused, literalValue, within, elements, capacity, operator, variable, channel, reference, link, Shape, shapeOf}
 use Rattle.meaning.specs.Verdict.{names, mayHold, fits, formFaultAt, formFault, overLimit, limitFault}
 use Rattle.meaning.specs.References.{IsOf}
 use Rattle.meaning.specs.Faults.{MayHold, WellFormed, WithinLimits}
@@ -38,7 +38,7 @@ limit-stage rows =
 
 -- 4 ---------------------------------------------------------------------------------------------------------------------------
 
--- a name, of which a test decides a statement
+-- one of the first d rows, of which a test decides a statement
 decides-name : (d : ℕ) (P : ℕ → Type 0) (p : ℕ → Bool) → ((r : ℕ) → Decides (P r) (p r)) → (z : ℤ) → Decides ((r : ℕ) × ((z ≡ pos r) × (r < d) × P r)) (names d p z)
 decides-name d P p f (pos r) =
     decides-iff
@@ -55,6 +55,9 @@ decides-holds rows r literalValue z = decides-inside minNumber maxNumber z
 decides-holds rows r (within lo hi) z = decides-inside lo hi z
 decides-holds rows r elements z = decides-and (decides-inside (pos 1) (pos 64) z) (decides-or (decides-eqZ (fieldAt rows r 2) (pos 0)) (decides-eqZ z (pos 1)))
 decides-holds rows r capacity z = decides-and (decides-inside (pos 0) (pos 256) z) (decides-or (decides-eqZ (fieldAt rows r 2) (pos 2)) (decides-eqZ z (pos 0)))
+decides-holds rows r operator z =
+    decides-and (decides-inside (pos 0) (pos 2) z) (decides-not (decides-and (decides-eqZ z (pos 2)) (decides-name (rowCount rows)
+    (λ t. ¬ (kindAt rows t ≡ 11)) (λ t. not (eqb (kindAt rows t) 11)) (λ t. decides-not (decides-eq (kindAt rows t) 11)) (fieldAt rows r 2))))
 decides-holds rows r variable z = decides-name (declarations rows) (λ q. kindAt rows q ≡ 1) (λ q. eqb (kindAt rows q) 1) (λ q. decides-eq (kindAt rows q) 1) z
 decides-holds rows r (channel roles) z =
     decides-iff

@@ -1,13 +1,14 @@
 -- A list in a lent buffer: what stands at each position, below the limit and past it, the buffer's length, and what a change of one element changes.
 use mathlib.Core.Path.{_≡_, refl, sym, ap, _∙_}
-use mathlib.Core.Option.{some, Option·none-ne-some, Option·some-injective}
+use mathlib.Core.Option.{none, some, Option·none-ne-some, Option·some-injective}
 use mathlib.Core.List.{List, [], _∷_, _++_, append-nil}
 use Prim.Native.Nat.{ℕ, zero, suc, _+_, _-_, _<_, _≤_}
 use native.Mathlib.Omega.{arith}
 use native.Mathlib.Decide.{decLt}
 use lib.ListN.{length, getD, set, take, drop, replicate, length-append, length-drop, length-replicate, replicate-append-replicate, take-append-drop, drop-of-length-le, List·getD-append, List·getD-eq-default, getElem?}
 use lib.Seq.{length-take-le, take-append-le, take-append-add, drop-append-le, take-take, take-append-seam, take-at, getD-take, take-set-lt, set-append-left, set-append-seam, append-snoc}
-use Rattle.meaning.specs.Buffers.{sized, lent}
+use Rattle.meaning.specs.Values.{Message}
+use Rattle.meaning.specs.Buffers.{mark, numberIn, cellOf, sized, lent}
 
 module _ {A : Type 0} where
   -- an entry, by its position
@@ -159,3 +160,10 @@ module _ {A : Type 0} (d : A) where
   -- a list of defaults leaves it as it is
   pub blank-defaults : (n k : ℕ) → lent n d (replicate k d) (replicate n d) ≡ replicate n d
   blank-defaults n k = lent-blank n (replicate k d) ∙ sized-defaults n k
+
+-- ---- messages
+
+-- a message by its number and mark
+pub cell-back : (m : Message) → cellOf (numberIn m) (mark m) ≡ m
+cell-back none = refl
+cell-back (some x) = refl

@@ -27,6 +27,7 @@ pub mod LowestLaws
 pub mod HigherRows
 pub mod KindLaws
 pub mod PartLaws
+pub mod PassedLaws
 pub mod FirstLine
 pub mod LentLaws
 pub mod LineIsLaws

@@ -13,7 +13,7 @@ use Rattle.meaning.specs.Rows.{rowCount, fieldAt, kindAt}
 use Rattle.meaning.specs.Basics.{ifElse, among}
 use Rattle.meaning.proofs.Decides.{Decides, holding, failing, decides-iff, decides-and, decides-lt, decides-eq, decides-any, pos-injective}
 use Rattle.meaning.proofs.Counting.{Counts, never, once, more, counts-iff, counts-add, occurrences-append}
-use Rattle.meaning.specs.Kinds.{Field, unused, literalValue, within, elements, capacity, variable, channel, reference, link, Shape, shapeOf}
+use Rattle.meaning.specs.Kinds.{Field, unused, literalValue, within, elements, capacity, operator, variable, channel, reference, link, Shape, shapeOf}
 use Rattle.meaning.specs.Verdict.{refers, targetOf, target, targetsBy, targets, targetsBelow, occurrences}
 use Rattle.meaning.specs.References.{IsTarget, RefersBy, Column, of-a, of-b, of-c, fieldOf, numberOf, Refers}
 use Rattle.meaning.specs.Faults.{Once}
@@ -69,6 +69,7 @@ module _ (rows : List ℤ) (t : ℕ) where
   count-field q p (within lo hi) z = never refl (λ a h. h .1)
   count-field q p elements z = never refl (λ a h. h .1)
   count-field q p capacity z = never refl (λ a h. h .1)
+  count-field q p operator z = never refl (λ a h. h .1)
   count-field q p variable z = never refl (λ a h. h .1)
   count-field q p (channel roles) z = never refl (λ a h. h .1)
   count-field q p (reference kinds) z = count-target q p kinds z

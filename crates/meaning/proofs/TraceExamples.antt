@@ -52,6 +52,6 @@ unfolding computesAnswers shownFrom trace
 passing = (refl, refl)
 
 -- lists that are too short are refused before anything else, as buffers are
-short : replyToBytesTraced (bytes "1\n") [] [] 65537 (record { cells = []; marks = []; states = []; places = []; numbers = []; counts = [] }) (record { readyCounts = 9 ∷ []; takenRows = [] }) .reply .answer ≡ Refused 1 0
+short : replyToBytesTraced (bytes "1\n") [] [] 65537 (record { cells = []; marks = []; states = []; places = []; numbers = []; counts = []; outputMarks = [] }) (record { readyCounts = 9 ∷ []; takenRows = [] }) .reply .answer ≡ Refused 1 0
 unfolding computesAnswers listsFault replyToBytesTraced
 short = refl

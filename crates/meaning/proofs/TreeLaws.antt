@@ -9,7 +9,7 @@ use lib.Dec.{eqb}
 use Rattle.meaning.specs.Rows.{rowCount, fieldAt, kindAt}
 use Rattle.meaning.specs.Basics.{ifElse, lowest}
 use Rattle.meaning.proofs.Decides.{Decides, holding, failing, decides-iff, decides-and, decides-or, decides-lt, decides-le, decides-eq, decides-eqZ, pos-injective, Faults, right, wrong, faults-not, faults-or, faults-if, faults-iff, lowest-wrong}
-use Rattle.meaning.specs.Kinds.{Field, unused, literalValue, within, elements, capacity, variable, channel, reference, link, Shape, shapeOf, processes}
+use Rattle.meaning.specs.Kinds.{Field, unused, literalValue, within, elements, capacity, operator, variable, channel, reference, link, Shape, shapeOf, processes}
 use Rattle.meaning.specs.Declarations.{declarations}
 use Rattle.meaning.specs.Verdict.{refers, leads, targetsBelow, occurrences, leadsBy, notReferredOnce, rowFaultAt, treeFaultAt, treeFault}
 use Rattle.meaning.proofs.ReferenceCounts.{decides-among, decides-target, Never, count-all, never-zero, once-one}
@@ -31,6 +31,7 @@ decides-leads rows r literalValue z = holding tt
 decides-leads rows r (within lo hi) z = holding tt
 decides-leads rows r elements z = holding tt
 decides-leads rows r capacity z = holding tt
+decides-leads rows r operator z = holding tt
 decides-leads rows r variable z = holding tt
 decides-leads rows r (channel roles) z = holding tt
 decides-leads rows r (reference kinds) z = decides-refers rows r kinds z

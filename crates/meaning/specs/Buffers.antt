@@ -1,4 +1,4 @@
--- What a run leaves, and how it stands in the six lent buffers.
+-- What a run leaves, and how it stands in the seven lent buffers.
 use mathlib.Core.Bool.{Bool, _||_}
 use mathlib.Core.List.{List, [], _∷_, _++_, map}
 use mathlib.Core.Option.{none, some, Option·getD}
@@ -13,7 +13,7 @@ use Rattle.meaning.specs.State.{State}
 use Rattle.meaning.specs.Declarations.{channels}
 use Rattle.meaning.specs.Values.{Message}
 
--- the six lent buffers
+-- the seven lent buffers; the last holds "a set mark beside each value" of the host outputs
 pub record Buffers : Type 0 where
   pub cells : List ℤ
   pub marks : List ℕ
@@ -21,6 +21,7 @@ pub record Buffers : Type 0 where
   pub places : List ℕ
   pub numbers : List ℤ
   pub counts : List ℕ
+  pub outputMarks : List ℕ
 
 -- "Each lent buffer must be as long as its limit above"
 abbrev pub tooShort : Buffers → Bool
@@ -31,6 +32,7 @@ tooShort b =
     || ltb (length (b .places)) maxHostChannels
     || ltb (length (b .numbers)) maxCapacity
     || ltb (length (b .counts)) maxHostChannels
+    || ltb (length (b .outputMarks)) maxCapacity
 
 module _ {A : Type 0} where
   -- a list at a length, cut or filled up
@@ -45,7 +47,7 @@ module _ {A : Type 0} where
 abbrev pub mark : Message → ℕ
 mark c = ifElse (isSome c) 1 0
 
--- an unset cell holds 0
+-- an unset cell holds 0; "an absence has mark 0 and value 0"
 abbrev pub numberIn : Message → ℤ
 numberIn c = Option·getD c (pos 0)
 
@@ -63,11 +65,11 @@ decoded (x ∷ xs) (m ∷ ms) = cellOf x m ∷ decoded xs ms
 abbrev pub capacities : List ℤ → List ℕ
 capacities rows = map (capacityAt rows) (channels rows 2)
 
--- "A strip follows the one before it by capacity": the lists, each at its capacity
-unfoldable pub strips : List ℕ → List (List Message) → List ℤ
+-- "A strip follows the one before it by capacity": the lists, each filled up to its capacity
+unfoldable pub strips : List ℕ → List (List Message) → List Message
 strips [] xss = []
 strips (n ∷ ns) [] = []
-strips (n ∷ ns) (xs ∷ xss) = sized n (pos 0) (map numberIn xs) ++ strips ns xss
+strips (n ∷ ns) (xs ∷ xss) = sized n none xs ++ strips ns xss
 
 -- what a run leaves in the lent buffers
 unfoldable pub encode : List ℤ → State → Buffers → Buffers
@@ -77,6 +79,7 @@ encode rows s b =
       marks = lent maxCells 0 (map mark (s .store .cells)) (b .marks);
       states = lent maxRows 0 (s .states) (b .states);
       places = lent maxHostChannels 0 (s .store .places) (b .places);
-      numbers = lent maxCapacity (pos 0) (strips (capacities rows) (s .store .outputs)) (b .numbers);
+      numbers = lent maxCapacity (pos 0) (map numberIn (strips (capacities rows) (s .store .outputs))) (b .numbers);
       counts = lent maxHostChannels 0 (map length (s .store .outputs)) (b .counts);
+      outputMarks = lent maxCapacity 0 (map mark (strips (capacities rows) (s .store .outputs))) (b .outputMarks);
     }

@@ -8,7 +8,7 @@ use lib.Signed.{_≤ℤ_}
 use Rattle.meaning.specs.Limits.{maxCells, maxElements, maxHostChannels, maxCapacity, minNumber, maxNumber}
 use Rattle.meaning.specs.Rows.{rowCount, fieldAt, naturalAt, kindAt}
 use Rattle.meaning.specs.Declarations.{declarations, sumBelow, cellsAt, elementsAt, hostChannelsAt, capacityAt}
-use Rattle.meaning.specs.Kinds.{Field, unused, literalValue, within, elements, capacity, variable, channel, reference, link, Shape, processes}
+use Rattle.meaning.specs.Kinds.{Field, unused, literalValue, within, elements, capacity, operator, variable, channel, reference, link, Shape, processes}
 use Rattle.meaning.specs.References.{Column, fieldOf, numberOf, IsOf, IsTarget, Refers}
 
 module _ (rows : List ℤ) where
@@ -23,6 +23,7 @@ module _ (rows : List ℤ) where
   MayHold r (within lo hi) z = (lo ≤ℤ z) × (z ≤ℤ hi)
   MayHold r elements z = ((pos 1 ≤ℤ z) × (z ≤ℤ pos 64)) × ((fieldAt rows r 2 ≡ pos 0) ⊎ (z ≡ pos 1))
   MayHold r capacity z = ((pos 0 ≤ℤ z) × (z ≤ℤ pos 256)) × ((fieldAt rows r 2 ≡ pos 2) ⊎ (z ≡ pos 0))
+  MayHold r operator z = ((pos 0 ≤ℤ z) × (z ≤ℤ pos 2)) × ¬ ((z ≡ pos 2) × ((t : ℕ) × ((fieldAt rows r 2 ≡ pos t) × (t < rowCount rows) × ¬ (kindAt rows t ≡ 11))))
   MayHold r variable z = (q : ℕ) × Names 1 z q
   MayHold r (channel roles) z = (q : ℕ) × Names 2 z q × ((role : ℕ) × List·Memᴰ role roles × (naturalAt rows q 2 ≡ role))
   MayHold r (reference kinds) z = Unit {0}
@@ -41,6 +42,7 @@ module _ (rows : List ℤ) where
   Leads r (within lo hi) z = Unit {0}
   Leads r elements z = Unit {0}
   Leads r capacity z = Unit {0}
+  Leads r operator z = Unit {0}
   Leads r variable z = Unit {0}
   Leads r (channel roles) z = Unit {0}
   Leads r (reference kinds) z = (t : ℕ) × (z ≡ pos t) × IsTarget rows r kinds t

@@ -11,7 +11,7 @@ use Rattle.meaning.specs.declared.Index.the-variants.{At, Fails}
 use Rattle.meaning.specs.Basics.{ifElse}
 use Rattle.meaning.specs.Declarations.{Channel}
 use Rattle.meaning.specs.Tree.{ChannelInput, IfChoice, AltOption, Action, stop, skip, sequence, parallel, assign, input, output, conditional, loop, alternation}
-use Rattle.meaning.specs.Values.{Message, isTrue, value, index}
+use Rattle.meaning.specs.Values.{Message, isTrue, value, index, Sent, gives, lacking, passed}
 use Rattle.meaning.specs.State.{Store, Write, writeCell, writePlace, writeOutput}
 use Rattle.meaning.specs.Readings.{Sheet}
 
@@ -20,7 +20,7 @@ pub data Offer : Type 0 where
   openOffer : ℕ → ℕ → List Write → Offer
   inputOffer : ℕ → ℕ → ℕ → ℕ → Offer
 
--- nothing; a step by itself, by which row x becomes v; an input on an element into a cell; an output of a value to an element; options
+-- nothing; a step by itself, by which row x becomes v; an input on an element into a cell; an output of a message to an element; options
 pub data Intent : Type 0 where
   waits : Intent
   moves : ℕ → ℕ → List Write → Intent
@@ -53,10 +53,10 @@ abbrev pub hostWrite : ℕ → Channel → List Message → Message → Intent
 hostWrite r c l v = ifElse (ltb (length l) (c .capacity)) (moves r 2 (writeOutput (c .number) (l ++ (v ∷ [])) ∷ [])) waits
 
 -- "output takes channel subscript, then expression"
-abbrev pub outputting : ℕ → Channel → List (List Message) → Index → Value → Intent
+abbrev pub outputting : ℕ → Channel → List (List Message) → Index → Sent → Intent
 outputting r c outputs (Fails k) v = halts r k
-outputting r c outputs (At e) (Missing k) = halts r k
-outputting r c outputs (At e) (Number v) = ifElse (c .host) (hostWrite r c (getD outputs (c .number) []) (some v)) (outputsTo e (some v))
+outputting r c outputs (At e) (lacking k) = halts r k
+outputting r c outputs (At e) (gives m) = ifElse (c .host) (hostWrite r c (getD outputs (c .number) []) m) (outputsTo e m)
 
 -- what an input comes to: a reason for no step, nothing yet, a host read, an input on an element into a cell
 pub data InputResult : Type 0 where
@@ -144,7 +144,7 @@ module _ (sheet : Sheet) where
   intent parallel r x = waits
   intent (assign v e f) r x = assigning r (index (x .cells) (v .first) (v .size) e) (value (x .cells) f)
   intent (input i) r x = inputting r (inputResult i x)
-  intent (output c e f) r x = outputting r c (x .outputs) (index (x .cells) (c .first) (c .size) e) (value (x .cells) f)
+  intent (output c e f) r x = outputting r c (x .outputs) (index (x .cells) (c .first) (c .size) e) (passed (x .cells) f)
   intent (conditional ts) r x = tests r ts x
   intent (loop e b) r x = testing r b (value (x .cells) e)
   intent (alternation bs) r x = selecting r (optionsResult bs x)

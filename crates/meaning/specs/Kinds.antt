@@ -18,6 +18,8 @@ pub data Field : Type 0 where
   elements : Field
   -- a channel's capacity: 0 to 256 for role 2, else 0
   capacity : Field
+  -- a monadic operator: 0 to 2; not 2 where its operand, field b, is a row of another kind than an element
+  operator : Field
   -- the name of a variable
   variable : Field
   -- the name of a channel of one of these roles
@@ -61,7 +63,7 @@ shapes =
     ∷ shape 2 elements (fromTo 0 2) capacity
     ∷ shape 10 literalValue unused unused
     ∷ shape 11 variable expression unused
-    ∷ shape 12 (fromTo 0 1) expression unused
+    ∷ shape 12 operator expression unused
     ∷ shape 13 (fromTo 0 15) expression expression
     ∷ shape 20 unused unused unused
     ∷ shape 21 unused unused unused

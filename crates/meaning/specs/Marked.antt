@@ -1,4 +1,4 @@
--- The marked cases (●) and the run on paper: whole sheets, each with the answer that the paper expects, the state that is left and what
+-- The marked cases (●), the run on paper and cases of request 01: whole sheets, each with the answer that the paper expects, the state that is left and what
 -- the sheet runner prints.
 use mathlib.Core.Path.{_≡_}
 use mathlib.Core.Option.{none, some}
@@ -114,6 +114,51 @@ markedCases =
     "\n" 0
     (atEnd Ended 0 (left (2 ∷ []) [] [] []))
     "what,name,at,value\nended,0,0,0\n"
+    -- request 01: the run on paper with b!x and an absent reading: the absence is handed on
+    ∷ markedCase "2,1,1,0\n2,1,2,4\n1,1,0,0\n30,4,0,0\n40,5,9,0\n23,0,6,7\n10,0,0,0\n11,2,8,0\n10,0,0,0\n40,10,-1,0\n24,1,11,12\n10,0,0,0\n11,2,13,0\n10,0,0,0\n"
+    "0\n\n" 65536
+    (atEnd Ended 2 (left (0 ∷ 0 ∷ 0 ∷ 2 ∷ 0 ∷ 2 ∷ 0 ∷ 0 ∷ 0 ∷ 0 ∷ 2 ∷ 0 ∷ 0 ∷ 0 ∷ []) (none ∷ []) (1 ∷ []) ((none ∷ []) ∷ [])))
+    "what,name,at,value\nended,0,0,2\nvar,2,0,\nout,1,0,\n"
+    -- the same with a reading of 0
+    ∷ markedCase "2,1,1,0\n2,1,2,4\n1,1,0,0\n30,4,0,0\n40,5,9,0\n23,0,6,7\n10,0,0,0\n11,2,8,0\n10,0,0,0\n40,10,-1,0\n24,1,11,12\n10,0,0,0\n11,2,13,0\n10,0,0,0\n"
+    "0\n0\n" 65536
+    (atEnd Ended 2 (left (0 ∷ 0 ∷ 0 ∷ 2 ∷ 0 ∷ 2 ∷ 0 ∷ 0 ∷ 0 ∷ 0 ∷ 2 ∷ 0 ∷ 0 ∷ 0 ∷ []) (some (pos 0) ∷ []) (1 ∷ []) ((some (pos 0) ∷ []) ∷ [])))
+    "what,name,at,value\nended,0,0,2\nvar,2,0,0\nout,1,0,0\n"
+    -- with b!GIVEN x, after an absent reading, is 0
+    ∷ markedCase "2,1,1,0\n2,1,2,4\n1,1,0,0\n30,4,0,0\n40,5,9,0\n23,0,6,7\n10,0,0,0\n11,2,8,0\n10,0,0,0\n40,10,-1,0\n24,1,11,12\n10,0,0,0\n12,2,13,0\n11,2,14,0\n10,0,0,0\n"
+    "0\n\n" 65536
+    (atEnd Ended 2 (left (0 ∷ 0 ∷ 0 ∷ 2 ∷ 0 ∷ 2 ∷ 0 ∷ 0 ∷ 0 ∷ 0 ∷ 2 ∷ 0 ∷ 0 ∷ 0 ∷ 0 ∷ []) (none ∷ []) (1 ∷ []) ((some (pos 0) ∷ []) ∷ [])))
+    "what,name,at,value\nended,0,0,2\nvar,2,0,\nout,1,0,0\n"
+    -- PAR of c!x, x unset, and SEQ of y:=7 and c?y: y becomes unset
+    ∷ markedCase "1,1,0,0\n1,1,0,0\n2,1,0,0\n31,4,0,0\n40,5,9,0\n24,2,6,7\n10,0,0,0\n11,0,8,0\n10,0,0,0\n40,10,-1,0\n30,11,0,0\n40,12,15,0\n22,1,13,14\n10,0,0,0\n10,7,0,0\n40,16,-1,0\n23,2,17,18\n10,0,0,0\n11,1,19,0\n10,0,0,0\n"
+    "\n" 65536
+    (atEnd Ended 2 (left (0 ∷ 0 ∷ 0 ∷ 2 ∷ 0 ∷ 2 ∷ 0 ∷ 0 ∷ 0 ∷ 0 ∷ 2 ∷ 0 ∷ 2 ∷ 0 ∷ 0 ∷ 0 ∷ 2 ∷ 0 ∷ 0 ∷ 0 ∷ []) (none ∷ none ∷ []) [] []))
+    "what,name,at,value\nended,0,0,2\nvar,0,0,\nvar,1,0,\n"
+    -- PAR of c!x, x unset, and ALT of c?y SKIP ends in 1 step
+    ∷ markedCase "1,1,0,0\n1,1,0,0\n2,1,0,0\n31,4,0,0\n40,5,9,0\n24,2,6,7\n10,0,0,0\n11,0,8,0\n10,0,0,0\n40,10,-1,0\n34,11,0,0\n42,12,-1,13\n21,0,0,0\n23,2,14,15\n10,0,0,0\n11,1,16,0\n10,0,0,0\n"
+    "\n" 65536
+    (atEnd Ended 1 (left (0 ∷ 0 ∷ 0 ∷ 2 ∷ 0 ∷ 2 ∷ 0 ∷ 0 ∷ 0 ∷ 0 ∷ 2 ∷ 0 ∷ 2 ∷ 0 ∷ 0 ∷ 0 ∷ 0 ∷ []) (none ∷ none ∷ []) [] []))
+    "what,name,at,value\nended,0,0,1\nvar,0,0,\nvar,1,0,\n"
+    -- b!x with capacity 0, x unset, is stuck at 0
+    ∷ markedCase "2,1,2,0\n1,1,0,0\n24,0,3,4\n10,0,0,0\n11,1,5,0\n10,0,0,0\n"
+    "\n" 65536
+    (atEnd Stuck 0 (left (0 ∷ 0 ∷ 1 ∷ 0 ∷ 0 ∷ 0 ∷ []) (none ∷ []) [] ([] ∷ [])))
+    "what,name,at,value\nstuck,0,0,0\nvar,1,0,\n"
+    -- y:=GIVEN x[1], x of 1, is reason 2
+    ∷ markedCase "1,1,0,0\n1,1,0,0\n22,1,3,4\n10,0,0,0\n12,2,5,0\n11,0,6,0\n10,1,0,0\n"
+    "\n" 65536
+    (atEnd Broken 1 (left (0 ∷ 0 ∷ 12 ∷ 0 ∷ 0 ∷ 0 ∷ 0 ∷ []) (none ∷ none ∷ []) [] []))
+    "what,name,at,value\nbroken,0,0,1\nvar,0,0,\nvar,1,0,\nstop,2,0,2\n"
+    -- GIVEN of a literal is 4
+    ∷ markedCase "1,1,0,0\n22,0,2,3\n10,0,0,0\n12,2,4,0\n10,5,0,0\n"
+    "\n" 65536
+    (refused (4, 3))
+    "refused,4,3,0\n"
+    -- PAR of a[0]:=1 and a[1]:=GIVEN a[0] is 7
+    ∷ markedCase "1,2,0,0\n31,2,0,0\n40,3,6,0\n22,0,4,5\n10,0,0,0\n10,1,0,0\n40,7,-1,0\n22,0,8,9\n10,1,0,0\n12,2,10,0\n11,0,11,0\n10,0,0,0\n"
+    "\n" 65536
+    (refused (7, 1))
+    "refused,7,1,0\n"
     ∷ []
 
 -- every case is answered as the paper expects, and printed so byte for byte

@@ -5,7 +5,7 @@ use mathlib.Core.Option.{some}
 use Prim.Native.Nat.{ℕ, _<_}
 use lib.IntN.{ℤ, pos}
 use Rattle.meaning.specs.Rows.{rowCount, fieldAt, kindAt}
-use Rattle.meaning.specs.Kinds.{Field, unused, literalValue, within, elements, capacity, variable, channel, reference, link, Shape, shapeOf}
+use Rattle.meaning.specs.Kinds.{Field, unused, literalValue, within, elements, capacity, operator, variable, channel, reference, link, Shape, shapeOf}
 
 -- a field of a row: a, b or c
 pub data Column : Type 0 where
@@ -40,6 +40,7 @@ module _ (rows : List ℤ) where
   RefersBy r (within lo hi) z t = ⊥
   RefersBy r elements z t = ⊥
   RefersBy r capacity z t = ⊥
+  RefersBy r operator z t = ⊥
   RefersBy r variable z t = ⊥
   RefersBy r (channel roles) z t = ⊥
   RefersBy r (reference kinds) z t = (z ≡ pos t) × IsTarget r kinds t

@@ -10,7 +10,7 @@ use Rattle.meaning.specs.declared.Value.the-variants.{Number, Missing}
 use Rattle.meaning.specs.declared.Index.{Index}
 use Rattle.meaning.specs.declared.Index.the-variants.{At, Fails}
 use Rattle.meaning.specs.Declarations.{Variable, Channel}
-use Rattle.meaning.specs.Tree.{Expr, ChannelInput, IfChoice, AltOption, Action, assign, input, output, conditional, loop, alternation, node, Processes, rowsBeneath}
+use Rattle.meaning.specs.Tree.{Expr, element, ChannelInput, IfChoice, AltOption, Action, assign, input, output, conditional, loop, alternation, node, Processes, rowsBeneath}
 use Rattle.meaning.specs.Values.{Message, isTrue, value, index}
 use Rattle.meaning.specs.State.{Store, State, Program, processAt, whole, Write, writeCell, writePlace, writeOutput, StateChange, changeStates, writeAll, Effect}
 use Rattle.meaning.specs.Labels.{Label, own, pass, takeOption, takeWithOutput}
@@ -65,13 +65,18 @@ pub data AllComplete (cells : List Message) : List AltOption → Type 0 where
   complete-none : AllComplete cells []
   complete-more : {b : AltOption} {l : List AltOption} → Complete cells b → AllComplete cells l → AllComplete cells (b ∷ l)
 
--- "an action, test or guard that needs a value which doesn't exist"
+-- what an output passes: its expression's value; or, where the expression "is one element, unset but inside its array", the absence
+pub data Passes (cells : List Message) : Expr → Message → Type 0 where
+  passes-value : {f : Expr} {z : ℤ} → value cells f ≡ Number z → Passes cells f (some z)
+  passes-absence : {v : Variable} {e : Expr} {a : ℕ} → index cells (v .first) (v .size) e ≡ At a → getD cells a none ≡ none → Passes cells (element v e) none
+
+-- "an action, test or guard that needs a value which doesn't exist"; an output that passes an absence needs none
 pub data Lacks (cells : List Message) : Action → ℕ → Type 0 where
   assign-subscript : {v : Variable} {e f : Expr} {k : ℕ} → index cells (v .first) (v .size) e ≡ Fails k → Lacks cells (assign v e f) k
   assign-value : {v : Variable} {e f : Expr} {a k : ℕ} → index cells (v .first) (v .size) e ≡ At a → value cells f ≡ Missing k → Lacks cells (assign v e f) k
   input-subscript : {i : ChannelInput} {k : ℕ} → LacksIn cells i k → Lacks cells (input i) k
   output-subscript : {c : Channel} {e f : Expr} {k : ℕ} → index cells (c .first) (c .size) e ≡ Fails k → Lacks cells (output c e f) k
-  output-value : {c : Channel} {e f : Expr} {a k : ℕ} → index cells (c .first) (c .size) e ≡ At a → value cells f ≡ Missing k → Lacks cells (output c e f) k
+  output-value : {c : Channel} {e f : Expr} {a k : ℕ} → index cells (c .first) (c .size) e ≡ At a → value cells f ≡ Missing k → ¬ Passes cells f none → Lacks cells (output c e f) k
   while-test : {e : Expr} {b k : ℕ} → value cells e ≡ Missing k → Lacks cells (loop e b) k
   if-test : {ts : List IfChoice} {k : ℕ} → LacksTest cells ts k → Lacks cells (conditional ts) k
   alt-guard : {bs : List AltOption} {k : ℕ} → LacksOption cells bs k → Lacks cells (alternation bs) k
@@ -85,8 +90,8 @@ pub data HostInput (sheet : Sheet) (x : Store) (i : ChannelInput) (a : ℕ) (v :
       → getD (x .places) (i .channel .number) 0 ≡ n → getElem? (getD sheet (i .channel .number) []) n ≡ some v → HostInput sheet x i a v n
 
 -- an output that could take place to an inner channel
-pub data InnerOutput (x : Store) (c : Channel) (e f : Expr) (d : ℕ) : Message → Type 0 where
-  inner-output : {v : ℤ} → c .host ≡ false → index (x .cells) (c .first) (c .size) e ≡ At d → value (x .cells) f ≡ Number v → InnerOutput x c e f d (some v)
+pub data InnerOutput (x : Store) (c : Channel) (e f : Expr) (d : ℕ) (m : Message) : Type 0 where
+  inner-output : c .host ≡ false → index (x .cells) (c .first) (c .size) e ≡ At d → Passes (x .cells) f m → InnerOutput x c e f d m
 
 -- row r is running with action a, and every row beneath it is idle
 pub data Live (P : Program) (s : State) (r : ℕ) (a : Action) : Type 0 where
@@ -116,7 +121,7 @@ module _ (P : Program) (sheet : Sheet) where
     -- an IF starting its first true choice
     if-true : {r q : ℕ} {ts : List IfChoice} → Live P s r (conditional ts) → FirstTrue (s .store .cells) ts q
         → Allows s (own r) (effect (becomes r q 1 ∷ []) [])
-    -- an input and an output on the same channel element: the value passes, both end
+    -- an input and an output on the same channel element: the value passes, or the absence, and both end
     communication : {r o d a : ℕ} {i : ChannelInput} {c : Channel} {e f : Expr} {m : Message} → Live P s r (input i) → Live P s o (output c e f)
         → InnerInput (s .store) i d a → InnerOutput (s .store) c e f d m
         → Allows s (pass r o) (effect (becomes r r 2 ∷ becomes o o 2 ∷ []) (writeCell a m ∷ []))
@@ -124,10 +129,10 @@ module _ (P : Program) (sheet : Sheet) where
     host-read : {r a n : ℕ} {i : ChannelInput} {v : Message} → Live P s r (input i) → HostInput sheet (s .store) i a v n
         → Allows s (own r) (effect (becomes r r 2 ∷ []) (writeCell a v ∷ writePlace (i .channel .number) (suc n) ∷ []))
     -- a host write, if capacity is left
-    host-write : {r d : ℕ} {c : Channel} {e f : Expr} {z : ℤ} {l : List Message} → Live P s r (output c e f) → c .host ≡ true
-        → index (s .store .cells) (c .first) (c .size) e ≡ At d → value (s .store .cells) f ≡ Number z
+    host-write : {r d : ℕ} {c : Channel} {e f : Expr} {m : Message} {l : List Message} → Live P s r (output c e f) → c .host ≡ true
+        → index (s .store .cells) (c .first) (c .size) e ≡ At d → Passes (s .store .cells) f m
         → getD (s .store .outputs) (c .number) [] ≡ l → length l < c .capacity
-        → Allows s (own r) (effect (becomes r r 2 ∷ []) (writeOutput (c .number) (l ++ (some z ∷ [])) ∷ []))
+        → Allows s (own r) (effect (becomes r r 2 ∷ []) (writeOutput (c .number) (l ++ (m ∷ [])) ∷ []))
     -- an ALT taking an option whose boolean is true and whose guard is SKIP
     alt-skip : {r : ℕ} {bs : List AltOption} {b : AltOption} → Live P s r (alternation bs) → AllComplete (s .store .cells) bs → List·Memᴰ b bs
         → Holds (s .store .cells) (b .guard .boolean) → b .guard .input ≡ none

@@ -9,12 +9,15 @@ use Rattle.meaning.specs.Rows.{rowCount}
 use Rattle.meaning.specs.Declarations.{Variable, noVariable, Channel, variableAt, sourceAt, sinkAt}
 use Rattle.meaning.specs.Nodes.{nodeAt}
 use Rattle.meaning.specs.HigherRows.{lastRows, atRow}
+use Rattle.meaning.specs.Basics.{ifElse}
+use lib.Dec.{eqb}
 
--- an expression or boolean: kinds 10 to 13, or none
+-- an expression or boolean: kinds 10 to 13, or none; GIVEN, monadic operator 2, takes an element: its variable and subscript
 pub data Expr : Type 0 where
   literal : ℤ → Expr
   element : Variable → Expr → Expr
   monadic : ℕ → Expr → Expr
+  given : Variable → Expr → Expr
   dyadic : ℕ → Expr → Expr → Expr
   noExpr : Expr
 
@@ -110,6 +113,10 @@ ofGuardRow g = record { expr = noExpr; target = noTarget; guard = g; process = n
 abbrev pub ofLink : Processes → List IfChoice → List AltOption → Content
 ofLink ms ts bs = record { expr = noExpr; target = noTarget; guard = noGuard; process = none; listed = ms; tests = ts; options = bs }
 
+-- a monadic operation on what stands at the operand's row: "A monadic operator 2, GIVEN, takes an element as its operand"
+abbrev pub operation : ℕ → Content → Expr
+operation op p = ifElse (eqb op 2) (given (p .target .name) (p .target .subscript)) (monadic op (p .expr))
+
 -- what stands at row r, from what stands at the rows that it refers to
 module _ (rows : List ℤ) (r : ℕ) (at : ℕ → Content) where
   abbrev pub inputOf : ℕ → ℕ → ℕ → ChannelInput
@@ -118,7 +125,7 @@ module _ (rows : List ℤ) (r : ℕ) (at : ℕ → Content) where
   abbrev pub contentOf : Node → Content
   contentOf (Literal x) = ofExpr (literal x)
   contentOf (Element a b) = ofElement (variableAt rows a) (at b .expr)
-  contentOf (Monadic a b) = ofExpr (monadic a (at b .expr))
+  contentOf (Monadic a b) = ofExpr (operation a (at b))
   contentOf (Dyadic a b c) = ofExpr (dyadic a (at b .expr) (at c .expr))
   contentOf Stop = ofProcess (node stop r empty)
   contentOf Skip = ofGuarded (node skip r empty) none

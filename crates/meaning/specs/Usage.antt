@@ -7,7 +7,7 @@ use lib.IntN.{ℤ, pos, negsuc}
 use lib.Dec.{ltb, eqb}
 use Rattle.meaning.specs.Basics.{ifElse, common}
 use Rattle.meaning.specs.Refusals.{Refusal}
-use Rattle.meaning.specs.Tree.{Expr, literal, element, monadic, dyadic, noExpr, ChannelInput, IfChoice, AltOption, Action, stop, skip, sequence, parallel, assign, input, output, conditional, loop, alternation, Process, node, Processes, empty, also, Content, contents}
+use Rattle.meaning.specs.Tree.{Expr, literal, element, monadic, given, dyadic, noExpr, ChannelInput, IfChoice, AltOption, Action, stop, skip, sequence, parallel, assign, input, output, conditional, loop, alternation, Process, node, Processes, empty, also, Content, contents}
 
 -- n numbers from first on
 unfoldable pub numbersFrom : ℕ → ℕ → List ℕ
@@ -24,6 +24,7 @@ countsFor first n (literal (pos k)) = onlyIf (ltb k n) (first + k)
 countsFor first n (literal (negsuc k)) = []
 countsFor first n (element v e) = numbersFrom first n
 countsFor first n (monadic op e) = numbersFrom first n
+countsFor first n (given v e) = numbersFrom first n
 countsFor first n (dyadic op e f) = numbersFrom first n
 countsFor first n noExpr = numbersFrom first n
 
@@ -32,6 +33,7 @@ unfoldable pub standsIn : Expr → List ℕ
 standsIn (literal x) = []
 standsIn (element v e) = countsFor (v .first) (v .size) e ++ standsIn e
 standsIn (monadic op e) = standsIn e
+standsIn (given v e) = countsFor (v .first) (v .size) e ++ standsIn e
 standsIn (dyadic op e f) = standsIn e ++ standsIn f
 standsIn noExpr = []
 

@@ -13,8 +13,8 @@ use Rattle.meaning.specs.declared.Value.{Value}
 use Rattle.meaning.specs.declared.Value.the-variants.{Number, Missing}
 use Rattle.meaning.specs.declared.Index.{Index}
 use Rattle.meaning.specs.declared.Index.the-variants.{At, Fails}
-use Rattle.meaning.specs.Basics.{ifElse, eqZ}
-use Rattle.meaning.specs.Tree.{Expr, literal, element, monadic, dyadic, noExpr}
+use Rattle.meaning.specs.Basics.{ifElse, eqZ, isSome}
+use Rattle.meaning.specs.Tree.{Expr, literal, element, monadic, given, dyadic, noExpr}
 
 -- what a cell, a reading and a channel's message is: a number, or none ("A missing sample must stay missing")
 abbrev pub Message : Type 0
@@ -73,7 +73,7 @@ operators =
 unfoldable pub operate : ℕ → ℤ → ℤ → Value
 operate op = getD operators op (λ x y. Missing 0)
 
--- the monadic operators: 0 minus, 1 NOT
+-- the monadic operators on a number: 0 minus, 1 NOT
 unfoldable pub monadicOf : ℕ → ℤ → Value
 monadicOf op x = ifElse (eqb op 0) (fitted (negℤ x)) (ifElse (eqb op 1) (truth (not (isTrue x))) (Missing 0))
 
@@ -106,14 +106,42 @@ abbrev pub readCell : List Message → Index → Value
 readCell cells (At i) = cellValue (getD cells i none)
 readCell cells (Fails k) = Missing k
 
+-- GIVEN "gives 1 if it is set, 0 if not; its subscript can still fail"
+abbrev pub givenValue : List Message → Index → Value
+givenValue cells (At i) = truth (isSome (getD cells i none))
+givenValue cells (Fails k) = Missing k
+
 -- the value of an expression, or the first reason met
 unfoldable pub value : List Message → Expr → Value
 value cells (literal x) = Number x
 value cells (element v e) = readCell cells (inArray (v .first) (v .size) (value cells e))
 value cells (monadic op e) = whenNumber (value cells e) (monadicOf op)
+value cells (given v e) = givenValue cells (inArray (v .first) (v .size) (value cells e))
 value cells (dyadic op e f) = let w = value cells f in dyadicOf op (value cells e) w
 value cells noExpr = Missing 0
 
 -- the one of n, from first on, that a subscript means
 unfoldable pub index : List Message → ℕ → ℕ → Expr → Index
 index cells first n e = inArray first n (value cells e)
+
+-- what an output's expression gives to pass on: a message, or the first reason met for none
+pub data Sent : Type 0 where
+  gives : Message → Sent
+  lacking : ℕ → Sent
+
+-- an element gives its cell's message, "unset but inside its array" the absence; any other expression its value
+abbrev pub cellSent : List Message → Index → Sent
+cellSent cells (At i) = gives (getD cells i none)
+cellSent cells (Fails k) = lacking k
+
+abbrev pub valueSent : Value → Sent
+valueSent (Number x) = gives (some x)
+valueSent (Missing k) = lacking k
+
+unfoldable pub passed : List Message → Expr → Sent
+passed cells (literal x) = valueSent (value cells (literal x))
+passed cells (element v e) = cellSent cells (index cells (v .first) (v .size) e)
+passed cells (monadic op e) = valueSent (value cells (monadic op e))
+passed cells (given v e) = valueSent (value cells (given v e))
+passed cells (dyadic op e f) = valueSent (value cells (dyadic op e f))
+passed cells noExpr = valueSent (value cells noExpr)

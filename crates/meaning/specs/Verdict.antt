@@ -10,11 +10,11 @@ use Rattle.meaning.specs.Rows.{rowCount, fieldAt, kindAt}
 use Rattle.meaning.specs.Declarations.{declares, declarations, sumBelow, hasRole, cellsAt, elementsAt, hostChannelsAt, capacityAt}
 use Rattle.meaning.specs.Basics.{ifElse, eqZ, inside, anyPasses, among, lowest}
 use Rattle.meaning.specs.Refusals.{Refusal}
-use Rattle.meaning.specs.Kinds.{Field, unused, literalValue, within, elements, capacity, variable, channel, reference, link, Shape, shapeOf, processes}
+use Rattle.meaning.specs.Kinds.{Field, unused, literalValue, within, elements, capacity, operator, variable, channel, reference, link, Shape, shapeOf, processes}
 
 -- 4 ---------------------------------------------------------------------------------------------------------------------------
 
--- a name: the row of a declaration of which a test holds; d is the number of declarations
+-- one of the first d rows, of which a test holds; a name is one of the declarations
 abbrev pub names : ℕ → (ℕ → Bool) → ℤ → Bool
 names d test (pos r) = ltb r d && test r
 names d test (negsuc r) = false
@@ -26,6 +26,7 @@ mayHold rows d r literalValue z = inside minNumber maxNumber z
 mayHold rows d r (within lo hi) z = inside lo hi z
 mayHold rows d r elements z = inside (pos 1) (pos 64) z && (eqZ (fieldAt rows r 2) (pos 0) || eqZ z (pos 1))
 mayHold rows d r capacity z = inside (pos 0) (pos 256) z && (eqZ (fieldAt rows r 2) (pos 2) || eqZ z (pos 0))
+mayHold rows d r operator z = inside (pos 0) (pos 2) z && not (eqZ z (pos 2) && names (rowCount rows) (λ t. not (eqb (kindAt rows t) 11)) (fieldAt rows r 2))
 mayHold rows d r variable z = names d (λ q. eqb (kindAt rows q) 1) z
 mayHold rows d r (channel roles) z = names d (λ q. anyPasses (λ role. hasRole role rows q) roles) z
 mayHold rows d r (reference kinds) z = true
@@ -36,7 +37,8 @@ abbrev pub fits : List ℤ → ℕ → ℕ → Option Shape → Bool
 fits rows d r none = false
 fits rows d r (some s) = mayHold rows d r (s .a) (fieldAt rows r 1) && mayHold rows d r (s .b) (fieldAt rows r 2) && mayHold rows d r (s .c) (fieldAt rows r 3)
 
--- "unknown kind, late declaration, operator or value out of range, a name that is no declaration of the sort and role given, unused field not 0"
+-- "unknown kind, late declaration, operator or value out of range, a name that is no declaration of the sort and role given, unused field not 0";
+-- "Operator 2 whose operand is a row of another kind is refused as 4; one that names no row is 5, as for every operand"
 abbrev pub formFaultAt : List ℤ → ℕ → ℕ → Bool
 formFaultAt rows d r = (declares rows r && leb d r) || not (fits rows d r (shapeOf (kindAt rows r)))
 
@@ -57,6 +59,7 @@ leads rows r literalValue z = true
 leads rows r (within lo hi) z = true
 leads rows r elements z = true
 leads rows r capacity z = true
+leads rows r operator z = true
 leads rows r variable z = true
 leads rows r (channel roles) z = true
 leads rows r (reference kinds) z = refers rows r kinds z
@@ -73,6 +76,7 @@ target rows r literalValue z = []
 target rows r (within lo hi) z = []
 target rows r elements z = []
 target rows r capacity z = []
+target rows r operator z = []
 target rows r variable z = []
 target rows r (channel roles) z = []
 target rows r (reference kinds) z = targetOf rows r kinds z

@@ -3,6 +3,8 @@
 ghost use mathlib.Core.Path.{_≡_};
 ghost use Rattle.meaning.specs.Answers.{check, checkBytes, verdictOf, reply, replyToBytes};
 ghost use Rattle.meaning.specs.Trace.{replyTraced, replyToBytesTraced};
+ghost use Rattle.machine.specs.Lending.{lentLists, leftLists};
+ghost use Rattle.write_buffers.specs.Lending.{lentTask, lentBuffers, leftBuffers};
 ghost use Rattle.occam_table.specs.Packing.{verdictNumber};
 ghost use Rattle.occam_table.specs.Exports.{packed, packedTraced, stripNumber};
 ghost use Rattle.occam_table.specs.RowsLent.{rowsLent};
@@ -11,7 +13,7 @@ mod packing; // packing.rt: answers as one number
 
 use read_table::TableRead;
 
-// The public entries of Rattle callers: the verdict, the run, untraced and traced, the strip of a host channel.
+// The public entries of Rattle callers: the verdict, the run, untraced and traced, the strip of a host channel and its marks.
 pub use call_table::run_rows;
 pub use call_table::run_rows_traced;
 pub use call_table::run_table;
@@ -19,6 +21,7 @@ pub use call_table::run_table_traced;
 pub use check_verdict::check_rows;
 pub use check_verdict::check_table;
 pub use write_strips::strip;
+pub use write_strips::strip_marks;
 
 // The verdict on rows lent as numbers.
 #[no_mangle]
@@ -49,8 +52,9 @@ pub extern "C" fn occam_run_rows(
     places: &mut [u32],
     numbers: &mut [i32],
     counts: &mut [u32],
+    output_marks: &mut [u8],
 ) -> u64
-    ensures { λ n. ⌜ record { number = n; buffers = record { cells = now (cells .exit); marks = now (marks .exit); states = now (states .exit); places = now (places .exit); numbers = now (numbers .exit); counts = now (counts .exit) } } ≡ packed (reply (record { rows = now (rows .entry); sheet = now (sheet .entry); choices = now (choices .entry); budget = budget }) (record { cells = now (cells .entry); marks = now (marks .entry); states = now (states .entry); places = now (places .entry); numbers = now (numbers .entry); counts = now (counts .entry) })) ⌝ }
+    ensures { λ n. ⌜ record { number = n; buffers = leftBuffers cells marks states places numbers counts «output_marks» } ≡ packed (reply (lentTask rows sheet choices budget) (lentBuffers cells marks states places numbers counts «output_marks»)) ⌝ }
 {
     packing::answer_number(call_table::run_rows(
         rows,
@@ -63,6 +67,7 @@ pub extern "C" fn occam_run_rows(
         places,
         numbers,
         counts,
+        output_marks,
     ))
 }
 
@@ -79,8 +84,9 @@ pub extern "C" fn occam_run_table(
     places: &mut [u32],
     numbers: &mut [i32],
     counts: &mut [u32],
+    output_marks: &mut [u8],
 ) -> u64
-    ensures { λ n. ⌜ record { number = n; buffers = record { cells = now (cells .exit); marks = now (marks .exit); states = now (states .exit); places = now (places .exit); numbers = now (numbers .exit); counts = now (counts .exit) } } ≡ packed (replyToBytes (now (table .entry)) (now (sheet .entry)) (now (choices .entry)) budget (record { cells = now (cells .entry); marks = now (marks .entry); states = now (states .entry); places = now (places .entry); numbers = now (numbers .entry); counts = now (counts .entry) })) ⌝ }
+    ensures { λ n. ⌜ record { number = n; buffers = leftBuffers cells marks states places numbers counts «output_marks» } ≡ packed (replyToBytes (now (table .entry)) (now (sheet .entry)) (now (choices .entry)) budget (lentBuffers cells marks states places numbers counts «output_marks»)) ⌝ }
 {
     packing::answer_number(call_table::run_table(
         table,
@@ -93,6 +99,7 @@ pub extern "C" fn occam_run_table(
         places,
         numbers,
         counts,
+        output_marks,
     ))
 }
 
@@ -110,10 +117,11 @@ pub extern "C" fn occam_run_rows_traced(
     places: &mut [u32],
     numbers: &mut [i32],
     counts: &mut [u32],
+    output_marks: &mut [u8],
     readied: &mut [u16],
     taken: &mut [u16],
 ) -> u64
-    ensures { λ n. ⌜ record { reply = record { number = n; buffers = record { cells = now (cells .exit); marks = now (marks .exit); states = now (states .exit); places = now (places .exit); numbers = now (numbers .exit); counts = now (counts .exit) } }; lists = record { readyCounts = now (readied .exit); takenRows = now (taken .exit) } } ≡ packedTraced (replyTraced (record { rows = now (rows .entry); sheet = now (sheet .entry); choices = now (choices .entry); budget = budget }) (record { cells = now (cells .entry); marks = now (marks .entry); states = now (states .entry); places = now (places .entry); numbers = now (numbers .entry); counts = now (counts .entry) }) (record { readyCounts = now (readied .entry); takenRows = now (taken .entry) })) ⌝ }
+    ensures { λ n. ⌜ record { reply = record { number = n; buffers = leftBuffers cells marks states places numbers counts «output_marks» }; lists = leftLists readied taken } ≡ packedTraced (replyTraced (lentTask rows sheet choices budget) (lentBuffers cells marks states places numbers counts «output_marks») (lentLists readied taken)) ⌝ }
 {
     packing::answer_number(call_table::run_rows_traced(
         rows,
@@ -126,6 +134,7 @@ pub extern "C" fn occam_run_rows_traced(
         places,
         numbers,
         counts,
+        output_marks,
         readied,
         taken,
     ))
@@ -144,10 +153,11 @@ pub extern "C" fn occam_run_table_traced(
     places: &mut [u32],
     numbers: &mut [i32],
     counts: &mut [u32],
+    output_marks: &mut [u8],
     readied: &mut [u16],
     taken: &mut [u16],
 ) -> u64
-    ensures { λ n. ⌜ record { reply = record { number = n; buffers = record { cells = now (cells .exit); marks = now (marks .exit); states = now (states .exit); places = now (places .exit); numbers = now (numbers .exit); counts = now (counts .exit) } }; lists = record { readyCounts = now (readied .exit); takenRows = now (taken .exit) } } ≡ packedTraced (replyToBytesTraced (now (table .entry)) (now (sheet .entry)) (now (choices .entry)) budget (record { cells = now (cells .entry); marks = now (marks .entry); states = now (states .entry); places = now (places .entry); numbers = now (numbers .entry); counts = now (counts .entry) }) (record { readyCounts = now (readied .entry); takenRows = now (taken .entry) })) ⌝ }
+    ensures { λ n. ⌜ record { reply = record { number = n; buffers = leftBuffers cells marks states places numbers counts «output_marks» }; lists = leftLists readied taken } ≡ packedTraced (replyToBytesTraced (now (table .entry)) (now (sheet .entry)) (now (choices .entry)) budget (lentBuffers cells marks states places numbers counts «output_marks») (lentLists readied taken)) ⌝ }
 {
     packing::answer_number(call_table::run_table_traced(
         table,
@@ -160,6 +170,7 @@ pub extern "C" fn occam_run_table_traced(
         places,
         numbers,
         counts,
+        output_marks,
         readied,
         taken,
     ))
@@ -186,7 +197,7 @@ pub extern "C" fn occam_read_rows(table: &[u8], rows: &mut [i32]) -> u64
     }
 }
 
-// Where the strip of an output channel begins, and its capacity.
+// Where the strip of an output channel begins, in the output numbers as in their marks, and its capacity.
 #[no_mangle]
 pub extern "C" fn occam_strip(rows: &[i32], channel: usize) -> u64
     ensures { λ n. ⌜ n ≡ stripNumber (now (rows .entry)) channel ⌝ }

@@ -4,10 +4,11 @@ use mathlib.Core.Bool.{Bool, true, false}
 use mathlib.Core.List.{[], _∷_}
 use Prim.Native.Nat.{ℕ, _+_, _-_, _<_, _≤_}
 use native.Mathlib.Omega.{arith}
-use lib.IntN.{ℤ}
 use lib.Dec.{eqb}
 use borrow.Author.Tests.{eqb-true, ne-eqb}
 use Rattle.meaning.specs.Basics.{ifElse}
+use Rattle.meaning.specs.Values.{Message}
+use Rattle.meaning.specs.Buffers.{numberIn, mark}
 use Rattle.meaning.specs.State.{Program}
 use Rattle.meaning.specs.Step as steps
 use Rattle.machine.specs.Held.{ChangesBelow}
@@ -20,11 +21,11 @@ pub note-less : (i : ℕ) → i + 1 - 1 ≡ i
 note-less i = omega arith
 
 -- a communication: row `row` gets a state by a step of row r, and row i hands z over to cell a and ends
-abbrev pub handed : ℕ → ℕ → ℕ → ℕ → ℤ → ℕ → Change
-handed r row state a z i = record { owner = r; at = row; next = state; sender = i + 1; written = Cell a z 1 }
+abbrev pub handed : ℕ → ℕ → ℕ → ℕ → Message → ℕ → Change
+handed r row state a m i = record { owner = r; at = row; next = state; sender = i + 1; written = Cell a (numberIn m) (mark m) }
 
-pub handed-changes : (r row state a : ℕ) (z : ℤ) (i : ℕ) → steps.becomes r row state ∷ steps.becomes i i 2 ∷ [] ≡ changesOf (handed r row state a z i)
-handed-changes r row state a z i = rw (ne-eqb (i + 1) 0 (λ e. absurd (omega arith)), note-less i)
+pub handed-changes : (r row state a : ℕ) (m : Message) (i : ℕ) → steps.becomes r row state ∷ steps.becomes i i 2 ∷ [] ≡ changesOf (handed r row state a m i)
+handed-changes r row state a m i = rw (ne-eqb (i + 1) 0 (λ e. absurd (omega arith)), note-less i)
 
 module _ (c : Change) where
   -- made, and settled upward

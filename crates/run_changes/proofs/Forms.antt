@@ -14,13 +14,13 @@ use Rattle.meaning.specs.declared.Index.the-variants.{At, Fails}
 use Rattle.meaning.specs.Basics.{ifElse}
 use Rattle.meaning.specs.Declarations.{Channel}
 use Rattle.meaning.specs.Tree.{Expr, ChannelInput, IfChoice, AltOption, Action, stop, skip, sequence, parallel, assign, input, output, conditional, loop, alternation, actionOf}
-use Rattle.meaning.specs.Values.{Message, isTrue, value, index}
+use Rattle.meaning.specs.Values.{Message, isTrue, value, index, Sent, gives, lacking, passed}
 use Rattle.meaning.specs.State.{Store, State, Program, processAt, Write, writeCell, writePlace, writeOutput}
 use Rattle.meaning.specs.Readings.{Sheet}
 use Rattle.meaning.specs.Intent.{Offer, openOffer, inputOffer, Intent, waits, moves, inputsFrom, outputsTo, selects, halts, assigning, testing, choosing, hostWrite, outputting, InputResult, lacks, notYet, reads, fromElement, hostRead, inputResultOf, inputting, OptionsResult, fails, offers, adding, opening, guarding, selecting, inputResult, inputResultIf, tests, optionsResult, intent}
 use Rattle.meaning.specs.Ready.{isLive, intentAt}
 use Rattle.run_intents.specs.Stands.{optionsOf}
-use Rattle.run_changes.proofs.Reasons.{Known, Found, value-known, index-known}
+use Rattle.run_changes.proofs.Reasons.{Known, Found, value-known, index-known, KnownSent, passed-known}
 
 -- the row of an offer's process
 abbrev pub processOf : Offer → ℕ
@@ -37,8 +37,8 @@ module _ (sheet : Sheet) (x : Store) where
   reading a p m = writeCell a m ∷ writePlace p (suc (getD (x .places) p 0)) ∷ []
 
   -- what one more message of a channel to the host writes
-  abbrev pub oneMore : ℕ → ℤ → List Write
-  oneMore p z = writeOutput p (getD (x .outputs) p [] ++ (some z ∷ [])) ∷ []
+  abbrev pub oneMore : ℕ → Message → List Write
+  oneMore p m = writeOutput p (getD (x .outputs) p [] ++ (m ∷ [])) ∷ []
 
   pub data Opens (ws : List Write) : Type 0 where
     writes-nothing : ws ≡ [] → Opens ws
@@ -70,9 +70,9 @@ module _ (sheet : Sheet) (x : Store) where
     is-end : w ≡ moves r 2 [] → Form r k w
     is-start : (q : ℕ) → w ≡ moves q 1 [] → Form r k w
     is-read : (a p : ℕ) (m : Message) → Left p m → w ≡ moves r 2 (reading a p m) → Form r k w
-    is-write : (c : Channel) (e f : Expr) (z : ℤ) → k ≡ output c e f → c .host ≡ true → w ≡ moves r 2 (oneMore (c .number) z) → Form r k w
+    is-write : (c : Channel) (e f : Expr) (m : Message) → k ≡ output c e f → c .host ≡ true → w ≡ moves r 2 (oneMore (c .number) m) → Form r k w
     is-input : (e a : ℕ) → w ≡ inputsFrom e a → Form r k w
-    is-output : (e : ℕ) (z : ℤ) → w ≡ outputsTo e (some z) → Form r k w
+    is-output : (e : ℕ) (m : Message) → w ≡ outputsTo e m → Form r k w
     is-select : (os : List Offer) → Offered (optionsOf k) os → w ≡ selects os → Form r k w
 
   module _ (r : ℕ) (k : Action) where
@@ -97,14 +97,14 @@ module _ (sheet : Sheet) (x : Store) where
     tests-form [] = is-wait refl
     tests-form (t ∷ l) = test-form (t .process) (value (x .cells) (t .boolean)) (tests sheet r l x) (value-known (x .cells) (t .boolean)) (tests-form l)
 
-    send-form : (c : Channel) (e f : Expr) (i : Index) (v : Value) → k ≡ output c e f → Found i → Known v → Form r k (outputting r c (x .outputs) i v)
+    send-form : (c : Channel) (e f : Expr) (i : Index) (v : Sent) → k ≡ output c e f → Found i → KnownSent v → Form r k (outputting r c (x .outputs) i v)
     send-form c e f (Fails n) v q h g = is-stop n h refl
-    send-form c e f (At d) (Missing n) q h g = is-stop n g refl
-    send-form c e f (At d) (Number z) q h g = go (c .host) refl
+    send-form c e f (At d) (lacking n) q h g = is-stop n g refl
+    send-form c e f (At d) (gives m) q h g = go (c .host) refl
       where
-        go : (t : Bool) → c .host ≡ t → Form r k (ifElse t (hostWrite r c (getD (x .outputs) (c .number) []) (some z)) (outputsTo d (some z)))
-        go true i = either (ltb (length (getD (x .outputs) (c .number) [])) (c .capacity)) (moves r 2 (oneMore (c .number) z)) waits (is-write c e f z q i refl) (is-wait refl)
-        go false i = is-output d z refl
+        go : (t : Bool) → c .host ≡ t → Form r k (ifElse t (hostWrite r c (getD (x .outputs) (c .number) []) m) (outputsTo d m))
+        go true i = either (ltb (length (getD (x .outputs) (c .number) [])) (c .capacity)) (moves r 2 (oneMore (c .number) m)) waits (is-write c e f m q i refl) (is-wait refl)
+        go false i = is-output d m refl
 
   -- what an input comes to
   pub data Come (c : InputResult) : Type 0 where
@@ -205,7 +205,7 @@ module _ (sheet : Sheet) (x : Store) where
   intent-form r parallel = is-wait refl
   intent-form r (assign v e f) = assign-form r (assign v e f) (index (x .cells) (v .first) (v .size) e) (value (x .cells) f) (index-known (x .cells) (v .first) (v .size) e) (value-known (x .cells) f)
   intent-form r (input i) = input-form r (input i) (inputResult sheet i x) (input-come i)
-  intent-form r (output c e f) = send-form r (output c e f) c e f (index (x .cells) (c .first) (c .size) e) (value (x .cells) f) refl (index-known (x .cells) (c .first) (c .size) e) (value-known (x .cells) f)
+  intent-form r (output c e f) = send-form r (output c e f) c e f (index (x .cells) (c .first) (c .size) e) (passed (x .cells) f) refl (index-known (x .cells) (c .first) (c .size) e) (passed-known (x .cells) f)
   intent-form r (conditional ts) = tests-form r (conditional ts) ts
   intent-form r (loop e b) = while-form r (loop e b) b (value (x .cells) e) (value-known (x .cells) e)
   intent-form r (alternation bs) = select-form r (alternation bs) (optionsResult sheet bs x) (looked bs)

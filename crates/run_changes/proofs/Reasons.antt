@@ -12,9 +12,9 @@ use Rattle.meaning.specs.declared.Value.{Value}
 use Rattle.meaning.specs.declared.Value.the-variants.{Number, Missing}
 use Rattle.meaning.specs.declared.Index.{Index}
 use Rattle.meaning.specs.declared.Index.the-variants.{At, Fails}
-use Rattle.meaning.specs.Basics.{ifElse, eqZ}
-use Rattle.meaning.specs.Tree.{Expr, literal, element, monadic, dyadic, noExpr}
-use Rattle.meaning.specs.Values.{Message, fitted, isTrue, truth, quotient, remainder, operators, operate, monadicOf, decides, whenNumber, dyadicOf, inArray, cellValue, readCell, value, index}
+use Rattle.meaning.specs.Basics.{ifElse, eqZ, isSome}
+use Rattle.meaning.specs.Tree.{Expr, literal, element, monadic, given, dyadic, noExpr}
+use Rattle.meaning.specs.Values.{Message, fitted, isTrue, truth, quotient, remainder, operators, operate, monadicOf, decides, whenNumber, dyadicOf, inArray, cellValue, readCell, value, index, givenValue, Sent, gives, lacking, cellSent, valueSent, passed}
 
 -- a value, or a reason that is at most 4
 abbrev pub Known : Value → Type 0
@@ -101,14 +101,45 @@ read-known cells (At i) h = go (getD cells i none)
     go (some x) = tt
 read-known cells (Fails k) h = h
 
+given-known : (cells : List Message) (i : Index) → Found i → Known (givenValue cells i)
+given-known cells (At i) h = go (isSome (getD cells i none))
+  where
+    go : (t : Bool) → Known (truth t)
+    go true = tt
+    go false = tt
+given-known cells (Fails k) h = h
+
 pub value-known : (cells : List Message) (e : Expr) → Known (value cells e)
 unfolding value
 value-known cells (literal x) = tt
 value-known cells (element v e) = read-known cells (inArray (v .first) (v .size) (value cells e)) (array-known (v .first) (v .size) (value cells e) (value-known cells e))
 value-known cells (monadic op e) = when-known (value cells e) (monadicOf op) (value-known cells e) (monadic-known op)
+value-known cells (given v e) = given-known cells (inArray (v .first) (v .size) (value cells e)) (array-known (v .first) (v .size) (value cells e) (value-known cells e))
 value-known cells (dyadic op e f) = dyadic-known op (value cells e) (value cells f) (value-known cells e) (value-known cells f)
 value-known cells noExpr = omega arith
 
 pub index-known : (cells : List Message) (first n : ℕ) (e : Expr) → Found (index cells first n e)
 unfolding index
 index-known cells first n e = array-known first n (value cells e) (value-known cells e)
+
+-- what an output passes lacks a value for one of them
+abbrev pub KnownSent : Sent → Type 0
+KnownSent (gives m) = Unit {0}
+KnownSent (lacking k) = k ≤ 4
+
+sent-known : (v : Value) → Known v → KnownSent (valueSent v)
+sent-known (Number x) h = tt
+sent-known (Missing k) h = h
+
+cell-known : (cells : List Message) (i : Index) → Found i → KnownSent (cellSent cells i)
+cell-known cells (At a) h = tt
+cell-known cells (Fails k) h = h
+
+pub passed-known : (cells : List Message) (e : Expr) → KnownSent (passed cells e)
+unfolding passed
+passed-known cells (literal x) = sent-known (value cells (literal x)) (value-known cells (literal x))
+passed-known cells (element v e) = cell-known cells (index cells (v .first) (v .size) e) (index-known cells (v .first) (v .size) e)
+passed-known cells (monadic op e) = sent-known (value cells (monadic op e)) (value-known cells (monadic op e))
+passed-known cells (given v e) = sent-known (value cells (given v e)) (value-known cells (given v e))
+passed-known cells (dyadic op e f) = sent-known (value cells (dyadic op e f)) (value-known cells (dyadic op e f))
+passed-known cells noExpr = sent-known (value cells noExpr) (value-known cells noExpr)

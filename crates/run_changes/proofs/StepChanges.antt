@@ -21,16 +21,17 @@ use Rattle.meaning.specs.Readings.{Sheet}
 use Rattle.meaning.specs.Intent.{Offer, openOffer, inputOffer, Intent, waits, moves, inputsFrom, outputsTo, selects, halts}
 use Rattle.meaning.specs.Ready.{optionRow, isLive, effectOf, intentAt}
 use Rattle.meaning.specs.Step as steps
-use Rattle.meaning.specs.Buffers.{Buffers, mark, numberIn, cellOf, capacities}
+use Rattle.meaning.specs.Buffers.{Buffers, mark, numberIn, capacities}
 use Rattle.meaning.specs.Order.{OrderOf}
 use Rattle.meaning.specs.Answers.{check}
 use Rattle.agreement.specs.RowsOfSteps.{offerAt}
 use Rattle.agreement.proofs.Active.{acts-alone, passes-on, takes-open, takes-input, offerAt-is}
 use Rattle.machine.specs.RowSteps.{altOf, ownStepBy, offerStep, optionStepBy, firstStep, waitingAt, ownStep, optionStep, optionStepOf, stepAt}
-use Rattle.machine.specs.Held.{HoldsState, stripStart, putWrites, AllInRange, KeptReadings}
+use Rattle.machine.specs.Held.{putCell, HoldsState, stripStart, putWrites, AllInRange, KeptReadings}
 use Rattle.machine.proofs.Declared.{capacities-length, room}
 use Rattle.machine.proofs.Strips.{strip-within}
 use Rattle.machine.proofs.StateSizes.{lengths}
+use Rattle.meaning.proofs.LentLaws.{cell-back}
 use Rattle.machine.proofs.HeldLaws.{read-place, read-count}
 use Rattle.machine.proofs.StepEffects.{own-effect, pass-effect, take-effect, takeFrom-effect}
 use Rattle.machine.proofs.MachineSteps.{writes-in}
@@ -65,10 +66,10 @@ small n h = omega arith
 inside : (e : ℕ) → e < 256 → e % 256 ≡ e
 inside e h = omega arith
 
--- a number with a mark, of a message
-message-back : (m : Message) → cellOf (numberIn m) (mark m) ≡ m
-message-back none = refl
-message-back (some x) = refl
+-- a mark is a byte
+mark-byte : (m : Message) → mark m % 256 ≡ mark m
+mark-byte none = refl
+mark-byte (some x) = refl
 
 or-none : (y : Option Label) → firstStep y none ≡ y
 or-none none = refl
@@ -125,7 +126,7 @@ module _ (rows : List ℤ) (ok : check rows ≡ none) (sheet : Sheet) (l : List 
         let t = rw q at left in
         let x = K .number p n (R .1 .0) m t in
         let y = K .marked p n (R .1 .0) m t in
-        rw (q, x, y, message-back m)
+        rw (q, x, y, cell-back m)
 
     read-fits : DataFits readings given (Reading a p) b
     read-fits =
@@ -136,17 +137,17 @@ module _ (rows : List ℤ) (ok : check rows ≡ none) (sheet : Sheet) (l : List 
         (omega (arith, R .0, room rows ok .cells), omega (arith, R .1 .0, room rows ok .places), omega arith, omega (arith, R .1 .0, K .numbers-fit), omega (arith, R .1 .0, K .marks-fit))
 
   -- an output
-  module _ (p strip : ℕ) (z : ℤ) (e : strip ≡ stripStart rows p) (R : AllInRange rows (s .store) (oneMore sheet (s .store) p z)) where
-    write-put : putWrites rows (oneMore sheet (s .store) p z) b ≡ putData readings given (Output p strip z) b
+  module _ (p strip : ℕ) (m : Message) (e : strip ≡ stripStart rows p) (R : AllInRange rows (s .store) (oneMore sheet (s .store) p m)) where
+    write-put : putWrites rows (oneMore sheet (s .store) p m) b ≡ putData readings given (Output p strip (numberIn m) (mark m)) b
     write-put =
         let old = getD (s .store .outputs) p [] in
-        let g : getD (old ++ (some z ∷ [])) (getD (b .counts) p 0) none ≡ some z = rw (← count-same p) (getD-append-seam old (some z) [] none) in
+        let g : getD (old ++ (m ∷ [])) (getD (b .counts) p 0) none ≡ m = rw (← count-same p) (getD-append-seam old m [] none) in
         rw (e, g)
 
-    write-fits : DataFits readings given (Output p strip z) b
+    write-fits : DataFits readings given (Output p strip (numberIn m) (mark m)) b
     unfolding stripStart
     write-fits =
-        let (m, k, q, c) = R .0 in
+        let (n, k, q, c) = R .0 in
         let w = strip-within (capacities rows) p (omega (arith, capacities-length rows)) in
         let y = count-same p in
         (omega (arith, room rows ok .outputs), omega (arith, room rows ok .numbers))
@@ -155,23 +156,8 @@ module _ (rows : List ℤ) (ok : check rows ≡ none) (sheet : Sheet) (l : List 
 
   -- the sender at an element, and what it hands over
   module _ (e i : ℕ) (q : waiter e ≡ some i) where
-    sender-form : (z : ℤ) × (W i ≡ outputsTo e (some z))
-    sender-form = go (form-of (program rows) sheet s i) (waiting-outputs (program rows) sheet s e i q)
-      where
-        k : Action
-        k = actionOf (processAt (program rows) i)
-
-        go : Form sheet (s .store) i k (W i) → (z : Message) × (W i ≡ outputsTo e z) → (z : ℤ) × (W i ≡ outputsTo e (some z))
-        go (is-wait f) (z, g) = let y : _≡_ {A = ℕ} 0 1 = cc in absurd (omega arith)
-        go (is-stop n u f) (z, g) = let y : _≡_ {A = ℕ} 0 1 = cc in absurd (omega arith)
-        go (is-assign a n f) (z, g) = let y : _≡_ {A = ℕ} 0 1 = cc in absurd (omega arith)
-        go (is-end f) (z, g) = let y : _≡_ {A = ℕ} 0 1 = cc in absurd (omega arith)
-        go (is-start n f) (z, g) = let y : _≡_ {A = ℕ} 0 1 = cc in absurd (omega arith)
-        go (is-read a p m u f) (z, g) = let y : _≡_ {A = ℕ} 0 1 = cc in absurd (omega arith)
-        go (is-write c v n y t u f) (z, g) = let y : _≡_ {A = ℕ} 0 1 = cc in absurd (omega arith)
-        go (is-input d a f) (z, g) = let y : _≡_ {A = ℕ} 0 1 = cc in absurd (omega arith)
-        go (is-output d n f) (z, g) = (n, g ∙ ap (outputsTo e) cc)
-        go (is-select os u f) (z, g) = let y : _≡_ {A = ℕ} 0 1 = cc in absurd (omega arith)
+    sender-form : (m : Message) × (W i ≡ outputsTo e m)
+    sender-form = waiting-outputs (program rows) sheet s e i q
 
     sender-below : i < rowCount rows
     sender-below = at-work i (λ f. let (z, g) = sender-form in let y : _≡_ {A = ℕ} 0 1 = cc in absurd (omega arith))
@@ -183,7 +169,7 @@ module _ (rows : List ℤ) (ok : check rows ≡ none) (sheet : Sheet) (l : List 
         let (f, k) = T .sender e i q in
         let (m, n) = T .outputs i e z g in
         let r = row-noted i (omega (arith, sender-below, room rows ok .states)) in
-        rw (inside e k, f, r, m, n)
+        rw (inside e k, f, r, m, n, mark-byte z)
 
   -- ---- the step of a row by itself
 
@@ -223,9 +209,9 @@ module _ (rows : List ℤ) (ok : check rows ≡ none) (sheet : Sheet) (l : List 
             let (z, u) = sender-form e i q in
             same (handed j j 2 a z i) _ x (pass j i) (c ∙ communicated-is e i q j j 2 a) (Option·some-injective (pass j i) x t) (record {
               effect = _;
-              is-effect = pass-effect W j i e a (some z) f u;
+              is-effect = pass-effect W j i e a z f u;
               changes-are = handed-changes j j 2 a z i;
-              data-put = refl;
+              data-put = ap (λ (w : Message). putCell a w b) (sym (cell-back z));
               data-fits = omega (arith, writes-in rows sheet s (passes-on f u) .0, room rows ok .cells);
               owner-below = at-work j (λ v. let y : _≡_ {A = ℕ} 0 1 = cc in absurd (omega arith));
               next-small = omega arith;
@@ -250,15 +236,16 @@ module _ (rows : List ℤ) (ok : check rows ≡ none) (sheet : Sheet) (l : List 
         let ws = reading sheet (s .store) a p m in
         let R = writes-in rows sheet s (acts-alone f) in
         same (rowBecomes j j 2 (Reading a p)) _ x (own j) (own-by strip j 5 v ∙ rw (t, u)) (alone j 2 ws f) (moved j j 2 ws (Reading a p) f (omega arith) (read-put a p m left R) (read-fits a p m left R))
-    own-done S (is-write c e d z k t f) =
-        let (v, u, y) = T .writes j (c .number) (getD (s .store .outputs) (c .number) []) z f in
-        let ws = oneMore sheet (s .store) (c .number) z in
+    own-done S (is-write c e d m g t f) =
+        let (v, u, k, y) = T .writes j (c .number) (getD (s .store .outputs) (c .number) []) m f in
+        let ws = oneMore sheet (s .store) (c .number) m in
         let R = writes-in rows sheet s (acts-alone f) in
-        let q = S c e d k t in
-        same (rowBecomes j j 2 (Output (c .number) strip z)) _ x (own j) (own-by strip j 6 v ∙ rw (u, y)) (alone j 2 ws f)
-        (moved j j 2 ws (Output (c .number) strip z) f (omega arith) (write-put (c .number) strip z q R) (write-fits (c .number) strip z q R))
+        let q = S c e d g t in
+        let d = Output (c .number) strip (numberIn m) (mark m) in
+        same (rowBecomes j j 2 d) _ x (own j) (own-by strip j 6 v ∙ rw (u, k, y, mark-byte m)) (alone j 2 ws f)
+        (moved j j 2 ws d f (omega arith) (write-put (c .number) strip m q R) (write-fits (c .number) strip m q R))
     own-done S (is-input e a f) = let (v, t, u) = T .inputs j e a f in input-done e a f (own-by strip j 7 v ∙ rw (t, u))
-    own-done S (is-output e z f) = absurd (Option·none-ne-some x (step-is (outputsTo e (some z)) f))
+    own-done S (is-output e z f) = absurd (Option·none-ne-some x (step-is (outputsTo e z) f))
     own-done S (is-select os u f) = absurd (Option·none-ne-some x (step-is (selects os) f))
 
   -- ---- the step of an ALT with its option
@@ -307,9 +294,9 @@ module _ (rows : List ℤ) (ok : check rows ≡ none) (sheet : Sheet) (l : List 
         let (w, d, y) = T .offers-input r j i p e a os alt sel f in
         same (handed r q 1 a z n) _ x (takeWithOutput r j n) (option-by r q j 7 w ∙ rw (d, y) (communicated-is e n v r q 1 a)) (Option·some-injective (takeWithOutput r j n) x t) (record {
           effect = _;
-          is-effect = takeFrom-effect W r j n i p e a (some z) os sel f u;
+          is-effect = takeFrom-effect W r j n i p e a z os sel f u;
           changes-are = ap (λ (m : ℕ). steps.becomes r m 1 ∷ steps.becomes n n 2 ∷ []) g ∙ handed-changes r q 1 a z n;
-          data-put = refl;
+          data-put = ap (λ (w : Message). putCell a w b) (sym (cell-back z));
           data-fits = omega (arith, writes-in rows sheet s (takes-input sel f u) .0, room rows ok .cells);
           owner-below = at-work r (λ k. let y : _≡_ {A = ℕ} 0 1 = cc in absurd (omega arith));
           next-small = omega arith;
@@ -338,7 +325,7 @@ module _ (rows : List ℤ) (ok : check rows ≡ none) (sheet : Sheet) (l : List 
     option-done q e (is-read a p m u f) = absurd (Option·none-ne-some x (taken (moves r 2 (reading sheet (s .store) a p m)) f))
     option-done q e (is-write c d i z k t f) = absurd (Option·none-ne-some x (taken (moves r 2 (oneMore sheet (s .store) (c .number) z)) f))
     option-done q e (is-input d a f) = absurd (Option·none-ne-some x (taken (inputsFrom d a) f))
-    option-done q e (is-output d z f) = absurd (Option·none-ne-some x (taken (outputsTo d (some z)) f))
+    option-done q e (is-output d z f) = absurd (Option·none-ne-some x (taken (outputsTo d z) f))
     option-done q e (is-select os u f) =
         (select-done r j q x os alt f e u (taken (selects os) f), at-work r (λ v. let y : _≡_ {A = ℕ} 0 1 = cc in absurd (omega arith)))
 

@@ -37,7 +37,7 @@ data-states : (readings : List ℤ) (given : List ℕ) (d : Data) (b : Buffers) 
 data-states readings given Nothing b = refl
 data-states readings given (Cell a x m) b = refl
 data-states readings given (Reading a p) b = refl
-data-states readings given (Output p strip x) b = refl
+data-states readings given (Output p strip x m) b = refl
 
 module _ (rows : List ℤ) (ok : check rows ≡ none) (sheet : Sheet) (l : List Label) (s : State) (o : OrderOf rows sheet l s) (b : Buffers) (h : HoldsState rows s b)
     (readings : List ℤ) (given : List ℕ) (lines : ℕ) (K : KeptReadings rows sheet readings given lines) (few : lines ≤ 128)

@@ -64,7 +64,7 @@ module _ (acts : List ℕ) (sent : List ℤ) where
         (ifElse (eqb w 3) (rowBecomes j j 2 Nothing)
         (ifElse (eqb w 4) (rowBecomes j (actAt acts j 1) 1 Nothing)
         (ifElse (eqb w 5) (rowBecomes j j 2 (Reading (actAt acts j 2) (actAt acts j 1)))
-        (ifElse (eqb w 6) (rowBecomes j j 2 (Output (actAt acts j 1) strip (getD sent j (pos 0))))
+        (ifElse (eqb w 6) (rowBecomes j j 2 (Output (actAt acts j 1) strip (getD sent j (pos 0)) (markAt acts j % 256)))
         (ifElse (eqb w 7) (communicated j j 2 (actAt acts j 1) (actAt acts j 2))
         (rowBecomes j j 1 Nothing)))))))
 
@@ -81,9 +81,9 @@ changeIn rows acts sent elements j =
 abbrev pub changesOf : Change → List StateChange
 changesOf c = becomes (c .owner) (c .at) (c .next) ∷ ifElse (eqb (c .sender) 0) [] (becomes (c .sender - 1) (c .sender - 1) 2 ∷ [])
 
--- one more number of the p-th output channel, whose strip begins at `strip`
-abbrev pub putNumber : ℕ → ℕ → ℤ → Buffers → Buffers
-putNumber p strip x b =
+-- one more number with its mark of the p-th output channel, whose strip begins at `strip`
+abbrev pub putNumber : ℕ → ℕ → ℤ → ℕ → Buffers → Buffers
+putNumber p strip x m b =
     record {
       cells = b .cells;
       marks = b .marks;
@@ -91,6 +91,7 @@ putNumber p strip x b =
       places = b .places;
       numbers = set (b .numbers) (strip + getD (b .counts) p 0) x;
       counts = set (b .counts) p (suc (getD (b .counts) p 0));
+      outputMarks = set (b .outputMarks) (strip + getD (b .counts) p 0) m;
     }
 
 -- where the next reading of the p-th input channel is kept
@@ -103,15 +104,15 @@ putData readings given Nothing b = b
 putData readings given (Cell a x m) b = putCell a (cellOf x m) b
 putData readings given (Reading a p) b =
     putPlace p (suc (getD (b .places) p 0)) (putCell a (cellOf (getD readings (readingPlace p b) (pos 0)) (getD given (readingPlace p b) 0)) b)
-putData readings given (Output p strip x) b = putNumber p strip x b
+putData readings given (Output p strip x m) b = putNumber p strip x m b
 
 -- the arrays with other row states
 abbrev pub withStates : List ℕ → Buffers → Buffers
-withStates t b = record { cells = b .cells; marks = b .marks; states = t; places = b .places; numbers = b .numbers; counts = b .counts }
+withStates t b = record { cells = b .cells; marks = b .marks; states = t; places = b .places; numbers = b .numbers; counts = b .counts; outputMarks = b .outputMarks }
 
 -- the numbers of a change of data are within the arrays, and the place of a reading is within the lists that keep the readings
 abbrev pub DataFits : List ℤ → List ℕ → Data → Buffers → Type 0
 DataFits readings given Nothing b = Unit {0}
 DataFits readings given (Cell a x m) b = a < 256
 DataFits readings given (Reading a p) b = (a < 256) × (p < 8) × (getD (b .places) p 0 < 128) × (readingPlace p b < length readings) × (readingPlace p b < length given)
-DataFits readings given (Output p strip x) b = (p < 8) × (strip + getD (b .counts) p 0 < 1024)
+DataFits readings given (Output p strip x m) b = (p < 8) × (strip + getD (b .counts) p 0 < 1024)

@@ -1,4 +1,4 @@
-// The change of the step that a row orders, as a value, read from what is noted of rows; and one more number in a strip.
+// The change of the step that a row orders, as a value, read from what is noted of rows; and one more message in a strip.
 ghost use mathlib.Core.Path.{_≡_};
 ghost use mathlib.Core.List.{List};
 ghost use Prim.Native.Nat.{suc, _+_, _<_};
@@ -9,12 +9,12 @@ ghost use Rattle.run_changes.specs.Changes.{rowNoted, rowBecomes, commun
 use run_code::place;
 
 // A change of data: none; a cell gets a number with its mark; a cell gets the next reading of a channel, whose place is
-// raised; a number for a channel to the host, whose strip begins there.
+// raised; a number with its mark for a channel to the host, whose strip begins there.
 pub enum Data {
     Nothing,
     Cell(usize, i32, u8),
     Reading(usize, usize),
-    Output(usize, usize, i32),
+    Output(usize, usize, i32, u8),
 }
 
 // What a step of row `owner` does: row `at` gets state `next`, the row of the note `sender` (one more than its number, 0 is
@@ -63,7 +63,7 @@ fn handed(sent: &[i32; 1024], i: usize) -> i32
     sent[i]
 }
 
-// A communication on element e into a cell: the number of the row that waits there passes, and that row ends.
+// A communication on element e into a cell: the message of the row that waits there passes, and that row ends.
 fn communicates(
     acts: &[u16; 3072],
     sent: &[i32; 1024],
@@ -135,7 +135,7 @@ fn own_change(
         6 => {
             let d = place(code, j, 1) as usize;
             let strip = place(code, d, 5) as usize;
-            becomes(j, j, 2, Data::Output(at, strip, x))
+            becomes(j, j, 2, Data::Output(at, strip, x, (cell % 256) as u8))
         }
         7 => communicates(acts, sent, elements, j, j, 2, at, cell),
         _ => becomes(j, j, 1, Data::Nothing),
@@ -161,13 +161,24 @@ pub fn change_of(
     own_change(code, acts, sent, elements, j)
 }
 
-// One more number for the p-th channel to the host, whose strip begins at `strip`.
-pub fn put_output(numbers: &mut [i32; 1024], counts: &mut [u32; 8], p: usize, strip: usize, x: i32)
+// One more message, its number and mark, for the p-th channel to the host, whose strip begins at `strip`.
+pub fn put_output(
+    numbers: &mut [i32; 1024],
+    counts: &mut [u32; 8],
+    output_marks: &mut [u8; 1024],
+    p: usize,
+    strip: usize,
+    x: i32,
+    mark: u8,
+)
     requires { ⌜ (p < 8) × (strip + getD (now counts) p 0 < 1024) ⌝ }
     ensures number { λ _. ⌜ now (numbers .exit) ≡ set (now (numbers .entry)) (strip + getD (now (counts .entry)) p 0) x ⌝ }
     ensures count { λ _. ⌜ now (counts .exit) ≡ set (now (counts .entry)) p (suc (getD (now (counts .entry)) p 0)) ⌝ }
+    ensures mark { λ _. ⌜ now («output_marks» .exit) ≡ set (now («output_marks» .entry)) (strip + getD (now (counts .entry)) p 0) mark ⌝ }
 {
     let n = counts[p];
-    numbers[strip + n as usize] = x;
+    let i = strip + n as usize;
+    numbers[i] = x;
+    output_marks[i] = mark;
     counts[p] = n + 1;
 }

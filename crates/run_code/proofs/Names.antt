@@ -65,9 +65,9 @@ module _ (rows : List ℤ) (ok : check rows ≡ none) (r : ℕ) (l : r < rowCoun
   unfolding shapeOf shapes shapeIn MayHold
   output-names i = let (q, (e, d, k), (role, m, f)) = held 24 _ refl i in rw (ap naturalOf e, f) (d, k, one-of m)
 
-  pub monadic-number : kindAt rows r ≡ 12 → naturalAt rows r 1 ≤ 1
+  pub monadic-number : kindAt rows r ≡ 12 → naturalAt rows r 1 ≤ 2
   unfolding shapeOf shapes shapeIn MayHold
-  monadic-number i = let (h, k) = held 12 _ refl i in natural-most (fieldAt rows r 1) 1 h k
+  monadic-number i = let ((h, k), o) = held 12 _ refl i in natural-most (fieldAt rows r 1) 2 h k
 
   pub dyadic-number : kindAt rows r ≡ 13 → naturalAt rows r 1 ≤ 15
   unfolding shapeOf shapes shapeIn MayHold

@@ -28,12 +28,12 @@ module _ (places : List ℕ) (lines n a : ℕ) (d : Does) (h : n ≡ 0 → ⊥) 
   pub read-over : ltb (getD places (n - 1) 0) lines ≡ false → Waits ≡ onHost n (hostRead places lines a) d
   read-over = read-by false
 
-module _ (counts : List ℕ) (n capacity : ℕ) (v : ℤ) (d : Does) (h : n ≡ 0 → ⊥) where
-  write-by : (t : Bool) → ltb (getD counts (n - 1) 0) capacity ≡ t → ifElse t (Writes (n - 1) v 1) Waits ≡ onHost n (hostWrite counts capacity v) d
-  write-by t e = ap (λ (t : Bool). ifElse t (Writes (n - 1) v 1) Waits) (sym e) ∙ on-host n (hostWrite counts capacity v) d h
+module _ (counts : List ℕ) (n capacity : ℕ) (v : ℤ) (m : ℕ) (d : Does) (h : n ≡ 0 → ⊥) where
+  write-by : (t : Bool) → ltb (getD counts (n - 1) 0) capacity ≡ t → ifElse t (Writes (n - 1) v m) Waits ≡ onHost n (hostWrite counts capacity v m) d
+  write-by t e = ap (λ (t : Bool). ifElse t (Writes (n - 1) v m) Waits) (sym e) ∙ on-host n (hostWrite counts capacity v m) d h
 
-  pub write-left : getD counts (n - 1) 0 < capacity → Writes (n - 1) v 1 ≡ onHost n (hostWrite counts capacity v) d
+  pub write-left : getD counts (n - 1) 0 < capacity → Writes (n - 1) v m ≡ onHost n (hostWrite counts capacity v m) d
   write-left l = write-by true (lt-ltb _ _ l)
 
-  pub write-full : capacity ≤ getD counts (n - 1) 0 → Waits ≡ onHost n (hostWrite counts capacity v) d
+  pub write-full : capacity ≤ getD counts (n - 1) 0 → Waits ≡ onHost n (hostWrite counts capacity v m) d
   write-full l = write-by false (le-ltb _ _ l)

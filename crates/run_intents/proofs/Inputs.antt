@@ -4,12 +4,11 @@ use mathlib.Core.List.{List}
 use Prim.Native.Nat.{ℕ, _≤_}
 use native.Mathlib.Omega.{arith}
 use lib.IntN.{ℤ}
-use Rattle.meaning.specs.declared.Value.{Value}
 use Rattle.meaning.specs.declared.Index.{Index}
 use Rattle.meaning.specs.Rows.{naturalAt}
 use Rattle.meaning.specs.Declarations.{sourceAt, sinkAt}
 use Rattle.meaning.specs.Tree.{contentAt}
-use Rattle.meaning.specs.Values.{Message, value, index}
+use Rattle.meaning.specs.Values.{Message, index, Sent, passed}
 use Rattle.run_code.specs.Prepared.{referredRow, hostNote, Prepared, placeAt, firstOf, sizeOf}
 use Rattle.run_code.proofs.Codes.{second-is, third-is, input-first, input-size, input-host, output-first, output-size, output-host, output-capacity}
 use Rattle.run_values.specs.Targets.{targetIndex}
@@ -31,9 +30,9 @@ module _ {rows : List ℤ} {code : List ℕ} (p : Prepared rows code) (cells : L
       ∙ ap₂ (received places lines (hostNote c)) q
       (f ∙ ap (λ (d : ℕ). targetIndex cells (contentAt rows d .target)) (b ∙ third-is p r h 23 e (λ z. omega arith)))
 
-  pub output-found : (counts : List ℕ) → placeAt code r 0 ≡ 24 → {d k n m : ℕ} {i : Index} {v : Value} {o : Does}
+  pub output-found : (counts : List ℕ) → placeAt code r 0 ≡ 24 → {d k n m : ℕ} {i : Index} {v : Sent} {o : Does}
       → i ≡ index cells (firstOf code r) (sizeOf code r) (contentAt rows (placeAt code r 2) .expr)
-      → d ≡ placeAt code r 3 → v ≡ value cells (contentAt rows d .expr) → k ≡ placeAt code r 1 → n ≡ placeAt code k 3 → m ≡ placeAt code k 4
+      → d ≡ placeAt code r 3 → v ≡ passed cells (contentAt rows d .expr) → k ≡ placeAt code r 1 → n ≡ placeAt code k 3 → m ≡ placeAt code k 4
       → o ≡ sent counts n m i v → o ≡ outputAt rows cells counts r
   unfolding outputDoes
   output-found counts e {d} {k} {n} {m} {i} {v} a b f j g u s =
@@ -42,4 +41,4 @@ module _ {rows : List ℤ} {code : List ℕ} (p : Prepared rows code) (cells : L
       s
       ∙ ap₂ (λ (n m : ℕ). sent counts n m i v) (g ∙ ap (λ (k : ℕ). placeAt code k 3) j ∙ output-host p r h e) (u ∙ ap (λ (k : ℕ). placeAt code k 4) j ∙ output-capacity p r h e)
       ∙ ap₂ (sent counts (hostNote c) (c .capacity)) q
-      (f ∙ ap (λ (d : ℕ). value cells (contentAt rows d .expr)) (b ∙ third-is p r h 24 e (λ z. omega arith)))
+      (f ∙ ap (λ (d : ℕ). passed cells (contentAt rows d .expr)) (b ∙ third-is p r h 24 e (λ z. omega arith)))

@@ -24,7 +24,8 @@ use Rattle.meaning.specs.Kinds.{Shape, processes, reference}
 use Rattle.meaning.specs.References.{Column, of-a, of-b, fieldOf, numberOf}
 use Rattle.meaning.specs.Nodes.{nodeAt}
 use Rattle.meaning.specs.Tree.{Expr, ChannelInput, IfChoice, AltOption, Action, stop, skip, sequence, parallel, assign, input, output, conditional, loop, alternation, Process, Content, noContent, contentOf, contentAt, orStop, actionOf}
-use Rattle.meaning.specs.Values.{Message, isTrue, inArray, value, index}
+use Rattle.meaning.specs.Buffers.{numberIn, mark}
+use Rattle.meaning.specs.Values.{Message, isTrue, inArray, value, index, Sent, gives, lacking, passed}
 use Rattle.meaning.specs.State.{program, processAt}
 use Rattle.meaning.specs.Answers.{check}
 use Rattle.meaning.specs.ContentClaims.{higherContent}
@@ -41,6 +42,10 @@ use Rattle.run_intents.specs.declared.Does.the-variants.{Waits, Stops, A
 use Rattle.run_intents.specs.Does.{onHost, assignment, tested, whenTrue, hostRead, hostWrite, received, sent, choicesDo, inputDoes, outputDoes, guardDoes, guardedDoes, doesOf}
 use Rattle.run_intents.specs.Stands.{OptionNote, optionsOf, optionNotes}
 
+-- a number and a mark are those of a message
+abbrev pub IsMessage : ℤ → ℕ → Type 0
+IsMessage v k = (m : Message) × (v ≡ numberIn m) × (k ≡ mark m)
+
 abbrev pub InRange : Does → Type 0
 InRange Waits = Unit {0}
 InRange (Stops k) = Unit {0}
@@ -48,9 +53,9 @@ InRange (Assigns a v) = a < 256
 InRange Ends = Unit {0}
 InRange (Starts q) = q < 1024
 InRange (Reads a p) = (a < 256) × (p < 8)
-InRange (Writes p v m) = (p < 8) × (m ≡ 1)
+InRange (Writes p v m) = (p < 8) × IsMessage v m
 InRange (InputsFrom e a) = (e < 256) × (a < 256)
-InRange (OutputsTo e v m) = (e < 256) × (m ≡ 1)
+InRange (OutputsTo e v m) = (e < 256) × IsMessage v m
 InRange Selects = Unit {0}
 
 -- the same of each option's note, and the rows of its process
@@ -243,20 +248,20 @@ module _ (rows : List ℤ) (ok : check rows ≡ none) where
 
     output-in : (c : Channel) (e f : Expr) → SinkIn rows c → ElementsIn c → InRange (outputDoes cells counts c e f)
     unfolding outputDoes
-    output-in c e f k g = go (index cells (c .first) (c .size) e) refl (value cells f)
+    output-in c e f k g = go (index cells (c .first) (c .size) e) refl (passed cells f)
       where
-        go : (i : Index) → index cells (c .first) (c .size) e ≡ i → (v : Value) → InRange (sent counts (hostNote c) (c .capacity) i v)
+        go : (i : Index) → index cells (c .first) (c .size) e ≡ i → (v : Sent) → InRange (sent counts (hostNote c) (c .capacity) i v)
         go (Fails n) q v = tt
-        go (At a) q (Missing n) = tt
-        go (At a) q (Number v) = by (c .host) (λ h. k h .0)
+        go (At a) q (lacking n) = tt
+        go (At a) q (gives w) = by (c .host) (λ h. k h .0)
           where
-            left : (t : Bool) → c .number < 8 → InRange (ifElse t (Writes (c .number) v 1) Waits)
-            left true l = (l, refl)
+            left : (t : Bool) → c .number < 8 → InRange (ifElse t (Writes (c .number) (numberIn w) (mark w)) Waits)
+            left true l = (l, (w, refl, refl))
             left false l = tt
 
-            by : (t : Bool) → (t ≡ true → c .number < hostChannels 2 rows) → InRange (onHost (ifElse t (suc (c .number)) 0) (hostWrite counts (c .capacity) v) (OutputsTo a v 1))
+            by : (t : Bool) → (t ≡ true → c .number < hostChannels 2 rows) → InRange (onHost (ifElse t (suc (c .number)) 0) (hostWrite counts (c .capacity) (numberIn w) (mark w)) (OutputsTo a (numberIn w) (mark w)))
             by true s = let m = s refl in let R = room rows ok .outputs in left (ltb (getD counts (c .number) 0) (c .capacity)) (omega arith)
-            by false s = (element-in cells c e a g q, refl)
+            by false s = (element-in cells c e a g q, (w, refl, refl))
 
     guard-in : (q : ℕ) (i : Option ChannelInput) → q < 1024 → GuardIn rows i → GuardFits i → InRange (guardDoes lines cells places q i)
     guard-in q none l k f = l

@@ -1,5 +1,5 @@
 -- What is found of an action and of its options stands for the intent of that action, in every store that the arrays hold.
-use mathlib.Core.Path.{_≡_, refl, ap, _∙_}
+use mathlib.Core.Path.{_≡_, refl, ap, _∙_, subst}
 use mathlib.Core.Bool.{Bool, true, false}
 use mathlib.Core.Option.{Option, none, some}
 use mathlib.Core.List.{List, [], _∷_, _++_, map, flatten}
@@ -15,7 +15,9 @@ use Rattle.meaning.specs.declared.Index.the-variants.{At, Fails}
 use Rattle.meaning.specs.Basics.{ifElse, isSome}
 use Rattle.meaning.specs.Declarations.{Channel, hostChannels}
 use Rattle.meaning.specs.Tree.{Expr, ChannelInput, IfChoice, AltOption, Action, stop, skip, sequence, parallel, assign, input, output, conditional, loop, alternation, actionOf}
-use Rattle.meaning.specs.Values.{Message, isTrue, inArray, value, index}
+use Rattle.meaning.specs.Buffers.{numberIn, mark, cellOf}
+use Rattle.meaning.specs.Values.{Message, isTrue, inArray, value, index, Sent, gives, lacking, passed}
+use Rattle.meaning.proofs.LentLaws.{cell-back}
 use Rattle.meaning.specs.State.{Store, writeOutput, program, processAt}
 use Rattle.meaning.specs.Readings.{Sheet}
 use Rattle.run_values.specs.Cells.{cellsIn}
@@ -23,11 +25,11 @@ use Rattle.meaning.specs.Intent.{Offer, openOffer, inputOffer, Intent, waits, m
 use Rattle.meaning.specs.Intent as meaning
 use Rattle.machine.specs.Held.{KeptReadings}
 use Rattle.machine.proofs.NamesInRange.{SourceIn, GuardIn, OptionsIn, ActionIn, names-in}
-use Rattle.run_values.proofs.CellLaws.{same-value}
+use Rattle.run_values.proofs.CellLaws.{same-value, same-passed}
 use Rattle.run_code.specs.Prepared.{hostNote}
 use Rattle.run_intents.specs.declared.Does.{Does}
 use Rattle.run_intents.specs.declared.Does.the-variants.{Waits, Stops, Ends, Starts, Reads, Writes, InputsFrom, OutputsTo}
-use Rattle.run_intents.specs.Does.{onHost, assignment, tested, whenTrue, hostRead, hostWrite, received, sent, choicesDo, inputDoes, outputDoes, guardDoes, guardedDoes, doesOf}
+use Rattle.run_intents.specs.Does.{onHost, assignment, tested, whenTrue, hostRead, hostWrite, received, handedOn, sent, choicesDo, inputDoes, outputDoes, guardDoes, guardedDoes, doesOf}
 use Rattle.run_intents.specs.Held.{Held}
 use Rattle.run_intents.specs.Stands.{OptionNote, optionsOf, optionNotes, stopOf, firstOf, firstStop, readWrites, offersFor, offersOf, unlessStops, altIntent, standsFor}
 
@@ -166,17 +168,20 @@ module _ (rows : List ℤ) (sheet : Sheet) (x : Store) (readings : List ℤ) (gi
     tests-are [] = refl
     tests-are (t ∷ l) = rw (same (t .boolean)) (chosen-is (t .process) (value cells (t .boolean)) (tests sheet r l x) (choicesDo cells l) (tests-are l))
 
-    sent-is : (c : Channel) (i : Index) (v : Value) → outputting r c (x .outputs) i v ≡ stand (sent counts (hostNote c) (c .capacity) i v)
+    sent-is : (c : Channel) (i : Index) (v : Sent) → outputting r c (x .outputs) i v ≡ stand (sent counts (hostNote c) (c .capacity) i v)
     sent-is c (Fails k) v = refl
-    sent-is c (At e) (Missing k) = refl
-    sent-is c (At e) (Number v) = go (c .host)
+    sent-is c (At e) (lacking k) = refl
+    sent-is c (At e) (gives m) = subst (λ (w : Message). outputting r c (x .outputs) (At e) (gives w) ≡ stand (handedOn counts (hostNote c) (c .capacity) e (numberIn m) (mark m))) (cell-back m) (go (c .host))
       where
-        left : (u : Bool) → ifElse u (moves r 2 (writeOutput (c .number) (getD (x .outputs) (c .number) [] ++ (some v ∷ [])) ∷ [])) waits ≡ stand (ifElse u (Writes (c .number) v 1) Waits)
+        w : Message
+        w = cellOf (numberIn m) (mark m)
+
+        left : (u : Bool) → ifElse u (moves r 2 (writeOutput (c .number) (getD (x .outputs) (c .number) [] ++ (w ∷ [])) ∷ [])) waits ≡ stand (ifElse u (Writes (c .number) (numberIn m) (mark m)) Waits)
         left true = refl
         left false = refl
 
-        go : (t : Bool) → ifElse t (ifElse (ltb (length (getD (x .outputs) (c .number) [])) (c .capacity)) (moves r 2 (writeOutput (c .number) (getD (x .outputs) (c .number) [] ++ (some v ∷ [])) ∷ [])) waits) (outputsTo e (some v))
-            ≡ stand (onHost (ifElse t (suc (c .number)) 0) (hostWrite counts (c .capacity) v) (OutputsTo e v 1))
+        go : (t : Bool) → ifElse t (ifElse (ltb (length (getD (x .outputs) (c .number) [])) (c .capacity)) (moves r 2 (writeOutput (c .number) (getD (x .outputs) (c .number) [] ++ (w ∷ [])) ∷ [])) waits) (outputsTo e w)
+            ≡ stand (onHost (ifElse t (suc (c .number)) 0) (hostWrite counts (c .capacity) (numberIn m) (mark m)) (OutputsTo e (numberIn m) (mark m)))
         go true = rw (held .counts (c .number)) (left (ltb (getD counts (c .number) 0) (c .capacity)))
         go false = refl
 
@@ -192,7 +197,7 @@ module _ (rows : List ℤ) (sheet : Sheet) (x : Store) (readings : List ℤ) (gi
   action-stands parallel r h = refl
   action-stands (assign v e f) r h = rw (same-index (v .first) (v .size) e, same f) (assignment-is r [] (index cells (v .first) (v .size) e) (value cells f))
   action-stands (input i) r h = input-stands r [] i (h .0)
-  action-stands (output c e f) r h = rw (same-index (c .first) (c .size) e, same f) (sent-is r [] c (index cells (c .first) (c .size) e) (value cells f))
+  action-stands (output c e f) r h = rw (same-index (c .first) (c .size) e, same-passed (x .cells) cells (held .cells) f) (sent-is r [] c (index cells (c .first) (c .size) e) (passed cells f))
   action-stands (conditional ts) r h = tests-are r [] ts
   action-stands (loop e b) r h = rw (same e) (tested-is r [] b (value cells e))
   action-stands (alternation bs) r h = alt-stands r bs h

@@ -12,7 +12,8 @@ use Rattle.meaning.specs.declared.Index.the-variants.{At, Fails}
 use Rattle.meaning.specs.Basics.{ifElse}
 use Rattle.meaning.specs.Declarations.{Channel}
 use Rattle.meaning.specs.Tree.{Expr, ChannelInput, IfChoice, AltGuard, AltOption, Action, stop, skip, sequence, parallel, assign, input, output, conditional, loop, alternation}
-use Rattle.meaning.specs.Values.{Message, isTrue, value, index}
+use Rattle.meaning.specs.Buffers.{numberIn, mark}
+use Rattle.meaning.specs.Values.{Message, isTrue, value, index, Sent, gives, lacking, passed}
 use Rattle.run_code.specs.Prepared.{hostNote}
 use Rattle.run_values.specs.Targets.{targetIndex}
 use Rattle.run_intents.specs.declared.Does.{Does}
@@ -49,19 +50,23 @@ received places lines channel (Fails k) t = Stops k
 received places lines channel (At e) (Fails k) = Stops k
 received places lines channel (At e) (At a) = onHost channel (hostRead places lines a) (InputsFrom e a)
 
--- "a host write, if capacity is left"
-abbrev pub hostWrite : List ℕ → ℕ → ℤ → ℕ → Does
-hostWrite counts capacity v p = ifElse (ltb (getD counts p 0) capacity) (Writes p v 1) Waits
+-- "a host write, if capacity is left", of a message's number and mark
+abbrev pub hostWrite : List ℕ → ℕ → ℤ → ℕ → ℕ → Does
+hostWrite counts capacity v m p = ifElse (ltb (getD counts p 0) capacity) (Writes p v m) Waits
+
+-- the output of a message's number and mark to element e
+abbrev pub handedOn : List ℕ → ℕ → ℕ → ℕ → ℤ → ℕ → Does
+handedOn counts channel capacity e v m = onHost channel (hostWrite counts capacity v m) (OutputsTo e v m)
 
 -- "output takes channel subscript, then expression"
-abbrev pub sent : List ℕ → ℕ → ℕ → Index → Value → Does
+abbrev pub sent : List ℕ → ℕ → ℕ → Index → Sent → Does
 sent counts channel capacity (Fails k) v = Stops k
-sent counts channel capacity (At e) (Missing k) = Stops k
-sent counts channel capacity (At e) (Number v) = onHost channel (hostWrite counts capacity v) (OutputsTo e v 1)
+sent counts channel capacity (At e) (lacking k) = Stops k
+sent counts channel capacity (At e) (gives m) = handedOn counts channel capacity e (numberIn m) (mark m)
 
 -- an output, from the cells
 unfoldable pub outputDoes : List Message → List ℕ → Channel → Expr → Expr → Does
-outputDoes cells counts c e f = sent counts (hostNote c) (c .capacity) (index cells (c .first) (c .size) e) (value cells f)
+outputDoes cells counts c e f = sent counts (hostNote c) (c .capacity) (index cells (c .first) (c .size) e) (passed cells f)
 
 -- "its first true choice, tests looked at in order and none after it"
 abbrev pub choicesDo : List Message → List IfChoice → Does

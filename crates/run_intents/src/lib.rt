@@ -7,15 +7,18 @@ ghost use lib.Dec.{ltb};
 ghost use Rattle.meaning.specs.Tree.{contentAt, actionOf};
 ghost use Rattle.meaning.specs.State.{program, processAt};
 ghost use Rattle.run_code.specs.Prepared.{Prepared, placeAt};
-ghost use Rattle.run_values.specs.Cells.{cellsIn};
-ghost use Rattle.run_intents.specs.Does.{assignment, tested, received, sent, choicesDo, inputDoes, guardedDoes, optionDoes, doesOf};
+ghost use Rattle.run_values.specs.Cells.{lentCells};
+ghost use Rattle.run_values.specs.Sending.{sentIn};
+ghost use Rattle.run_intents.specs.Does.{assignment, tested, received, handedOn, sent, choicesDo, inputDoes, guardedDoes, optionDoes, doesOf};
 ghost use Rattle.run_intents.specs.Rows.{inputAt, outputAt, optionAt};
 use meaning::Index;
 use meaning::Value;
 use run_code::place;
+use run_values::Sent;
 use run_values::assigned;
 use run_values::eval;
 use run_values::index;
+use run_values::passed;
 use run_values::target;
 
 // What a row would do: nothing; stop for a reason; assign a value to a cell; end; start another row; read from a host
@@ -92,25 +95,32 @@ fn received(places: &[u32; 8], lines: usize, channel: u32, element: Index, t: In
     }
 }
 
-// An output, from what its subscript and its expression come to; to the host only "if capacity is left".
-fn sent(counts: &[u32; 8], channel: u32, capacity: u32, element: Index, v: Value) -> Does
+// The output of a message, its number and mark, to element e; to the host only "if capacity is left".
+fn handed_on(counts: &[u32; 8], channel: u32, capacity: u32, e: usize, x: i32, mark: u8) -> Does
     requires { ⌜ channel ≤ 8 ⌝ }
-    ensures { λ d. ⌜ d ≡ sent (now (counts .entry)) channel capacity element v ⌝ }
+    ensures { λ d. ⌜ d ≡ handedOn (now (counts .entry)) channel capacity e x mark ⌝ }
+{
+    if channel == 0 {
+        return Does::OutputsTo(e, x, mark);
+    }
+    let p = channel as usize - 1;
+    if counts[p] < capacity {
+        return Does::Writes(p, x, mark);
+    }
+    Does::Waits
+}
+
+// An output, from what its subscript and its expression come to.
+fn sent(counts: &[u32; 8], channel: u32, capacity: u32, element: Index, v: Sent) -> Does
+    requires { ⌜ channel ≤ 8 ⌝ }
+    ensures { λ d. ⌜ d ≡ sent (now (counts .entry)) channel capacity element (sentIn v) ⌝ }
 {
     match element {
         Index::Fails(k) => Does::Stops(k),
         Index::At(e) => match v {
-            Value::Missing(k) => Does::Stops(k),
-            Value::Number(x) => {
-                if channel == 0 {
-                    return Does::OutputsTo(e, x, 1);
-                }
-                let p = channel as usize - 1;
-                if counts[p] < capacity {
-                    return Does::Writes(p, x, 1);
-                }
-                Does::Waits
-            }
+            Sent::Lacks(k) => Does::Stops(k),
+            Sent::Absence => handed_on(counts, channel, capacity, e, 0, 0),
+            Sent::Number(x) => handed_on(counts, channel, capacity, e, x, 1),
         },
     }
 }
@@ -126,7 +136,7 @@ fn input_does<'a>(
 ) -> Does
     requires table { ⌜ ((rows : List ℤ) × Prepared rows (now code)) ⌝ }
     requires row { ⌜ (r ≤ 1024) × (placeAt (now code) r 0 ≡ 23) ⌝ }
-    ensures { λ d. ⌜ ((rows : List ℤ) → Prepared rows (now (code .entry)) → d ≡ inputDoes lines (cellsIn (now (values .entry)) (now (marks .entry))) (now (places .entry)) (inputAt rows r)) ⌝ }
+    ensures { λ d. ⌜ ((rows : List ℤ) → Prepared rows (now (code .entry)) → d ≡ inputDoes lines (lentCells values marks) (now (places .entry)) (inputAt rows r)) ⌝ }
 {
     let e = index(code, values, marks, r);
     let t = target(code, values, marks, place(code, r, 3) as usize);
@@ -144,10 +154,10 @@ fn output_does<'a>(
 ) -> Does
     requires table { ⌜ ((rows : List ℤ) × Prepared rows (now code)) ⌝ }
     requires row { ⌜ (r ≤ 1024) × (placeAt (now code) r 0 ≡ 24) ⌝ }
-    ensures { λ d. ⌜ ((rows : List ℤ) → Prepared rows (now (code .entry)) → d ≡ outputAt rows (cellsIn (now (values .entry)) (now (marks .entry))) (now (counts .entry)) r) ⌝ }
+    ensures { λ d. ⌜ ((rows : List ℤ) → Prepared rows (now (code .entry)) → d ≡ outputAt rows (lentCells values marks) (now (counts .entry)) r) ⌝ }
 {
     let e = index(code, values, marks, r);
-    let v = eval(code, values, marks, place(code, r, 3) as usize);
+    let v = passed(code, values, marks, place(code, r, 3) as usize);
     let d = place(code, r, 1) as usize;
     sent(counts, place(code, d, 3), place(code, d, 4), e, v)
 }
@@ -161,7 +171,7 @@ fn choices_do<'a>(
 ) -> Does
     requires table { ⌜ ((rows : List ℤ) × Prepared rows (now code)) ⌝ }
     requires inside { ⌜ m ≤ 1024 ⌝ }
-    ensures { λ d. ⌜ ((rows : List ℤ) → Prepared rows (now (code .entry)) → d ≡ choicesDo (cellsIn (now (values .entry)) (now (marks .entry))) (contentAt rows m .tests)) ⌝ }
+    ensures { λ d. ⌜ ((rows : List ℤ) → Prepared rows (now (code .entry)) → d ≡ choicesDo (lentCells values marks) (contentAt rows m .tests)) ⌝ }
 {
     if place(code, m, 0) != 41 {
         return Does::Waits;
@@ -190,7 +200,7 @@ pub fn does_at<'a>(
 ) -> Does
     requires table { ⌜ ((rows : List ℤ) × Prepared rows (now code)) ⌝ }
     requires inside { ⌜ r ≤ 1024 ⌝ }
-    ensures { λ d. ⌜ ((rows : List ℤ) → Prepared rows (now (code .entry)) → d ≡ doesOf lines (cellsIn (now (values .entry)) (now (marks .entry))) (now (places .entry)) (now (counts .entry)) (actionOf (processAt (program rows) r))) ⌝ }
+    ensures { λ d. ⌜ ((rows : List ℤ) → Prepared rows (now (code .entry)) → d ≡ doesOf lines (lentCells values marks) (now (places .entry)) (now (counts .entry)) (actionOf (processAt (program rows) r))) ⌝ }
 {
     match place(code, r, 0) {
         46 => assignment(
@@ -226,7 +236,7 @@ fn guarded<'a>(
 ) -> Does
     requires table { ⌜ ((rows : List ℤ) × Prepared rows (now code)) ⌝ }
     requires bare { ⌜ (g ≤ 1024) × (placeAt (now code) g 0 ≡ 43 → ⊥) ⌝ }
-    ensures { λ d. ⌜ ((rows : List ℤ) → Prepared rows (now (code .entry)) → d ≡ guardedDoes lines (cellsIn (now (values .entry)) (now (marks .entry))) (now (places .entry)) process (contentAt rows g .guard)) ⌝ }
+    ensures { λ d. ⌜ ((rows : List ℤ) → Prepared rows (now (code .entry)) → d ≡ guardedDoes lines (lentCells values marks) (now (places .entry)) process (contentAt rows g .guard)) ⌝ }
 {
     match place(code, g, 0) {
         21 => Does::Starts(process),
@@ -246,7 +256,7 @@ pub fn option_does<'a>(
 ) -> Does
     requires table { ⌜ ((rows : List ℤ) × Prepared rows (now code)) ⌝ }
     requires row { ⌜ (j ≤ 1024) × (placeAt (now code) j 0 ≡ 42) ⌝ }
-    ensures { λ d. ⌜ ((rows : List ℤ) → Prepared rows (now (code .entry)) → d ≡ optionDoes lines (cellsIn (now (values .entry)) (now (marks .entry))) (now (places .entry)) (optionAt rows j)) ⌝ }
+    ensures { λ d. ⌜ ((rows : List ℤ) → Prepared rows (now (code .entry)) → d ≡ optionDoes lines (lentCells values marks) (now (places .entry)) (optionAt rows j)) ⌝ }
 {
     let g = place(code, j, 3) as usize;
     let process = place(code, j, 1) as usize;

@@ -2,7 +2,7 @@
 use mathlib.Core.Path.{_≡_, refl, sym, ap, subst, _∙_}
 use mathlib.Core.Logic.{_≢_, _⊎_}
 use mathlib.Core.Bool.{Bool, true, false}
-use mathlib.Core.Option.{none, some}
+use mathlib.Core.Option.{none}
 use mathlib.Core.List.{List, [], _∷_, List·Memᴰ, List·Memᴰ·not-nil}
 use Prim.Native.Nat.{ℕ, zero, suc, _<_, _≤_}
 use native.Mathlib.Omega.{arith}
@@ -18,7 +18,7 @@ use Rattle.meaning.specs.Basics.{ifElse}
 use Rattle.meaning.specs.Rows.{rowCount}
 use Rattle.meaning.specs.Declarations.{Channel}
 use Rattle.meaning.specs.Tree.{IfChoice, Action, stop, skip, sequence, parallel, assign, input, output, conditional, loop, alternation}
-use Rattle.meaning.specs.Values.{Message, isTrue, value, index}
+use Rattle.meaning.specs.Values.{Message, isTrue, value, index, Sent, gives, lacking, passed}
 use Rattle.meaning.specs.Settle.{endsWhenClosed, settle, settled}
 use Rattle.meaning.specs.State.{Store, State, Program, program, whole, Write, writeAll, changeStates, Effect}
 use Rattle.meaning.specs.Labels.{Label, own}
@@ -70,11 +70,11 @@ calm-choose : (r p : ℕ) (v : Value) (w : Intent) → Calm w → Calm (choosing
 calm-choose r p (Missing k) w h = λ e. refl
 calm-choose r p (Number z) w h = calm-if (isTrue z) (moves p 1 []) w (λ e. refl) h
 
-calm-send : (r : ℕ) (c : Channel) (o : List (List Message)) (i : Index) (v : Value) → Calm (outputting r c o i v)
+calm-send : (r : ℕ) (c : Channel) (o : List (List Message)) (i : Index) (v : Sent) → Calm (outputting r c o i v)
 calm-send r c o (Fails k) v = λ e. refl
-calm-send r c o (At a) (Missing k) = λ e. refl
-calm-send r c o (At a) (Number z) =
-    calm-if (c .host) (hostWrite r c (getD o (c .number) []) (some z)) (outputsTo a (some z)) (calm-if (ltb (length (getD o (c .number) [])) (c .capacity)) (moves r 2 _) waits (λ e. two-not e) tt) tt
+calm-send r c o (At a) (lacking k) = λ e. refl
+calm-send r c o (At a) (gives m) =
+    calm-if (c .host) (hostWrite r c (getD o (c .number) []) m) (outputsTo a m) (calm-if (ltb (length (getD o (c .number) [])) (c .capacity)) (moves r 2 _) waits (λ e. two-not e) tt) tt
 
 calm-input : (r : ℕ) (i : InputResult) → Calm (inputting r i)
 calm-input r (lacks k) = λ e. refl
@@ -98,7 +98,7 @@ calm sheet x r sequence = tt
 calm sheet x r parallel = tt
 calm sheet x r (assign v e f) = calm-assign r (index (x .cells) (v .first) (v .size) e) (value (x .cells) f)
 calm sheet x r (input i) = calm-input r (inputResult sheet i x)
-calm sheet x r (output c e f) = calm-send r c (x .outputs) (index (x .cells) (c .first) (c .size) e) (value (x .cells) f)
+calm sheet x r (output c e f) = calm-send r c (x .outputs) (index (x .cells) (c .first) (c .size) e) (passed (x .cells) f)
 calm sheet x r (conditional ts) = calm-tests sheet x r ts
 calm sheet x r (loop e b) = calm-test r b (value (x .cells) e)
 calm sheet x r (alternation bs) = calm-select r (optionsResult sheet bs x)

@@ -18,6 +18,7 @@ use Rattle.meaning.specs.Tree.{ChannelInput, AltOption}
 use Rattle.meaning.specs.Values.{Message, isTrue, value, index}
 use Rattle.meaning.specs.State.{Store}
 use Rattle.meaning.specs.Buffers.{mark, numberIn, cellOf}
+use Rattle.meaning.proofs.LentLaws.{cell-back}
 use Rattle.meaning.specs.Readings.{Sheet}
 use Rattle.meaning.specs.Intent.{Offer, OptionsResult, fails, offers}
 use Rattle.run_code.specs.Prepared.{hostNote}
@@ -51,12 +52,14 @@ module _ (sheet : Sheet) (x : Store) (r : ℕ) (ns : List OptionNote) where
   does-note (Starts q) h z = ap (λ (c : ℕ). note 4 c 0 (pos 0)) (kept q h)
   does-note (Reads a p) h z = ap₂ (λ (b c : ℕ). note 5 b c (pos 0)) (kept p (omega (arith, h .1))) (kept a (omega (arith, h .0)))
   does-note (Writes p v m) h z =
-      ap₂ (λ (b c : ℕ). note 6 b c v) (kept p (omega (arith, h .0))) (h .1)
-      ∙ sym (ap (λ (c : Message). note 6 p (mark c) (numberIn c)) (last-is (getD (x .outputs) p []) (cellOf v m) ∙ ap (cellOf v) (h .1)))
+      let (w, i, k) = h .1 in
+      ap₂ (λ (b c : ℕ). note 6 b c v) (kept p (omega (arith, h .0))) k ∙ ap (note 6 p (mark w)) i
+      ∙ sym (ap (λ (c : Message). note 6 p (mark c) (numberIn c)) (last-is (getD (x .outputs) p []) (cellOf v m) ∙ ap₂ cellOf i k ∙ cell-back w))
   does-note (InputsFrom e a) h z = ap₂ (λ (b c : ℕ). note 7 b c (pos 0)) (kept e (omega (arith, h .0))) (kept a (omega (arith, h .1)))
   does-note (OutputsTo e v m) h z =
-      ap₂ (λ (b c : ℕ). note 8 b c v) (kept e (omega (arith, h .0))) (h .1)
-      ∙ sym (ap (λ (c : Message). note 8 e (mark c) (numberIn c)) (ap (cellOf v) (h .1)))
+      let (w, i, k) = h .1 in
+      ap₂ (λ (b c : ℕ). note 8 b c v) (kept e (omega (arith, h .0))) k ∙ ap (note 8 e (mark w)) i
+      ∙ sym (ap (λ (c : Message). note 8 e (mark c) (numberIn c)) (ap₂ cellOf i k ∙ cell-back w))
   does-note Selects h z = absurd (z refl)
 
 -- ---- options

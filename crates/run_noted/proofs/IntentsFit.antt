@@ -14,7 +14,9 @@ use Rattle.meaning.specs.declared.Index.the-variants.{At, Fails}
 use Rattle.meaning.specs.Basics.{ifElse}
 use Rattle.meaning.specs.Declarations.{Channel}
 use Rattle.meaning.specs.Tree.{ChannelInput, IfChoice, AltOption, Action, stop, skip, sequence, parallel, assign, input, output, conditional, loop, alternation, actionOf}
-use Rattle.meaning.specs.Values.{Message, isTrue, value, index}
+use Rattle.meaning.specs.Values.{Message, isTrue, value, index, Sent, gives, lacking}
+use Rattle.meaning.specs.Values as values
+use Rattle.meaning.specs.Buffers.{numberIn, mark}
 use Rattle.meaning.specs.State.{Store, State, program, processAt, writeOutput}
 use Rattle.meaning.specs.Readings.{Sheet}
 use Rattle.meaning.specs.Intent.{Offer, openOffer, inputOffer, Intent, waits, moves, inputsFrom, outputsTo, selects, assigning, testing, choosing, hostWrite, outputting, InputResult, lacks, notYet, reads, fromElement, hostRead, inputResultOf, inputting, OptionsResult, fails, offers, adding, opening, guarding, selecting, inputResult, inputResultIf, tests, optionsResult, intent}
@@ -63,13 +65,13 @@ test-fits : (r q : ℕ) (v : Value) (u : Intent) → Fits [] u → Fits [] (choo
 test-fits r q (Missing k) u h = tt
 test-fits r q (Number z) u h = either [] (isTrue z) (moves q 1 []) u tt h
 
-send-fits : (r : ℕ) (c : Channel) (outputs : List (List Message)) (i : Index) (v : Value) → InRange (sent [] (hostNote c) (c .capacity) i v) → Fits [] (outputting r c outputs i v)
+send-fits : (r : ℕ) (c : Channel) (outputs : List (List Message)) (i : Index) (v : Sent) → InRange (sent [] (hostNote c) (c .capacity) i v) → Fits [] (outputting r c outputs i v)
 send-fits r c outputs (Fails k) v h = tt
-send-fits r c outputs (At e) (Missing k) h = tt
-send-fits r c outputs (At e) (Number z) h = go (c .host) h
+send-fits r c outputs (At e) (lacking k) h = tt
+send-fits r c outputs (At e) (gives m) h = go (c .host) h
   where
-    go : (t : Bool) → InRange (onHost (ifElse t (suc (c .number)) 0) (does.hostWrite [] (c .capacity) z) (OutputsTo e z 1)) → Fits [] (ifElse t (hostWrite r c (getD outputs (c .number) []) (some z)) (outputsTo e (some z)))
-    go true h = either [] (ltb (length (getD outputs (c .number) [])) (c .capacity)) (moves r 2 (writeOutput (c .number) (getD outputs (c .number) [] ++ (some z ∷ [])) ∷ [])) waits tt tt
+    go : (t : Bool) → InRange (onHost (ifElse t (suc (c .number)) 0) (does.hostWrite [] (c .capacity) (numberIn m) (mark m)) (OutputsTo e (numberIn m) (mark m))) → Fits [] (ifElse t (hostWrite r c (getD outputs (c .number) []) m) (outputsTo e m))
+    go true h = either [] (ltb (length (getD outputs (c .number) [])) (c .capacity)) (moves r 2 (writeOutput (c .number) (getD outputs (c .number) [] ++ (m ∷ [])) ∷ [])) waits tt tt
     go false h = h .0
 
 -- what an input comes to
@@ -161,7 +163,7 @@ module _ (sheet : Sheet) (x : Store) where
   intent-fits r parallel h g = tt
   intent-fits r (assign v e f) h g = assign-fits r (index (x .cells) (v .first) (v .size) e) (value (x .cells) f)
   intent-fits r (input i) h g = input-fits r (inputResult sheet i x) (input-below i h)
-  intent-fits r (output c e f) h g = send-fits r c (x .outputs) (index (x .cells) (c .first) (c .size) e) (value (x .cells) f) h
+  intent-fits r (output c e f) h g = send-fits r c (x .outputs) (index (x .cells) (c .first) (c .size) e) (values.passed (x .cells) f) h
   intent-fits r (conditional ts) h g = tests-fit r ts
   intent-fits r (loop e b) h g = while-fits r b (value (x .cells) e)
   intent-fits r (alternation bs) h g = select-fits r bs (optionsResult sheet bs x) (looked bs g)

@@ -6,9 +6,11 @@ use Prim.Native.Nat.{ℕ, _+_, _-_, _*_, _%_}
 use lib.IntN.{ℤ, pos}
 use lib.ListN.{getD, set}
 use lib.Dec.{eqb}
+use denote.Ref.{now}
 use Rattle.meaning.specs.Basics.{ifElse}
 use Rattle.meaning.specs.Tree.{AltOption, actionOf}
 use Rattle.meaning.specs.State.{program, processAt}
+use Rattle.machine.specs.Lending.{Lent}
 use Rattle.run_ready_bits.specs.Bits.{raised, lowered}
 use Rattle.run_intents.specs.declared.Does.{Does}
 use Rattle.run_intents.specs.declared.Does.the-variants.{Waits, Stops, Assigns, Ends, Starts, Reads, Writes, InputsFrom, OutputsTo, Selects}
@@ -24,6 +26,15 @@ pub record Lists : Type 0 where
 
 abbrev pub listsOf : List ℕ → List ℤ → List ℕ → List ℕ → Lists
 listsOf a s e b = record { acts = a; sent = s; elements = e; bits = b }
+
+module _ (acts : Lent ℕ) (sent : Lent ℤ) (elements bits : Lent ℕ) where
+  -- the four lists that are lent, when the call begins
+  abbrev pub lentNotes : Lists
+  lentNotes = listsOf (now (acts .entry)) (now (sent .entry)) (now (elements .entry)) (now (bits .entry))
+
+  -- when it ends
+  abbrev pub leftNotes : Lists
+  leftNotes = listsOf (now (acts .exit)) (now (sent .exit)) (now (elements .exit)) (now (bits .exit))
 
 -- what a row would do, as numbers; numbers too large for a note are cut
 abbrev pub note : ℕ → ℕ → ℕ → ℤ → Note

@@ -6,7 +6,7 @@ ghost use lib.IntN.{ℤ};
 ghost use lib.ListN.{set};
 ghost use Rattle.meaning.specs.Tree.{contentAt};
 ghost use Rattle.run_code.specs.Prepared.{Prepared};
-ghost use Rattle.run_notes.specs.Notes.{listsOf, note, short, noteNumbers, actsStored, optionsAt, leaveElement, leaveNote, leaveOptions, leaveOffers, leaveRow};
+ghost use Rattle.run_notes.specs.Notes.{listsOf, lentNotes, leftNotes, note, short, noteNumbers, actsStored, optionsAt, leaveElement, leaveNote, leaveOptions, leaveOffers, leaveRow};
 use run_code::place;
 use run_intents::Does;
 use run_ready_bits::lower;
@@ -112,7 +112,7 @@ fn leave_note(
     j: usize,
 )
     requires { ⌜ j < 1024 ⌝ }
-    ensures { λ _. ⌜ listsOf (now (acts .exit)) (now (sent .exit)) (now (elements .exit)) (now (bits .exit)) ≡ leaveNote j (listsOf (now (acts .entry)) (now (sent .entry)) (now (elements .entry)) (now (bits .entry))) ⌝ }
+    ensures { λ _. ⌜ leftNotes acts sent elements bits ≡ leaveNote j (lentNotes acts sent elements bits) ⌝ }
 {
     leave_element(acts, elements, j);
     lower(bits, j);
@@ -130,7 +130,7 @@ fn leave_options(
 )
     requires table { ⌜ ((rows : List ℤ) × Prepared rows (now code)) ⌝ }
     requires inside { ⌜ m ≤ 1024 ⌝ }
-    ensures { λ _. ⌜ ((rows : List ℤ) → Prepared rows (now (code .entry)) → listsOf (now (acts .exit)) (now (sent .exit)) (now (elements .exit)) (now (bits .exit)) ≡ leaveOptions (contentAt rows m .options) (listsOf (now (acts .entry)) (now (sent .entry)) (now (elements .entry)) (now (bits .entry)))) ⌝ }
+    ensures { λ _. ⌜ ((rows : List ℤ) → Prepared rows (now (code .entry)) → leftNotes acts sent elements bits ≡ leaveOptions (contentAt rows m .options) (lentNotes acts sent elements bits)) ⌝ }
 {
     if place(code, m, 0) == 42 {
         leave_note(acts, sent, elements, bits, m);
@@ -149,7 +149,7 @@ fn leave_offers(
 )
     requires table { ⌜ ((rows : List ℤ) × Prepared rows (now code)) ⌝ }
     requires inside { ⌜ r < 1024 ⌝ }
-    ensures { λ _. ⌜ ((rows : List ℤ) → Prepared rows (now (code .entry)) → listsOf (now (acts .exit)) (now (sent .exit)) (now (elements .exit)) (now (bits .exit)) ≡ leaveOffers rows r (listsOf (now (acts .entry)) (now (sent .entry)) (now (elements .entry)) (now (bits .entry)))) ⌝ }
+    ensures { λ _. ⌜ ((rows : List ℤ) → Prepared rows (now (code .entry)) → leftNotes acts sent elements bits ≡ leaveOffers rows r (lentNotes acts sent elements bits)) ⌝ }
 {
     if acts[3 * r] == 9 {
         leave_options(code, acts, sent, elements, bits, first_option(code, r));
@@ -167,7 +167,7 @@ pub fn leave(
 )
     requires table { ⌜ ((rows : List ℤ) × Prepared rows (now code)) ⌝ }
     requires inside { ⌜ r < 1024 ⌝ }
-    ensures { λ _. ⌜ ((rows : List ℤ) → Prepared rows (now (code .entry)) → listsOf (now (acts .exit)) (now (sent .exit)) (now (elements .exit)) (now (bits .exit)) ≡ leaveRow rows r (listsOf (now (acts .entry)) (now (sent .entry)) (now (elements .entry)) (now (bits .entry)))) ⌝ }
+    ensures { λ _. ⌜ ((rows : List ℤ) → Prepared rows (now (code .entry)) → leftNotes acts sent elements bits ≡ leaveRow rows r (lentNotes acts sent elements bits)) ⌝ }
 {
     leave_offers(code, acts, sent, elements, bits, r);
     leave_note(acts, sent, elements, bits, r);

@@ -4,9 +4,9 @@ ghost use mathlib.Core.List.{List};
 ghost use Prim.Native.Nat.{ℕ, _<_, _≤_};
 ghost use lib.IntN.{ℤ};
 ghost use Rattle.meaning.specs.Tree.{contentAt};
-ghost use Rattle.run_values.specs.Cells.{cellsIn};
+ghost use Rattle.run_values.specs.Cells.{lentCells};
 ghost use Rattle.run_code.specs.Prepared.{Prepared};
-ghost use Rattle.run_notes.specs.Notes.{listsOf, waitInput, wakeOption, wakeOptions, wake, waitOutput, noteAs, notedOf};
+ghost use Rattle.run_notes.specs.Notes.{listsOf, lentNotes, leftNotes, waitInput, wakeOption, wakeOptions, wake, waitOutput, noteAs, notedOf};
 ghost use Rattle.run_noting.specs.Noting.{optionsNoted, altNoted, rowNoted};
 use run_code::place;
 use run_intents::Does;
@@ -102,7 +102,7 @@ fn note_as(
 )
     requires table { ⌜ ((rows : List ℤ) × Prepared rows (now code)) ⌝ }
     requires inside { ⌜ (r < 1024) × (j < 1024) ⌝ }
-    ensures { λ _. ⌜ ((rows : List ℤ) → Prepared rows (now (code .entry)) → listsOf (now (acts .exit)) (now (sent .exit)) (now (elements .exit)) (now (bits .exit)) ≡ noteAs rows r j n (listsOf (now (acts .entry)) (now (sent .entry)) (now (elements .entry)) (now (bits .entry)))) ⌝ }
+    ensures { λ _. ⌜ ((rows : List ℤ) → Prepared rows (now (code .entry)) → leftNotes acts sent elements bits ≡ noteAs rows r j n (lentNotes acts sent elements bits)) ⌝ }
 {
     store(acts, sent, j, n);
     let e = n.at;
@@ -131,7 +131,7 @@ fn note_options<'a>(
 ) -> Note
     requires table { ⌜ ((rows : List ℤ) × Prepared rows (now code)) ⌝ }
     requires inside { ⌜ (r < 1024) × (m ≤ 1024) ⌝ }
-    ensures { λ n. ⌜ ((rows : List ℤ) → Prepared rows (now (code .entry)) → notedOf n (listsOf (now (acts .exit)) (now (sent .exit)) (now (elements .exit)) (now (bits .exit))) ≡ optionsNoted lines (cellsIn (now (values .entry)) (now (marks .entry))) (now (places .entry)) rows r (contentAt rows m .options) (listsOf (now (acts .entry)) (now (sent .entry)) (now (elements .entry)) (now (bits .entry)))) ⌝ }
+    ensures { λ n. ⌜ ((rows : List ℤ) → Prepared rows (now (code .entry)) → notedOf n (leftNotes acts sent elements bits) ≡ optionsNoted lines (lentCells values marks) (now (places .entry)) rows r (contentAt rows m .options) (lentNotes acts sent elements bits)) ⌝ }
 {
     if place(code, m, 0) != 42 {
         return note_of(Does::Selects);
@@ -175,7 +175,7 @@ fn note_alt<'a>(
 )
     requires table { ⌜ ((rows : List ℤ) × Prepared rows (now code)) ⌝ }
     requires inside { ⌜ r < 1024 ⌝ }
-    ensures { λ _. ⌜ ((rows : List ℤ) → Prepared rows (now (code .entry)) → listsOf (now (acts .exit)) (now (sent .exit)) (now (elements .exit)) (now (bits .exit)) ≡ altNoted lines (cellsIn (now (values .entry)) (now (marks .entry))) (now (places .entry)) rows r (listsOf (now (acts .entry)) (now (sent .entry)) (now (elements .entry)) (now (bits .entry)))) ⌝ }
+    ensures { λ _. ⌜ ((rows : List ℤ) → Prepared rows (now (code .entry)) → leftNotes acts sent elements bits ≡ altNoted lines (lentCells values marks) (now (places .entry)) rows r (lentNotes acts sent elements bits)) ⌝ }
 {
     let m = first_option(code, r);
     let n = note_options(
@@ -213,7 +213,7 @@ pub fn note_row<'a>(
 )
     requires table { ⌜ ((rows : List ℤ) × Prepared rows (now code)) ⌝ }
     requires inside { ⌜ r < 1024 ⌝ }
-    ensures { λ _. ⌜ ((rows : List ℤ) → Prepared rows (now (code .entry)) → listsOf (now (acts .exit)) (now (sent .exit)) (now (elements .exit)) (now (bits .exit)) ≡ rowNoted lines (cellsIn (now (values .entry)) (now (marks .entry))) (now (places .entry)) (now (counts .entry)) rows r (listsOf (now (acts .entry)) (now (sent .entry)) (now (elements .entry)) (now (bits .entry)))) ⌝ }
+    ensures { λ _. ⌜ ((rows : List ℤ) → Prepared rows (now (code .entry)) → leftNotes acts sent elements bits ≡ rowNoted lines (lentCells values marks) (now (places .entry)) (now (counts .entry)) rows r (lentNotes acts sent elements bits)) ⌝ }
 {
     let n = note_of(does_at(code, values, marks, places, counts, lines, r));
     if n.what == 9 {

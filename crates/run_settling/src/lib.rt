@@ -6,7 +6,8 @@ ghost use Prim.Native.Nat.{suc, _<_, _≤_};
 ghost use lib.IntN.{ℤ};
 ghost use Rattle.meaning.specs.State.{program, processAt};
 ghost use Rattle.machine.specs.Upward.{parentOf};
-ghost use Rattle.machine.specs.Counts.{keptOf, startRow, goesOnCountedAt, upwardCounted, changeUpCounted};
+ghost use Rattle.machine.specs.Counts.{startRow, goesOnCountedAt, upwardCounted, changeUpCounted};
+ghost use Rattle.machine.specs.Lending.{lentKept, leftKept};
 ghost use Rattle.run_code.specs.Prepared.{Prepared};
 ghost use Rattle.run_starting.specs.Parts.{IsProcess};
 ghost use Rattle.run_settling.specs.Changing.{AreProcesses, statesChanged};
@@ -29,7 +30,7 @@ fn go_on(
 )
     requires table { ⌜ ((rows : List ℤ) × Prepared rows (now code)) ⌝ }
     requires inside { ⌜ (q < 1024) × (r < 1024) ⌝ }
-    ensures { λ _. ⌜ ((rows : List ℤ) → Prepared rows (now (code .entry)) → parentOf (program rows) r ≡ some q → keptOf (now (states .exit)) (now (left .exit)) (now (came .exit)) ≡ goesOnCountedAt (program rows) q r (keptOf (now (states .entry)) (now (left .entry)) (now (came .entry)))) ⌝ }
+    ensures { λ _. ⌜ ((rows : List ℤ) → Prepared rows (now (code .entry)) → parentOf (program rows) r ≡ some q → leftKept states left came ≡ goesOnCountedAt (program rows) q r (lentKept states left came)) ⌝ }
 {
     match place(code, q, 0) {
         30 => start_next(code, place(code, r, 5) as usize, q, states, left, came),
@@ -54,7 +55,7 @@ fn settle_up(
 )
     requires table { ⌜ ((rows : List ℤ) × (Prepared rows (now code) × IsProcess rows r)) ⌝ }
     requires row { ⌜ r < 1024 ⌝ }
-    ensures { λ _. ⌜ ((rows : List ℤ) → Prepared rows (now (code .entry)) → IsProcess rows r → keptOf (now (states .exit)) (now (left .exit)) (now (came .exit)) ≡ upwardCounted (program rows) (suc r) r (keptOf (now (states .entry)) (now (left .entry)) (now (came .entry)))) ⌝ }
+    ensures { λ _. ⌜ ((rows : List ℤ) → Prepared rows (now (code .entry)) → IsProcess rows r → leftKept states left came ≡ upwardCounted (program rows) (suc r) r (lentKept states left came)) ⌝ }
 {
     if states[r] != 2 {
         return;
@@ -79,7 +80,7 @@ pub fn change_up(
 )
     requires table { ⌜ ((rows : List ℤ) × (Prepared rows (now code) × IsProcess rows r)) ⌝ }
     requires row { ⌜ r < 1024 ⌝ }
-    ensures { λ _. ⌜ ((rows : List ℤ) → Prepared rows (now (code .entry)) → IsProcess rows r → keptOf (now (states .exit)) (now (left .exit)) (now (came .exit)) ≡ changeUpCounted (program rows) r n (keptOf (now (states .entry)) (now (left .entry)) (now (came .entry)))) ⌝ }
+    ensures { λ _. ⌜ ((rows : List ℤ) → Prepared rows (now (code .entry)) → IsProcess rows r → leftKept states left came ≡ changeUpCounted (program rows) r n (lentKept states left came)) ⌝ }
 {
     states[r] = n;
     start_if(code, r, n, states, left, came);
@@ -98,7 +99,7 @@ pub fn change_states(
 )
     requires table { ⌜ ((rows : List ℤ) × (Prepared rows (now code) × AreProcesses rows at sender)) ⌝ }
     requires inside { ⌜ (at < 1024) × (sender ≤ 1024) ⌝ }
-    ensures { λ _. ⌜ ((rows : List ℤ) → Prepared rows (now (code .entry)) → AreProcesses rows at sender → keptOf (now (states .exit)) (now (left .exit)) (now (came .exit)) ≡ statesChanged rows at n sender (keptOf (now (states .entry)) (now (left .entry)) (now (came .entry)))) ⌝ }
+    ensures { λ _. ⌜ ((rows : List ℤ) → Prepared rows (now (code .entry)) → AreProcesses rows at sender → leftKept states left came ≡ statesChanged rows at n sender (lentKept states left came)) ⌝ }
 {
     came[0] = 0;
     change_up(code, at, n, states, left, came);
@@ -118,7 +119,7 @@ pub fn begin(
 )
     requires table { ⌜ ((rows : List ℤ) × Prepared rows (now code)) ⌝ }
     requires row { ⌜ root < 1024 ⌝ }
-    ensures { λ _. ⌜ ((rows : List ℤ) → Prepared rows (now (code .entry)) → IsProcess rows root → keptOf (now (states .exit)) (now (left .exit)) (now (came .exit)) ≡ startRow (processAt (program rows) root) (keptOf (now (states .entry)) (now (left .entry)) (now (came .entry)))) ⌝ }
+    ensures { λ _. ⌜ ((rows : List ℤ) → Prepared rows (now (code .entry)) → IsProcess rows root → leftKept states left came ≡ startRow (processAt (program rows) root) (lentKept states left came)) ⌝ }
 {
     start_row(code, root, states, left, came);
 }

@@ -6,7 +6,8 @@ ghost use Prim.Native.Nat.{_<_, _≤_};
 ghost use lib.IntN.{ℤ};
 ghost use Rattle.meaning.specs.Tree.{contentAt};
 ghost use Rattle.meaning.specs.State.{program, processAt};
-ghost use Rattle.machine.specs.Counts.{keptOf, stateSet, startBeneath, startMembers};
+ghost use Rattle.machine.specs.Counts.{stateSet, startBeneath, startMembers};
+ghost use Rattle.machine.specs.Lending.{lentKept, leftKept};
 ghost use Rattle.run_code.specs.Prepared.{Prepared};
 ghost use Rattle.run_starting.specs.Parts.{Links, startsIf};
 use crate::counts::comes;
@@ -23,7 +24,7 @@ pub fn start_row(
 )
     requires table { ⌜ ((rows : List ℤ) × Prepared rows (now code)) ⌝ }
     requires row { ⌜ r < 1024 ⌝ }
-    ensures { λ _. ⌜ ((rows : List ℤ) → Prepared rows (now (code .entry)) → keptOf (now (states .exit)) (now (left .exit)) (now (came .exit)) ≡ startBeneath r (processAt (program rows) r) (stateSet r 1 (keptOf (now (states .entry)) (now (left .entry)) (now (came .entry))))) ⌝ }
+    ensures { λ _. ⌜ ((rows : List ℤ) → Prepared rows (now (code .entry)) → leftKept states left came ≡ startBeneath r (processAt (program rows) r) (stateSet r 1 (lentKept states left came))) ⌝ }
 {
     states[r] = 1;
     start_beneath(code, r, states, left, came);
@@ -39,7 +40,7 @@ pub fn start_beneath(
 )
     requires table { ⌜ ((rows : List ℤ) × Prepared rows (now code)) ⌝ }
     requires row { ⌜ r < 1024 ⌝ }
-    ensures { λ _. ⌜ ((rows : List ℤ) → Prepared rows (now (code .entry)) → keptOf (now (states .exit)) (now (left .exit)) (now (came .exit)) ≡ startBeneath r (processAt (program rows) r) (keptOf (now (states .entry)) (now (left .entry)) (now (came .entry)))) ⌝ }
+    ensures { λ _. ⌜ ((rows : List ℤ) → Prepared rows (now (code .entry)) → leftKept states left came ≡ startBeneath r (processAt (program rows) r) (lentKept states left came)) ⌝ }
 {
     match place(code, r, 0) {
         21 => start_members(code, 1024, false, r, 0, states, left, came),
@@ -81,7 +82,7 @@ pub fn start_members(
     requires table { ⌜ ((rows : List ℤ) × Prepared rows (now code)) ⌝ }
     requires inside { ⌜ (m ≤ 1024) × (r < 1024) × (n ≤ m) ⌝ }
     requires links { ⌜ Links (now code) m ⌝ }
-    ensures { λ _. ⌜ ((rows : List ℤ) → Prepared rows (now (code .entry)) → keptOf (now (states .exit)) (now (left .exit)) (now (came .exit)) ≡ startMembers (contentAt rows m .listed) all r n (keptOf (now (states .entry)) (now (left .entry)) (now (came .entry)))) ⌝ }
+    ensures { λ _. ⌜ ((rows : List ℤ) → Prepared rows (now (code .entry)) → leftKept states left came ≡ startMembers (contentAt rows m .listed) all r n (lentKept states left came)) ⌝ }
 {
     if place(code, m, 0) == 0 {
         remain(states, left, r, n);
@@ -110,7 +111,7 @@ pub fn start_next(
 )
     requires table { ⌜ ((rows : List ℤ) × Prepared rows (now code)) ⌝ }
     requires inside { ⌜ (m ≤ 1024) × (r < 1024) ⌝ }
-    ensures { λ _. ⌜ ((rows : List ℤ) → Prepared rows (now (code .entry)) → keptOf (now (states .exit)) (now (left .exit)) (now (came .exit)) ≡ startMembers (contentAt rows m .listed) false r 0 (keptOf (now (states .entry)) (now (left .entry)) (now (came .entry)))) ⌝ }
+    ensures { λ _. ⌜ ((rows : List ℤ) → Prepared rows (now (code .entry)) → leftKept states left came ≡ startMembers (contentAt rows m .listed) false r 0 (lentKept states left came)) ⌝ }
 {
     match place(code, m, 0) {
         40 => start_members(code, m, false, r, 0, states, left, came),
@@ -131,7 +132,7 @@ pub fn start_if(
 )
     requires table { ⌜ ((rows : List ℤ) × Prepared rows (now code)) ⌝ }
     requires row { ⌜ r < 1024 ⌝ }
-    ensures { λ _. ⌜ ((rows : List ℤ) → Prepared rows (now (code .entry)) → keptOf (now (states .exit)) (now (left .exit)) (now (came .exit)) ≡ startsIf n r (processAt (program rows) r) (keptOf (now (states .entry)) (now (left .entry)) (now (came .entry)))) ⌝ }
+    ensures { λ _. ⌜ ((rows : List ℤ) → Prepared rows (now (code .entry)) → leftKept states left came ≡ startsIf n r (processAt (program rows) r) (lentKept states left came)) ⌝ }
 {
     if n == 1 {
         start_beneath(code, r, states, left, came);

@@ -13,7 +13,7 @@ use Rattle.run_turns.specs.Showing.{shownFromPlace}
 
 -- the arrays of a run
 abbrev pub arraysIn : Run → Buffers
-arraysIn r = record { cells = r .values; marks = r .marks; states = r .states; places = r .places; numbers = r .numbers; counts = r .counts }
+arraysIn r = record { cells = r .values; marks = r .marks; states = r .states; places = r .places; numbers = r .numbers; counts = r .counts; outputMarks = r .«output_marks» }
 
 -- a run has the outcome, the steps, the total and the state of a result
 pub record RunHeld (rows : List ℤ) (q : meaning.RunResult) (r : Run) : Type 0 where

@@ -5,8 +5,8 @@ ghost use Prim.Native.Nat.{_≤_};
 ghost use Rattle.meaning.specs.Readings.{Sheet};
 ghost use Rattle.meaning.specs.Answers.{check};
 ghost use Rattle.machine.specs.Held.{KeptReadings};
+ghost use Rattle.machine.specs.Lending.{lentLists, leftLists};
 ghost use Rattle.run_steps.specs.Ran.{RunShown};
-ghost use Rattle.run_turns.specs.Showing.{listsLent};
 
 pub mod result; // result.rt: what a run leaves
 mod outcome; // outcome.rt: the outcome of a run
@@ -29,7 +29,7 @@ pub fn run<'a>(
     requires accepted { ⌜ check (now rows) ≡ none ⌝ }
     requires kept { ⌜ ((sheet : Sheet) × KeptReadings (now rows) sheet (now readings) (now given) lines) ⌝ }
     requires few { ⌜ lines ≤ 128 ⌝ }
-    ensures { λ r. ⌜ ((sheet : Sheet) → KeptReadings (now (rows .entry)) sheet (now (readings .entry)) (now (given .entry)) lines → RunShown (now (rows .entry)) sheet (now (choices .entry)) budget r (listsLent (now (readied .entry)) (now (taken .entry))) (listsLent (now (readied .exit)) (now (taken .exit)))) ⌝ }
+    ensures { λ r. ⌜ ((sheet : Sheet) → KeptReadings (now (rows .entry)) sheet (now (readings .entry)) (now (given .entry)) lines → RunShown (now (rows .entry)) sheet (now (choices .entry)) budget r (lentLists readied taken) (leftLists readied taken)) ⌝ }
 {
     let mut code = [0u16; 6150];
     run_preparing::prepare(rows, &mut code);

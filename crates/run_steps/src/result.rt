@@ -12,4 +12,5 @@ pub struct Run {
     pub places: [u32; 8],
     pub numbers: [i32; 1024],
     pub counts: [u32; 8],
+    pub output_marks: [u8; 1024],
 }

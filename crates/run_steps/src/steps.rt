@@ -5,9 +5,9 @@ ghost use lib.ListN.{getD, set};
 ghost use Rattle.meaning.specs.Readings.{Sheet};
 ghost use Rattle.run_code.specs.Prepared.{Prepared};
 ghost use Rattle.machine.specs.Held.{KeptReadings};
+ghost use Rattle.machine.specs.Lending.{lentLists, leftLists};
 ghost use Rattle.run_turns.specs.Ending.{isLast};
 ghost use Rattle.run_steps.specs.Ran.{RunShown};
-ghost use Rattle.run_turns.specs.Showing.{listsLent};
 use crate::outcome::outcome_with;
 use crate::result::Run;
 use run_changes::change_of;
@@ -66,12 +66,13 @@ pub fn take_steps<'a>(
     requires table { ⌜ Prepared (now rows) (now code) ⌝ }
     requires kept { ⌜ ((sheet : Sheet) × KeptReadings (now rows) sheet (now readings) (now given) lines) ⌝ }
     requires few { ⌜ lines ≤ 128 ⌝ }
-    ensures { λ r. ⌜ ((sheet : Sheet) → KeptReadings (now (rows .entry)) sheet (now (readings .entry)) (now (given .entry)) lines → RunShown (now (rows .entry)) sheet (now (choices .entry)) budget r (listsLent (now (readied .entry)) (now (taken .entry))) (listsLent (now (readied .exit)) (now (taken .exit)))) ⌝ }
+    ensures { λ r. ⌜ ((sheet : Sheet) → KeptReadings (now (rows .entry)) sheet (now (readings .entry)) (now (given .entry)) lines → RunShown (now (rows .entry)) sheet (now (choices .entry)) budget r (lentLists readied taken) (leftLists readied taken)) ⌝ }
 {
     let root = base_rows::declarations(rows);
     let mut states = [0u8; 1024];
     let mut numbers = [0i32; 1024];
     let mut counts = [0u32; 8];
+    let mut output_marks = [0u8; 1024];
     let mut left = [0u16; 1024];
     let mut came = [0u16; 2049];
     let mut acts = [0u16; 3072];
@@ -111,6 +112,7 @@ pub fn take_steps<'a>(
                 places,
                 numbers,
                 counts,
+                output_marks,
             };
         }
         let j = choose(&bits, choice_at(choices, n));
@@ -128,7 +130,13 @@ pub fn take_steps<'a>(
         );
         let d = c.written;
         let w = written_by(d, &state.places, readings, given);
-        put_host(d, &mut state.places, &mut numbers, &mut counts);
+        put_host(
+            d,
+            &mut state.places,
+            &mut numbers,
+            &mut counts,
+            &mut output_marks,
+        );
         match w {
             Put::Nowhere => {}
             Put::Set(cell, x) => {

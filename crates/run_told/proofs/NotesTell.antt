@@ -119,11 +119,11 @@ module _ (rows : List ℤ) (ok : check rows ≡ none) (sheet : Sheet) (l : List 
     ends = λ j q. own-act j (moves j 2 []) q (λ u. let y : _≡_ {A = ℕ} 0 1 = cc in omega arith) (note 3 0 0 (pos 0)) refl .0;
     starts = λ j p q. let b = own-act j (moves p 1 []) q (λ u. let y : _≡_ {A = ℕ} 0 1 = cc in omega arith) (note 4 p 0 (pos 0)) refl in (b .0, b .1);
     reads = λ j a p n k q. let b = own-act j (moves j 2 (writeCell a k ∷ writePlace p n ∷ [])) q (λ u. let y : _≡_ {A = ℕ} 0 1 = cc in omega arith) (note 5 p a (pos 0)) refl in (b .0, b .1, b .2);
-    writes = λ j p k z q.
-        let b = own-act j (moves j 2 (writeOutput p (k ++ (some z ∷ [])) ∷ [])) q (λ u. let y : _≡_ {A = ℕ} 0 1 = cc in omega arith) (note 6 p 1 z) (ap (λ (n : Message). note 6 p (mark n) (numberIn n)) (last-is k (some z))) in
-        (b .0, b .1, b .3);
+    writes = λ j p k n q.
+        let b = own-act j (moves j 2 (writeOutput p (k ++ (n ∷ [])) ∷ [])) q (λ u. let y : _≡_ {A = ℕ} 0 1 = cc in omega arith) (note 6 p (mark n) (numberIn n)) (ap (λ (n : Message). note 6 p (mark n) (numberIn n)) (last-is k n)) in
+        (b .0, b .1, b .2, b .3);
     inputs = λ j e a q. let b = own-act j (inputsFrom e a) q (λ u. let y : _≡_ {A = ℕ} 0 1 = cc in omega arith) (note 7 e a (pos 0)) refl in (b .0, b .1, b .2);
-    outputs = λ j e z q. let b = own-act j (outputsTo e (some z)) q (λ u. let y : _≡_ {A = ℕ} 0 1 = cc in omega arith) (note 8 e 1 z) refl in (b .2, b .3);
+    outputs = λ j e n q. let b = own-act j (outputsTo e n) q (λ u. let y : _≡_ {A = ℕ} 0 1 = cc in omega arith) (note 8 e (mark n) (numberIn n)) refl in (b .2, b .3);
     opens = λ r j i q os a b e. option-act r j a os b (openOffer i q []) e .0;
     offers-read = λ r j i q a p n k os b c e. let d = option-act r j b os c (openOffer i q (writeCell a k ∷ writePlace p n ∷ [])) e in (d .0, d .1, d .2);
     offers-input = λ r j i q e a os b c f. let d = option-act r j b os c (inputOffer i q e a) f in (d .0, d .1, d .2);

@@ -55,9 +55,9 @@ root-is rows r e = e
 
 module _ (rows : List ℤ) (ok : check rows ≡ none) where
   -- it is a row of the arrays
-  pub root-below : root rows < 1024
+  pub root-below : (r : ℕ) → r ≡ root rows → r < 1024
   unfolding root
-  root-below = omega (arith, starts.root-below rows (accepted rows .0 ok), rows-limit rows ok)
+  root-below r e = omega (arith, e, starts.root-below rows (accepted rows .0 ok), rows-limit rows ok)
 
   -- the root is
   pub root-is-process : (r : ℕ) → r ≡ root rows → IsProcess rows r

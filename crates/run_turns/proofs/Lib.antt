@@ -10,3 +10,4 @@ pub mod ChangedRows
 pub mod Round
 pub mod Stands
 pub mod Laws
+pub mod Turn

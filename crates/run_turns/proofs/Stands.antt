@@ -190,14 +190,14 @@ module _ (rows : List ℤ) (ok : check rows ≡ none) (sheet : Sheet) (readings 
     pub began-below : RowsBelow came
     began-below = rows-listed rows ok sheet (λ q. Unit {0}) (start (program rows)) came started
 
-    pub stands-start : (d : Buffers) → d ≡ record { cells = replicate 256 (pos 0); marks = replicate 256 0; states = states; places = replicate 8 0; numbers = replicate 1024 (pos 0); counts = replicate 8 0 }
+    pub stands-start : (d : Buffers) → d ≡ record { cells = replicate 256 (pos 0); marks = replicate 256 0; states = states; places = replicate 8 0; numbers = replicate 1024 (pos 0); counts = replicate 8 0; outputMarks = replicate 1024 0 }
         → (k : Lists) → k ≡ noteListed rows (cellsIn (d .cells) (d .marks)) (d .places) (d .counts) lines (listedRows came) (listsOf (replicate 3072 0) (replicate 1024 (pos 0)) (replicate 512 0) noRows)
         → Stands rows sheet choices budget first 0 first (machineOf d left came k)
     unfolding blank
     stands-start d d-is k k-is =
         let Z = start-counted rows ok 1024 (rows-limit rows ok) (replicate 1024 0) (replicate 2049 0) (omega (arith, length-replicate {A = ℕ} 1024 0)) in
         let h : HoldsState rows (start (program rows)) d =
-        d-is ∙ ap (λ (t : List ℕ). record { cells = replicate 256 (pos 0); marks = replicate 256 0; states = t; places = replicate 8 0; numbers = replicate 1024 (pos 0); counts = replicate 8 0 }) (ap (λ (q : Kept). q .states) begun ∙ Z .states-are)
+        d-is ∙ ap (λ (t : List ℕ). record { cells = replicate 256 (pos 0); marks = replicate 256 0; states = t; places = replicate 8 0; numbers = replicate 1024 (pos 0); counts = replicate 8 0; outputMarks = replicate 1024 0 }) (ap (λ (q : Kept). q .states) begun ∙ Z .states-are)
         ∙ start-held rows ok in
         let U = underway-start rows ok sheet choices budget first in
         record {
@@ -218,9 +218,9 @@ module _ (rows : List ℤ) (ok : check rows ≡ none) (sheet : Sheet) (readings 
     -- the same by the state that a run begins with
     pub stands-first : (x : store.State) → x ≡ unsetState → (bits : List ℕ) → bits ≡ noRows → (k : Lists)
         → k ≡ noteListed rows (cellsIn (x .values) (x .marks)) (x .places) (replicate 8 0) lines (listedRows came) (listsOf (replicate 3072 0) (replicate 1024 (pos 0)) (replicate 512 0) bits)
-        → Stands rows sheet choices budget first 0 first (machineOf (arraysOf x states (replicate 1024 (pos 0)) (replicate 8 0)) left came k)
+        → Stands rows sheet choices budget first 0 first (machineOf (arraysOf x states (replicate 1024 (pos 0)) (replicate 8 0) (replicate 1024 0)) left came k)
     stands-first x e bits f k g =
-        let d = arraysOf x states (replicate 1024 (pos 0)) (replicate 8 0) in
-        let z : d ≡ record { cells = replicate 256 (pos 0); marks = replicate 256 0; states = states; places = replicate 8 0; numbers = replicate 1024 (pos 0); counts = replicate 8 0 }
-        = ap (λ (y : store.State). arraysOf y states (replicate 1024 (pos 0)) (replicate 8 0)) e in
+        let d = arraysOf x states (replicate 1024 (pos 0)) (replicate 8 0) (replicate 1024 0) in
+        let z : d ≡ record { cells = replicate 256 (pos 0); marks = replicate 256 0; states = states; places = replicate 8 0; numbers = replicate 1024 (pos 0); counts = replicate 8 0; outputMarks = replicate 1024 0 }
+        = ap (λ (y : store.State). arraysOf y states (replicate 1024 (pos 0)) (replicate 8 0) (replicate 1024 0)) e in
         stands-start d z k (g ∙ ap (λ (y : List ℕ). noteListed rows (cellsIn (x .values) (x .marks)) (x .places) (replicate 8 0) lines (listedRows came) (listsOf (replicate 3072 0) (replicate 1024 (pos 0)) (replicate 512 0) y)) f)

@@ -59,40 +59,40 @@ module _ (readings : List ℤ) (given : List ℕ) where
   host-fits Nothing b h = tt
   host-fits (Cell a x m) b h = tt
   host-fits (Reading a p) b h = (h .1, h .2)
-  host-fits (Output p strip x) b h = h
+  host-fits (Output p strip x m) b h = h
 
   -- and so is the place of a reading
   pub reading-fits : (d : Data) (b : Buffers) → DataFits readings given d b → ReadingFits d (b .places) readings given
   reading-fits Nothing b h = tt
   reading-fits (Cell a x m) b h = tt
   reading-fits (Reading a p) b h = (h .1, h .3, h .4)
-  reading-fits (Output p strip x) b h = tt
+  reading-fits (Output p strip x m) b h = tt
 
 -- what a change of data puts into its cell and at the host is the change of the arrays
-module _ (readings : List ℤ) (given : List ℕ) (x : State) (states : List ℕ) (numbers : List ℤ) (counts t : List ℕ) where
+module _ (readings : List ℤ) (given : List ℕ) (x : State) (states : List ℕ) (numbers : List ℤ) (counts outputMarks t : List ℕ) where
   abbrev arrays : Buffers
-  arrays = arraysOf x states numbers counts
+  arrays = arraysOf x states numbers counts outputMarks
 
   -- the state with the places that the host leaves
   abbrev pub placed : Host → State
   placed h = record { values = x .values; marks = x .marks; places = h .places }
 
-  marked-put : (a m : ℕ) (z : ℤ) (h : Host) → arraysOf (withPut (ifElse (eqb m 0) (Unset a) (Set a z)) (placed h)) t (h .numbers) (h .counts)
-      ≡ record { cells = set (x .values) a (numberIn (cellOf z m)); marks = set (x .marks) a (mark (cellOf z m)); states = t; places = h .places; numbers = h .numbers; counts = h .counts }
+  marked-put : (a m : ℕ) (z : ℤ) (h : Host) → arraysOf (withPut (ifElse (eqb m 0) (Unset a) (Set a z)) (placed h)) t (h .numbers) (h .counts) (h .outputMarks)
+      ≡ record { cells = set (x .values) a (numberIn (cellOf z m)); marks = set (x .marks) a (mark (cellOf z m)); states = t; places = h .places; numbers = h .numbers; counts = h .counts; outputMarks = h .outputMarks }
   marked-put a m z h = go (eqb m 0)
     where
-      go : (b : Bool) → arraysOf (withPut (ifElse b (Unset a) (Set a z)) (placed h)) t (h .numbers) (h .counts)
-          ≡ record { cells = set (x .values) a (numberIn (ifElse b none (some z))); marks = set (x .marks) a (mark (ifElse b none (some z))); states = t; places = h .places; numbers = h .numbers; counts = h .counts }
+      go : (b : Bool) → arraysOf (withPut (ifElse b (Unset a) (Set a z)) (placed h)) t (h .numbers) (h .counts) (h .outputMarks)
+          ≡ record { cells = set (x .values) a (numberIn (ifElse b none (some z))); marks = set (x .marks) a (mark (ifElse b none (some z))); states = t; places = h .places; numbers = h .numbers; counts = h .counts; outputMarks = h .outputMarks }
       go true = refl
       go false = refl
 
-  put-made : (d : Data) → let h = hostPut d (hostOf (x .places) numbers counts) in arraysOf (withPut (written readings given (x .places) d) (placed h)) t (h .numbers) (h .counts) ≡ withStates t (putData readings given d arrays)
+  put-made : (d : Data) → let h = hostPut d (hostOf (x .places) numbers counts outputMarks) in arraysOf (withPut (written readings given (x .places) d) (placed h)) t (h .numbers) (h .counts) (h .outputMarks) ≡ withStates t (putData readings given d arrays)
   put-made Nothing = refl
-  put-made (Cell a z m) = marked-put a m z (hostOf (x .places) numbers counts)
+  put-made (Cell a z m) = marked-put a m z (hostOf (x .places) numbers counts outputMarks)
   put-made (Reading a p) =
-      marked-put a (getD given (p * 128 + getD (x .places) p 0) 0) (getD readings (p * 128 + getD (x .places) p 0) (pos 0)) (hostPut (Reading a p) (hostOf (x .places) numbers counts))
-  put-made (Output p strip z) = refl
+      marked-put a (getD given (p * 128 + getD (x .places) p 0) 0) (getD readings (p * 128 + getD (x .places) p 0) (pos 0)) (hostPut (Reading a p) (hostOf (x .places) numbers counts outputMarks))
+  put-made (Output p strip z m) = refl
 
-  pub turned-arrays : (d : Data) (h : Host) → h ≡ hostPut d (hostOf (x .places) numbers counts) → (w : Put) → w ≡ written readings given (x .places) d → (y : State) → y ≡ withPut w (placed h)
-      → arraysOf y t (h .numbers) (h .counts) ≡ withStates t (putData readings given d arrays)
+  pub turned-arrays : (d : Data) (h : Host) → h ≡ hostPut d (hostOf (x .places) numbers counts outputMarks) → (w : Put) → w ≡ written readings given (x .places) d → (y : State) → y ≡ withPut w (placed h)
+      → arraysOf y t (h .numbers) (h .counts) (h .outputMarks) ≡ withStates t (putData readings given d arrays)
   turned-arrays d h e w f y g = rw (g, f, e) (put-made d)

@@ -16,11 +16,11 @@ abbrev pub HostFits : Data → List ℕ → List ℕ → Type 0
 HostFits Nothing places counts = Unit {0}
 HostFits (Cell a x m) places counts = Unit {0}
 HostFits (Reading a p) places counts = (p < 8) × (getD places p 0 < 128)
-HostFits (Output p strip x) places counts = (p < 8) × (strip + getD counts p 0 < 1024)
+HostFits (Output p strip x m) places counts = (p < 8) × (strip + getD counts p 0 < 1024)
 
 -- a reading that goes into a cell is that of one of the arrays' channels, and its place is within the lists that keep the readings
 abbrev pub ReadingFits : Data → List ℕ → List ℤ → List ℕ → Type 0
 ReadingFits Nothing places readings given = Unit {0}
 ReadingFits (Cell a x m) places readings given = Unit {0}
 ReadingFits (Reading a p) places readings given = (p < 8) × (p * 128 + getD places p 0 < length readings) × (p * 128 + getD places p 0 < length given)
-ReadingFits (Output p strip x) places readings given = Unit {0}
+ReadingFits (Output p strip x m) places readings given = Unit {0}

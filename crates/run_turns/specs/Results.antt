@@ -27,5 +27,6 @@ pub record ResultReached (rows : List ℤ) (q : meaning.RunResult) (o : Outcome)
   pub arrays : b ≡ encode rows (q .state) blank
 
 -- the arrays of a run under way: those of its state, with the row states and the strips beside it
-abbrev pub arraysOf : State → List ℕ → List ℤ → List ℕ → Buffers
-arraysOf x states numbers counts = record { cells = x .values; marks = x .marks; states = states; places = x .places; numbers = numbers; counts = counts }
+abbrev pub arraysOf : State → List ℕ → List ℤ → List ℕ → List ℕ → Buffers
+arraysOf x states numbers counts outputMarks =
+    record { cells = x .values; marks = x .marks; states = states; places = x .places; numbers = numbers; counts = counts; outputMarks = outputMarks }

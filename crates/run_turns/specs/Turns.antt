@@ -5,8 +5,10 @@ use Prim.Native.Nat.{ℕ, zero, suc, _+_, _*_}
 use lib.IntN.{ℤ, pos}
 use lib.ListN.{getD, set}
 use lib.Dec.{eqb}
+use denote.Ref.{now}
 use Rattle.meaning.specs.Basics.{ifElse}
 use Rattle.meaning.specs.Values.{Message}
+use Rattle.machine.specs.Lending.{Lent}
 use Rattle.run_values.specs.declared.store.State.{State}
 use Rattle.run_values.specs.Cells.{withCell}
 use Rattle.run_notes.specs.Notes.{Lists, leaveRow}
@@ -35,7 +37,7 @@ abbrev pub written : List ℤ → List ℕ → List ℕ → Data → Put
 written readings given places Nothing = Nowhere
 written readings given places (Cell a x m) = ifElse (eqb m 0) (Unset a) (Set a x)
 written readings given places (Reading a p) = let i = p * 128 + getD places p 0 in ifElse (eqb (getD given i 0) 0) (Unset a) (Set a (getD readings i (pos 0)))
-written readings given places (Output p strip x) = Nowhere
+written readings given places (Output p strip x m) = Nowhere
 
 -- the state with that put into its cell
 abbrev pub withPut : Put → State → State
@@ -43,18 +45,30 @@ withPut Nowhere s = s
 withPut (Set a x) s = withCell s a (some x)
 withPut (Unset a) s = withCell s a none
 
--- what the host has given and been given: places in the readings, the strips' numbers, their counts
+-- what the host has given and been given: places in the readings, the strips' numbers, their counts, the numbers' marks
 pub record Host : Type 0 where
   pub places : List ℕ
   pub numbers : List ℤ
   pub counts : List ℕ
+  pub outputMarks : List ℕ
 
-abbrev pub hostOf : List ℕ → List ℤ → List ℕ → Host
-hostOf p n c = record { places = p; numbers = n; counts = c }
+abbrev pub hostOf : List ℕ → List ℤ → List ℕ → List ℕ → Host
+hostOf p n c m = record { places = p; numbers = n; counts = c; outputMarks = m }
 
--- a change of data at the host: a reading is taken, a number is given
+module _ (places : Lent ℕ) (numbers : Lent ℤ) (counts outputMarks : Lent ℕ) where
+  -- the same of the four lists that are lent, when the call begins
+  abbrev pub lentHost : Host
+  lentHost = hostOf (now (places .entry)) (now (numbers .entry)) (now (counts .entry)) (now (outputMarks .entry))
+
+  -- when it ends
+  abbrev pub leftHost : Host
+  leftHost = hostOf (now (places .exit)) (now (numbers .exit)) (now (counts .exit)) (now (outputMarks .exit))
+
+-- a change of data at the host: a reading is taken, a number is given with its mark
 abbrev pub hostPut : Data → Host → Host
 hostPut Nothing h = h
 hostPut (Cell a x m) h = h
-hostPut (Reading a p) h = hostOf (set (h .places) p (suc (getD (h .places) p 0))) (h .numbers) (h .counts)
-hostPut (Output p strip x) h = hostOf (h .places) (set (h .numbers) (strip + getD (h .counts) p 0) x) (set (h .counts) p (suc (getD (h .counts) p 0)))
+hostPut (Reading a p) h = hostOf (set (h .places) p (suc (getD (h .places) p 0))) (h .numbers) (h .counts) (h .outputMarks)
+hostPut (Output p strip x m) h =
+    let i = strip + getD (h .counts) p 0 in
+    hostOf (h .places) (set (h .numbers) i x) (set (h .counts) p (suc (getD (h .counts) p 0))) (set (h .outputMarks) i m)

@@ -3,11 +3,11 @@ ghost use mathlib.Core.Path.{_≡_};
 ghost use mathlib.Core.List.{List};
 ghost use Prim.Native.Nat.{_<_, _≤_};
 ghost use lib.IntN.{ℤ};
-ghost use Rattle.run_values.specs.Cells.{cellsIn};
+ghost use Rattle.run_values.specs.Cells.{lentCells};
 ghost use Rattle.machine.specs.Came.{listedRows};
 ghost use Rattle.run_code.specs.Prepared.{Prepared};
-ghost use Rattle.run_notes.specs.Notes.{listsOf};
-ghost use Rattle.run_turns.specs.Turns.{leaveStep, noteListed, written, hostOf, hostPut};
+ghost use Rattle.run_notes.specs.Notes.{lentNotes, leftNotes};
+ghost use Rattle.run_turns.specs.Turns.{leaveStep, noteListed, written, lentHost, leftHost, hostPut};
 ghost use Rattle.run_turns.specs.Fits.{RowsBelow, HostFits, ReadingFits};
 use run_changes::Data;
 use run_changes::put_output;
@@ -33,7 +33,7 @@ pub fn leave_step(
 )
     requires table { ⌜ ((rows : List ℤ) × Prepared rows (now code)) ⌝ }
     requires inside { ⌜ (owner < 1024) × (sender ≤ 1024) ⌝ }
-    ensures { λ _. ⌜ ((rows : List ℤ) → Prepared rows (now (code .entry)) → listsOf (now (acts .exit)) (now (sent .exit)) (now (elements .exit)) (now (bits .exit)) ≡ leaveStep rows owner sender (listsOf (now (acts .entry)) (now (sent .entry)) (now (elements .entry)) (now (bits .entry)))) ⌝ }
+    ensures { λ _. ⌜ ((rows : List ℤ) → Prepared rows (now (code .entry)) → leftNotes acts sent elements bits ≡ leaveStep rows owner sender (lentNotes acts sent elements bits)) ⌝ }
 {
     leave(code, acts, sent, elements, bits, owner);
     if sender != 0 {
@@ -57,7 +57,7 @@ pub fn note_all<'a>(
 )
     requires table { ⌜ ((rows : List ℤ) × Prepared rows (now code)) ⌝ }
     requires listed { ⌜ RowsBelow (now came) ⌝ }
-    ensures { λ _. ⌜ ((rows : List ℤ) → Prepared rows (now (code .entry)) → listsOf (now (acts .exit)) (now (sent .exit)) (now (elements .exit)) (now (bits .exit)) ≡ noteListed rows (cellsIn (now (values .entry)) (now (marks .entry))) (now (places .entry)) (now (counts .entry)) lines (listedRows (now (came .entry))) (listsOf (now (acts .entry)) (now (sent .entry)) (now (elements .entry)) (now (bits .entry)))) ⌝ }
+    ensures { λ _. ⌜ ((rows : List ℤ) → Prepared rows (now (code .entry)) → leftNotes acts sent elements bits ≡ noteListed rows (lentCells values marks) (now (places .entry)) (now (counts .entry)) lines (listedRows (now (came .entry))) (lentNotes acts sent elements bits)) ⌝ }
 {
     let n = came[0] as usize;
     let mut i: usize = 0;
@@ -100,14 +100,20 @@ pub fn written_by<'a>(d: Data, places: &'a [u32; 8], readings: &'a [i32], given:
             }
             Put::Set(cell, readings[i])
         }
-        Data::Output(_, _, _) => Put::Nowhere,
+        Data::Output(_, _, _, _) => Put::Nowhere,
     }
 }
 
-// A change of data at the host: a reading is taken, a number is given.
-pub fn put_host(d: Data, places: &mut [u32; 8], numbers: &mut [i32; 1024], counts: &mut [u32; 8])
+// A change of data at the host: a reading is taken, a number is given with its mark.
+pub fn put_host(
+    d: Data,
+    places: &mut [u32; 8],
+    numbers: &mut [i32; 1024],
+    counts: &mut [u32; 8],
+    output_marks: &mut [u8; 1024],
+)
     requires { ⌜ HostFits d (now places) (now counts) ⌝ }
-    ensures { λ _. ⌜ hostOf (now (places .exit)) (now (numbers .exit)) (now (counts .exit)) ≡ hostPut d (hostOf (now (places .entry)) (now (numbers .entry)) (now (counts .entry))) ⌝ }
+    ensures { λ _. ⌜ leftHost places numbers counts «output_marks» ≡ hostPut d (lentHost places numbers counts «output_marks») ⌝ }
 {
     match d {
         Data::Nothing => {}
@@ -115,6 +121,8 @@ pub fn put_host(d: Data, places: &mut [u32; 8], numbers: &mut [i32; 1024], count
         Data::Reading(_, p) => {
             places[p] += 1;
         }
-        Data::Output(p, strip, x) => put_output(numbers, counts, p, strip, x),
+        Data::Output(p, strip, x, mark) => {
+            put_output(numbers, counts, output_marks, p, strip, x, mark)
+        }
     }
 }

@@ -1,20 +1,20 @@
 -- The cells that numbers and set marks stand for: what stands at a place, what a change of both changes, and that a value follows from what stands at each place.
-use mathlib.Core.Path.{_≡_, refl, ap, ap₂, _∙_}
+use mathlib.Core.Path.{_≡_, refl, sym, ap, ap₂, _∙_}
 use mathlib.Core.Option.{none, some}
 use mathlib.Core.List.{List, [], _∷_}
 use Prim.Native.Nat.{ℕ, zero, suc, _<_, _≤_}
-use native.Mathlib.Omega.{arith}
-use lib.IntN.{ℤ, pos}
+use lib.IntN.{ℤ}
 use lib.ListN.{length, getD, set}
 use lib.Seq.{set-out}
-use borrow.Author.Tests.{eq-eqb, ne-eqb}
 use Rattle.meaning.specs.declared.Value.{Value}
 use Rattle.meaning.specs.declared.Value.the-variants.{Number, Missing}
 use Rattle.meaning.specs.declared.Index.{Index}
 use Rattle.meaning.specs.declared.Index.the-variants.{At, Fails}
 use Rattle.meaning.specs.Buffers.{mark, numberIn, cellOf, decoded}
-use Rattle.meaning.specs.Tree.{Expr, literal, element, monadic, dyadic, noExpr}
-use Rattle.meaning.specs.Values.{Message, monadicOf, whenNumber, dyadicOf, inArray, cellValue, readCell, value}
+use Rattle.meaning.proofs.LentLaws.{cell-back}
+use Rattle.meaning.specs.Tree.{Expr, literal, element, monadic, given, dyadic, noExpr}
+use Rattle.meaning.specs.Basics.{isSome}
+use Rattle.meaning.specs.Values.{Message, truth, monadicOf, whenNumber, dyadicOf, inArray, cellValue, readCell, givenValue, value, index, gives, cellSent, valueSent, passed}
 use Rattle.run_values.specs.declared.store.State.{State}
 use Rattle.run_values.specs.Cells.{stateCells, withCell}
 
@@ -27,12 +27,8 @@ decoded-set (y ∷ xs) (n ∷ ms) zero x m = refl
 decoded-set (y ∷ xs) (n ∷ ms) (suc i) x m = ap (λ (l : List Message). cellOf y n ∷ l) (decoded-set xs ms i x m)
 
 -- as the lent buffers hold a cell, so it is decoded
-pub decoded-as-held : (c : Message) → cellOf (numberIn c) (mark c) ≡ c
-decoded-as-held none = refl
-decoded-as-held (some x) = refl
-
 pub decoded-held : (xs : List ℤ) (ms : List ℕ) (i : ℕ) (c : Message) → decoded (set xs i (numberIn c)) (set ms i (mark c)) ≡ set (decoded xs ms) i c
-decoded-held xs ms i c = decoded-set xs ms i (numberIn c) (mark c) ∙ ap (set (decoded xs ms) i) (decoded-as-held c)
+decoded-held xs ms i c = decoded-set xs ms i (numberIn c) (mark c) ∙ ap (set (decoded xs ms) i) (cell-back c)
 
 -- the cells of a state that was changed
 pub cells-with : (s : State) (i : ℕ) (c : Message) → stateCells (withCell s i c) ≡ set (stateCells s) i c
@@ -42,32 +38,20 @@ cells-with s i c = decoded-held (s .values) (s .marks) i c
 pub unchanged-past : (s : State) (i : ℕ) (c : Message) → length (s .values) ≤ i → length (s .marks) ≤ i → s ≡ withCell s i c
 unchanged-past s i c h k = rw (set-out (s .values) i (numberIn c) h, set-out (s .marks) i (mark c) k)
 
--- past the numbers, and past the marks, no cell is set
-pub past-numbers : (xs : List ℤ) (ms : List ℕ) (i : ℕ) → length xs ≤ i → getD (decoded xs ms) i none ≡ none
-past-numbers [] ms i h = refl
-past-numbers (x ∷ xs) [] i h = refl
-past-numbers (x ∷ xs) (m ∷ ms) zero h = absurd (omega arith)
-past-numbers (x ∷ xs) (m ∷ ms) (suc i) h = past-numbers xs ms i (omega arith)
+-- a cell that gives a number is set to it, and one that gives none is unset
+abbrev numberOf : Value → Message
+numberOf (Number x) = some x
+numberOf (Missing k) = none
 
-pub past-marks : (xs : List ℤ) (ms : List ℕ) (i : ℕ) → length ms ≤ i → getD (decoded xs ms) i none ≡ none
-past-marks [] ms i h = refl
-past-marks (x ∷ xs) [] i h = refl
-past-marks (x ∷ xs) (m ∷ ms) zero h = absurd (omega arith)
-past-marks (x ∷ xs) (m ∷ ms) (suc i) h = past-marks xs ms i (omega arith)
+of-cell : (m : Message) → numberOf (cellValue m) ≡ m
+of-cell none = refl
+of-cell (some x) = refl
 
--- what stands at a place
-pub decoded-at : (xs : List ℤ) (ms : List ℕ) (i : ℕ) → i < length xs → i < length ms → getD (decoded xs ms) i none ≡ cellOf (getD xs i (pos 0)) (getD ms i 0)
-decoded-at [] ms i h k = absurd (omega arith)
-decoded-at (x ∷ xs) [] i h k = absurd (omega arith)
-decoded-at (x ∷ xs) (m ∷ ms) zero h k = refl
-decoded-at (x ∷ xs) (m ∷ ms) (suc i) h k = decoded-at xs ms i (omega arith) (omega arith)
+pub number-set : (m : Message) {v : Value} {x : ℤ} → v ≡ cellValue m → v ≡ Number x → m ≡ some x
+number-set m e q = sym (of-cell m) ∙ ap numberOf (sym e ∙ q)
 
-module _ (xs : List ℤ) (ms : List ℕ) (i : ℕ) (h : i < length xs) (k : i < length ms) where
-  pub unset-at : getD ms i 0 ≡ 0 → cellValue (getD (decoded xs ms) i none) ≡ Missing 1
-  unset-at e = rw (decoded-at xs ms i h k, eq-eqb _ _ e)
-
-  pub set-at : (getD ms i 0 ≡ 0 → ⊥) → cellValue (getD (decoded xs ms) i none) ≡ Number (getD xs i (pos 0))
-  set-at e = rw (decoded-at xs ms i h k, ne-eqb _ _ e)
+pub missing-unset : (m : Message) {v : Value} {k : ℕ} → v ≡ cellValue m → v ≡ Missing k → m ≡ none
+missing-unset m e q = sym (of-cell m) ∙ ap numberOf (sym e ∙ q)
 
 -- a value follows from what stands at each place
 module _ (cs ds : List Message) (same : (i : ℕ) → getD cs i none ≡ getD ds i none) where
@@ -75,11 +59,31 @@ module _ (cs ds : List Message) (same : (i : ℕ) → getD cs i none ≡ getD ds
   same-cell (At n) = ap cellValue (same n)
   same-cell (Fails k) = refl
 
+  same-given : (i : Index) → givenValue cs i ≡ givenValue ds i
+  same-given (At n) = ap (λ (m : Message). truth (isSome m)) (same n)
+  same-given (Fails k) = refl
+
   pub same-value : (e : Expr) → value cs e ≡ value ds e
   unfolding value
   same-value (literal x) = refl
   same-value (element v e) =
       same-cell (inArray (v .first) (v .size) (value cs e)) ∙ ap (λ (w : Value). readCell ds (inArray (v .first) (v .size) w)) (same-value e)
   same-value (monadic op e) = ap (λ (w : Value). whenNumber w (monadicOf op)) (same-value e)
+  same-value (given v e) =
+      same-given (inArray (v .first) (v .size) (value cs e)) ∙ ap (λ (w : Value). givenValue ds (inArray (v .first) (v .size) w)) (same-value e)
   same-value (dyadic op e f) = ap₂ (dyadicOf op) (same-value e) (same-value f)
   same-value noExpr = refl
+
+  -- so does what an output passes
+  same-sent : (i : Index) → cellSent cs i ≡ cellSent ds i
+  same-sent (At n) = ap gives (same n)
+  same-sent (Fails k) = refl
+
+  pub same-passed : (e : Expr) → passed cs e ≡ passed ds e
+  unfolding passed index
+  same-passed (literal x) = ap valueSent (same-value (literal x))
+  same-passed (element v e) = same-sent (inArray (v .first) (v .size) (value cs e)) ∙ ap (λ (w : Value). cellSent ds (inArray (v .first) (v .size) w)) (same-value e)
+  same-passed (monadic op e) = ap valueSent (same-value (monadic op e))
+  same-passed (given v e) = ap valueSent (same-value (given v e))
+  same-passed (dyadic op e f) = ap valueSent (same-value (dyadic op e f))
+  same-passed noExpr = ap valueSent (same-value noExpr)

@@ -15,9 +15,9 @@ use Rattle.meaning.specs.declared.Index.{Index}
 use Rattle.meaning.specs.declared.Index.the-variants.{At, Fails}
 use Rattle.meaning.specs.Basics.{ifElse}
 use Rattle.meaning.specs.Rows.{rowCount, naturalAt}
-use Rattle.meaning.specs.Tree.{Process, Content, contentAt, actionOf, orStop}
+use Rattle.meaning.specs.Tree.{Process, monadic, given, Content, operation, contentAt, actionOf, orStop}
 use Rattle.meaning.specs.State.{program, processAt}
-use Rattle.meaning.specs.Values.{Message, isTrue, truth, operate, monadicOf, decides, whenNumber, dyadicOf, inArray, cellValue, readCell, value, index}
+use Rattle.meaning.specs.Values.{Message, isTrue, truth, operate, monadicOf, decides, whenNumber, dyadicOf, inArray, cellValue, readCell, givenValue, value, index, Sent, cellSent, valueSent, passed}
 use Rattle.agreement.proofs.TableTree.{process-is}
 use Rattle.run_code.specs.declared.Row.{Row}
 use Rattle.run_code.specs.Prepared.{referredRow, Prepared, placeAt, literalOf, firstOf, sizeOf}
@@ -25,8 +25,8 @@ use Rattle.run_code.proofs.Entries.{what-at, second-at}
 use Rattle.run_code.proofs.RowKinds.{kindFrom}
 use Rattle.run_code.proofs.Referred.{referred-higher}
 use Rattle.run_code.proofs.Codes.{subscripted, few, here, literal-is, first-is, second-is, third-is, content-is, seen, assign-row}
-use Rattle.run_values.specs.Targets.{targetIndex, assignedIndex}
-use Rattle.run_values.proofs.NoExpressions.{no-expr, no-target, no-assigned}
+use Rattle.run_values.specs.Targets.{targetIndex, assignedIndex, fixedCell}
+use Rattle.run_values.proofs.NoExpressions.{no-expr, no-target, no-element, no-assigned}
 use Rattle.run_values.proofs.Elements.{at, indexBy, element-content, element-row, element-found, assigned-found}
 
 module _ {rows : List ℤ} {code : List ℕ} (p : Prepared rows code) (r : ℕ) (h : r ≤ 1024) where
@@ -73,17 +73,32 @@ module _ {rows : List ℤ} {code : List ℕ} (p : Prepared rows code) (r : ℕ) 
     pub outside-value : placeAt code r 0 ≡ 3 → Missing 2 ≡ at rows cells r
     outside-value e = sym (element-at 3 e refl)
 
-    pub element-value : placeAt code r 0 ≡ 4 → {d first size b : ℕ} {u v : Value} → d ≡ placeAt code r 1 → first ≡ placeAt code d 1 → size ≡ placeAt code d 2
-        → b ≡ placeAt code r 2 → u ≡ at rows cells b → v ≡ readCell cells (inArray first size u) → v ≡ at rows cells r
-    element-value e a q s m n t = t ∙ rw (q, s, a, n, m) (sym (element-at 4 e refl))
+    pub element-value : placeAt code r 0 ≡ 4 → {b : ℕ} {u v : Value} → b ≡ placeAt code r 2 → u ≡ at rows cells b → v ≡ readCell cells (inArray (firstOf code r) (sizeOf code r) u) → v ≡ at rows cells r
+    element-value e m n t = t ∙ rw (n, m) (sym (element-at 4 e refl))
 
-    pub monadic-value : placeAt code r 0 ≡ 5 → {op b : ℕ} {u v : Value} → op ≡ placeAt code r 1 → b ≡ placeAt code r 2 → u ≡ at rows cells b
+    -- a monadic operation, by its numbers
+    operation-at : placeAt code r 0 ≡ 5 → {op b : ℕ} → op ≡ placeAt code r 1 → b ≡ placeAt code r 2 → value cells (operation op (contentAt rows b)) ≡ at rows cells r
+    operation-at e {op} {b} q m =
+        ap₂ (λ (o : ℕ) (c : Content). value cells (operation o c)) (q ∙ first-is p r h 5 e (λ z. omega arith)) (ap (contentAt rows) m)
+        ∙ sym (of (content-is p r h 5 e (λ z. omega arith)) ∙ ap (λ (c : Content). value cells (operation (naturalAt rows r 1) c)) (seen p r h 2 (second-is p r h 5 e (λ z. omega arith))))
+
+    pub monadic-value : placeAt code r 0 ≡ 5 → {op b : ℕ} {u v : Value} → op ≡ placeAt code r 1 → (op ≡ 2 → ⊥) → b ≡ placeAt code r 2 → u ≡ at rows cells b
         → v ≡ whenNumber u (monadicOf op) → v ≡ at rows cells r
     unfolding value
-    monadic-value e q m n t =
-        t
-        ∙ ap₂ (λ (u : Value) (op : ℕ). whenNumber u (monadicOf op)) (n ∙ ap (at rows cells) m) (q ∙ first-is p r h 5 e (λ z. omega arith))
-        ∙ sym (of (content-is p r h 5 e (λ z. omega arith)) ∙ ap (λ (c : Content). whenNumber (value cells (c .expr)) (monadicOf (naturalAt rows r 1))) (seen p r h 2 (second-is p r h 5 e (λ z. omega arith))))
+    monadic-value e {op} {b} {u} {v} q ne m n t = t ∙ ap (λ (w : Value). whenNumber w (monadicOf op)) n ∙ go (eqb op 2) refl ∙ operation-at e q m
+      where
+        c : Content
+        c = contentAt rows b
+
+        go : (o : Bool) → eqb op 2 ≡ o → whenNumber (at rows cells b) (monadicOf op) ≡ value cells (ifElse o (given (c .target .name) (c .target .subscript)) (monadic op (c .expr)))
+        go true i = absurd (ne (eqb-true op 2 i))
+        go false i = refl
+
+    -- GIVEN of what the operand's row means as a target
+    pub given-value : placeAt code r 0 ≡ 5 → {op b : ℕ} {i : Index} {v : Value} → op ≡ placeAt code r 1 → op ≡ 2 → b ≡ placeAt code r 2
+        → i ≡ targetIndex cells (contentAt rows b .target) → v ≡ givenValue cells i → v ≡ at rows cells r
+    unfolding value index
+    given-value e {op} {b} {i} {v} q two m f t = t ∙ ap (givenValue cells) f ∙ sym (ap (λ (o : ℕ). value cells (operation o (contentAt rows b))) two) ∙ operation-at e q m
 
     module _ (e : placeAt code r 0 ≡ 6) {op b : ℕ} {u : Value} (q : op ≡ placeAt code r 1) (m : b ≡ placeAt code r 2) (n : u ≡ at rows cells b) where
       combined : (w : Value) → w ≡ at rows cells (placeAt code r 3) → dyadicOf op u w ≡ at rows cells r
@@ -129,6 +144,33 @@ module _ {rows : List ℤ} {code : List ℕ} (p : Prepared rows code) (r : ℕ) 
     pub element-target : placeAt code r 0 ≡ 4 → {i : Index} → i ≡ index cells (firstOf code r) (sizeOf code r) (contentAt rows (placeAt code r 2) .expr) → i ≡ targetIndex cells (contentAt rows r .target)
     unfolding index
     element-target e q = q ∙ target-at 4 e refl
+
+    pub element-index : placeAt code r 0 ≡ 4 → {b : ℕ} {u : Value} {i : Index} → b ≡ placeAt code r 2 → u ≡ at rows cells b → i ≡ inArray (firstOf code r) (sizeOf code r) u → i ≡ targetIndex cells (contentAt rows r .target)
+    unfolding index
+    element-index e m n t = t ∙ rw (n, m) (target-at 4 e refl)
+
+    -- a row that is no element with a subscript to evaluate
+    pub fixed-target : {k : ℕ} {i : Index} → k ≡ placeAt code r 0 → (k ≡ 4 → ⊥) → i ≡ fixedCell code r → i ≡ targetIndex cells (contentAt rows r .target)
+    unfolding fixedCell
+    fixed-target {k} {i} e ne f = f ∙ go (eqb (placeAt code r 0) 2) refl (eqb (placeAt code r 0) 3) refl
+      where
+        go : (t : Bool) → eqb (placeAt code r 0) 2 ≡ t → (u : Bool) → eqb (placeAt code r 0) 3 ≡ u
+            → ifElse t (At (placeAt code r 1)) (ifElse u (Fails 2) (Fails 0)) ≡ targetIndex cells (contentAt rows r .target)
+        go true a u b = cell-target (eqb-true _ 2 a) refl
+        go false a true b = outside-target (eqb-true _ 3 b)
+        go false a false b = no-target p r h cells (eqb-false _ 2 a) (eqb-false _ 3 b) (λ z. ne (e ∙ z))
+
+    -- what an output passes of an element; of any other expression
+    pub element-passed : (n : ℕ) → placeAt code r 0 ≡ n → kindFrom n ≡ 11 → {i : Index} {s : Sent} → i ≡ targetIndex cells (contentAt rows r .target)
+        → s ≡ cellSent cells i → s ≡ passed cells (contentAt rows r .expr)
+    unfolding passed
+    element-passed n e i f t =
+        let c = element-content p r h n e i in
+        t ∙ ap (cellSent cells) (f ∙ ap (λ (c : Content). targetIndex cells (c .target)) c) ∙ sym (ap (λ (c : Content). passed cells (c .expr)) c)
+
+    pub other-passed : {k : ℕ} {v : Value} {s : Sent} → k ≡ placeAt code r 0 → (k ≡ 2 → ⊥) → (k ≡ 3 → ⊥) → (k ≡ 4 → ⊥) → v ≡ at rows cells r
+        → s ≡ valueSent v → s ≡ passed cells (contentAt rows r .expr)
+    other-passed e a b c f t = t ∙ ap valueSent f ∙ no-element p r h cells (λ i. a (e ∙ i)) (λ i. b (e ∙ i)) (λ i. c (e ∙ i))
 
     -- ---- the cell that is assigned to
     assigned-at : (m : ℕ) → placeAt code r 0 ≡ 44 + m → kindFrom (44 + m) ≡ 22 → indexBy rows cells m (placeAt code r 1) (placeAt code r 2) (firstOf code r) (sizeOf code r) ≡ assignedIndex cells (actionOf (processAt (program rows) r))

@@ -1,5 +1,6 @@
 -- A row that is no expression has no value, one that is no element is no target, and one that is no assignment assigns to none.
 use mathlib.Core.Path.{_≡_, refl, sym, ap, _∙_}
+use mathlib.Core.Bool.{Bool, true, false}
 use mathlib.Core.List.{List}
 use Prim.Native.Nat.{ℕ, _+_, _<_, _≤_}
 use native.Mathlib.Omega.{arith}
@@ -11,12 +12,13 @@ use Rattle.meaning.specs.declared.Node.{Node}
 use Rattle.meaning.specs.declared.Node.the-variants.{Literal, Element, Monadic, Dyadic, Stop, Skip, Assignment, Input, Output, Seq, Par, If, While, Alt, Member, Choice, OptionRow, Guard, Other}
 use Rattle.meaning.specs.declared.Value.the-variants.{Missing}
 use Rattle.meaning.specs.declared.Index.the-variants.{Fails}
+use Rattle.meaning.specs.Basics.{ifElse}
 use Rattle.meaning.specs.Rows.{rowCount, naturalAt, kindAt}
 use Rattle.meaning.specs.Nodes.{nodeAt}
-use Rattle.meaning.specs.Tree.{Process, Content, contentOf, contentAt, actionOf, orStop}
+use Rattle.meaning.specs.Tree.{Expr, monadic, given, Process, Content, operation, contentOf, contentAt, actionOf, orStop}
 use Rattle.meaning.specs.State.{program, processAt}
 use Rattle.meaning.specs.ContentClaims.{higherContent}
-use Rattle.meaning.specs.Values.{Message, inArray, value, index}
+use Rattle.meaning.specs.Values.{Message, inArray, value, index, valueSent, passed}
 use Rattle.agreement.proofs.TableReferences.{if-else}
 use Rattle.agreement.proofs.TableTree.{part-at, part-past, process-is}
 use Rattle.run_code.specs.declared.Row.{Row}
@@ -71,6 +73,15 @@ kind-of rows r =
     (if-else (Kind k) (eqb k 43) (λ e. tt)
     tt)))))))))))))))))
 
+-- a monadic operation passes its value
+value-passed : (cells : List Message) (op : ℕ) (c : Content) → valueSent (value cells (operation op c)) ≡ passed cells (operation op c)
+unfolding passed
+value-passed cells op c = go (eqb op 2)
+  where
+    go : (t : Bool) → let e : Expr = ifElse t (given (c .target .name) (c .target .subscript)) (monadic op (c .expr)) in valueSent (value cells e) ≡ passed cells e
+    go true = refl
+    go false = refl
+
 module _ {rows : List ℤ} {code : List ℕ} (p : Prepared rows code) (r : ℕ) (h : r ≤ 1024) (cells : List Message) where
   abbrev Not : ℕ → Type 0
   Not n = placeAt code r 0 ≡ n → ⊥
@@ -79,6 +90,7 @@ module _ {rows : List ℤ} {code : List ℕ} (p : Prepared rows code) (r : ℕ) 
   record Without (c : Content) : Type 0 where
     no-value : Not 1 → Not 2 → Not 3 → Not 4 → Not 5 → Not 6 → Missing 0 ≡ value cells (c .expr)
     no-cell : Not 2 → Not 3 → Not 4 → Fails 0 ≡ targetIndex cells (c .target)
+    no-passing : Not 2 → Not 3 → Not 4 → valueSent (value cells (c .expr)) ≡ passed cells (c .expr)
     no-assignment : Not 46 → Not 47 → Not 48 → assignedIndex cells (actionOf (orStop (c .process))) ≡ Fails 2
 
   module _ (l : r < rowCount rows) where
@@ -102,40 +114,43 @@ module _ {rows : List ℤ} {code : List ℕ} (p : Prepared rows code) (r : ℕ) 
         go (isSubscripted i) = absurd (z (what 22 e ∙ ap (λ (n : ℕ). 44 + n) i))
 
     by-node : (k : Node) → Kind (kindAt rows r) k → Without (contentOf rows r (higherContent rows r) k)
-    unfolding value index inArray
-    by-node (Literal x) e = record { no-value = λ a b c d f g. absurd (a (what 10 e)); no-cell = λ b c d. refl; no-assignment = λ x y z. refl }
-    by-node (Element a b) e = record { no-value = λ a b c d f g. an-element e b c d; no-cell = λ b c d. an-element e b c d; no-assignment = λ x y z. refl }
-    by-node (Monadic a b) e = record { no-value = λ a b c d f g. absurd (f (what 12 e)); no-cell = λ b c d. refl; no-assignment = λ x y z. refl }
-    by-node (Dyadic a b c) e = record { no-value = λ a b c d f g. absurd (g (what 13 e)); no-cell = λ b c d. refl; no-assignment = λ x y z. refl }
-    by-node Stop e = record { no-value = λ a b c d f g. refl; no-cell = λ b c d. refl; no-assignment = λ x y z. refl }
-    by-node Skip e = record { no-value = λ a b c d f g. refl; no-cell = λ b c d. refl; no-assignment = λ x y z. refl }
-    by-node (Assignment a b c) e = record { no-value = λ a b c d f g. refl; no-cell = λ b c d. refl; no-assignment = λ x y z. an-assignment e x y z }
-    by-node (Input a b c) e = record { no-value = λ a b c d f g. refl; no-cell = λ b c d. refl; no-assignment = λ x y z. refl }
-    by-node (Output a b c) e = record { no-value = λ a b c d f g. refl; no-cell = λ b c d. refl; no-assignment = λ x y z. refl }
-    by-node (Seq a) e = record { no-value = λ a b c d f g. refl; no-cell = λ b c d. refl; no-assignment = λ x y z. refl }
-    by-node (Par a) e = record { no-value = λ a b c d f g. refl; no-cell = λ b c d. refl; no-assignment = λ x y z. refl }
-    by-node (If a) e = record { no-value = λ a b c d f g. refl; no-cell = λ b c d. refl; no-assignment = λ x y z. refl }
-    by-node (While a b) e = record { no-value = λ a b c d f g. refl; no-cell = λ b c d. refl; no-assignment = λ x y z. refl }
-    by-node (Alt a) e = record { no-value = λ a b c d f g. refl; no-cell = λ b c d. refl; no-assignment = λ x y z. refl }
-    by-node (Member a b) e = record { no-value = λ a b c d f g. refl; no-cell = λ b c d. refl; no-assignment = λ x y z. refl }
-    by-node (Choice a b c) e = record { no-value = λ a b c d f g. refl; no-cell = λ b c d. refl; no-assignment = λ x y z. refl }
-    by-node (OptionRow a b c) e = record { no-value = λ a b c d f g. refl; no-cell = λ b c d. refl; no-assignment = λ x y z. refl }
-    by-node (Guard a b) e = record { no-value = λ a b c d f g. refl; no-cell = λ b c d. refl; no-assignment = λ x y z. refl }
-    by-node Other e = record { no-value = λ a b c d f g. refl; no-cell = λ b c d. refl; no-assignment = λ x y z. refl }
+    unfolding value index inArray passed
+    by-node (Literal x) e = record { no-value = λ a b c d f g. absurd (a (what 10 e)); no-cell = λ b c d. refl; no-passing = λ b c d. refl; no-assignment = λ x y z. refl }
+    by-node (Element a b) e = record { no-value = λ a b c d f g. an-element e b c d; no-cell = λ b c d. an-element e b c d; no-passing = λ b c d. an-element e b c d; no-assignment = λ x y z. refl }
+    by-node (Monadic a b) e = record { no-value = λ a b c d f g. absurd (f (what 12 e)); no-cell = λ b c d. refl; no-passing = λ c d f. value-passed cells a (higherContent rows r b); no-assignment = λ x y z. refl }
+    by-node (Dyadic a b c) e = record { no-value = λ a b c d f g. absurd (g (what 13 e)); no-cell = λ b c d. refl; no-passing = λ b c d. refl; no-assignment = λ x y z. refl }
+    by-node Stop e = record { no-value = λ a b c d f g. refl; no-cell = λ b c d. refl; no-passing = λ b c d. refl; no-assignment = λ x y z. refl }
+    by-node Skip e = record { no-value = λ a b c d f g. refl; no-cell = λ b c d. refl; no-passing = λ b c d. refl; no-assignment = λ x y z. refl }
+    by-node (Assignment a b c) e = record { no-value = λ a b c d f g. refl; no-cell = λ b c d. refl; no-passing = λ b c d. refl; no-assignment = λ x y z. an-assignment e x y z }
+    by-node (Input a b c) e = record { no-value = λ a b c d f g. refl; no-cell = λ b c d. refl; no-passing = λ b c d. refl; no-assignment = λ x y z. refl }
+    by-node (Output a b c) e = record { no-value = λ a b c d f g. refl; no-cell = λ b c d. refl; no-passing = λ b c d. refl; no-assignment = λ x y z. refl }
+    by-node (Seq a) e = record { no-value = λ a b c d f g. refl; no-cell = λ b c d. refl; no-passing = λ b c d. refl; no-assignment = λ x y z. refl }
+    by-node (Par a) e = record { no-value = λ a b c d f g. refl; no-cell = λ b c d. refl; no-passing = λ b c d. refl; no-assignment = λ x y z. refl }
+    by-node (If a) e = record { no-value = λ a b c d f g. refl; no-cell = λ b c d. refl; no-passing = λ b c d. refl; no-assignment = λ x y z. refl }
+    by-node (While a b) e = record { no-value = λ a b c d f g. refl; no-cell = λ b c d. refl; no-passing = λ b c d. refl; no-assignment = λ x y z. refl }
+    by-node (Alt a) e = record { no-value = λ a b c d f g. refl; no-cell = λ b c d. refl; no-passing = λ b c d. refl; no-assignment = λ x y z. refl }
+    by-node (Member a b) e = record { no-value = λ a b c d f g. refl; no-cell = λ b c d. refl; no-passing = λ b c d. refl; no-assignment = λ x y z. refl }
+    by-node (Choice a b c) e = record { no-value = λ a b c d f g. refl; no-cell = λ b c d. refl; no-passing = λ b c d. refl; no-assignment = λ x y z. refl }
+    by-node (OptionRow a b c) e = record { no-value = λ a b c d f g. refl; no-cell = λ b c d. refl; no-passing = λ b c d. refl; no-assignment = λ x y z. refl }
+    by-node (Guard a b) e = record { no-value = λ a b c d f g. refl; no-cell = λ b c d. refl; no-passing = λ b c d. refl; no-assignment = λ x y z. refl }
+    by-node Other e = record { no-value = λ a b c d f g. refl; no-cell = λ b c d. refl; no-passing = λ b c d. refl; no-assignment = λ x y z. refl }
 
   without : Without (contentAt rows r)
-  unfolding value index inArray
+  unfolding value index inArray passed
   without = go (decLt r (rowCount rows))
     where
       go : Dec (r < rowCount rows) → Without (contentAt rows r)
       go (yes l) = rw (part-at rows r l) (by-node l (nodeAt rows r) (kind-of rows r))
-      go (no l) = rw (part-past rows r (omega arith)) (record { no-value = λ a b c d f g. refl; no-cell = λ b c d. refl; no-assignment = λ x y z. refl })
+      go (no l) = rw (part-past rows r (omega arith)) (record { no-value = λ a b c d f g. refl; no-cell = λ b c d. refl; no-passing = λ b c d. refl; no-assignment = λ x y z. refl })
 
   pub no-expr : Not 1 → Not 2 → Not 3 → Not 4 → Not 5 → Not 6 → Missing 0 ≡ value cells (contentAt rows r .expr)
   no-expr = without .no-value
 
   pub no-target : Not 2 → Not 3 → Not 4 → Fails 0 ≡ targetIndex cells (contentAt rows r .target)
   no-target = without .no-cell
+
+  pub no-element : Not 2 → Not 3 → Not 4 → valueSent (value cells (contentAt rows r .expr)) ≡ passed cells (contentAt rows r .expr)
+  no-element = without .no-passing
 
   pub no-assigned : Not 46 → Not 47 → Not 48 → Fails 2 ≡ assignedIndex cells (actionOf (processAt (program rows) r))
   no-assigned x y z = sym (without .no-assignment x y z) ∙ ap (λ (q : Process). assignedIndex cells (actionOf q)) (sym (process-is rows r))

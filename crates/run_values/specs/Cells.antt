@@ -3,8 +3,10 @@ use mathlib.Core.List.{List, [], _∷_}
 use Prim.Native.Nat.{ℕ, zero, suc}
 use lib.IntN.{ℤ, pos}
 use lib.ListN.{getD, set, replicate, drop}
+use denote.Ref.{now}
 use Rattle.meaning.specs.Values.{Message}
 use Rattle.meaning.specs.Buffers.{mark, numberIn, cellOf, decoded}
+use Rattle.machine.specs.Lending.{Lent}
 use Rattle.run_values.specs.declared.store.State.{State}
 
 -- the first n cells that numbers and set marks stand for
@@ -15,6 +17,10 @@ cellsTo (suc n) values marks = cellOf (getD values 0 (pos 0)) (getD marks 0 0) �
 -- the 256 cells of two arrays
 unfoldable pub cellsIn : List ℤ → List ℕ → List Message
 cellsIn values marks = cellsTo 256 values marks
+
+-- those of two arrays that are lent, when the call begins
+abbrev pub lentCells : Lent ℤ → Lent ℕ → List Message
+lentCells values marks = cellsIn (now (values .entry)) (now (marks .entry))
 
 -- the cells of a state
 abbrev pub stateCells : State → List Message

@@ -42,8 +42,9 @@ over-encoded rows s b = λ i. record {
   marks = lent-past maxCells 0 (map mark (s .store .cells)) (b .marks) i;
   states = lent-past maxRows 0 (s .states) (b .states) i;
   places = lent-past maxHostChannels 0 (s .store .places) (b .places) i;
-  numbers = lent-past maxCapacity (pos 0) (strips (capacities rows) (s .store .outputs)) (b .numbers) i;
+  numbers = lent-past maxCapacity (pos 0) (map numberIn (strips (capacities rows) (s .store .outputs))) (b .numbers) i;
   counts = lent-past maxHostChannels 0 (map length (s .store .outputs)) (b .counts) i;
+  outputMarks = lent-past maxCapacity 0 (map mark (strips (capacities rows) (s .store .outputs))) (b .outputMarks) i;
 }
 
 put-reply : (rows : List ℤ) (b : Buffers) (q : Result) → putReply (replyOf rows blank q) b ≡ replyOf rows b q
@@ -52,7 +53,7 @@ put-reply rows b (ran r) = λ i. record { answer = Ran (r .outcome) (r .steps) (
 
 -- whether a lent buffer is too short, by the lengths
 abbrev pub shortIn : Buffers → Bool
-shortIn b = anyShort (length (b .cells)) (length (b .marks)) (length (b .states)) (length (b .places)) (length (b .numbers)) (length (b .counts))
+shortIn b = anyShort (length (b .cells)) (length (b .marks)) (length (b .states)) (length (b .places)) (length (b .numbers)) (length (b .counts)) (length (b .outputMarks))
 
 module _ (rows : List ℤ) (b : Buffers) (q : Result) where
   short-refused : shortIn b ≡ true → _≡_ {A = Reply} (record { answer = Refused 1 0; buffers = b }) (replyOf rows b (unless (bufferFault b) q))
@@ -79,24 +80,26 @@ module _ (table sheet choices : List ℕ) (budget : ℕ) (b : Buffers) (short : 
   bytes-long d r e done put =
       put ∙ ap (λ (x : Reply). putReply x b) done ∙ long-replies (rowsOf table) b (resultOfBytes table sheet choices budget) (sym told ∙ e) ∙ sym (reply-to-bytes table sheet choices budget b)
 
--- no test of six holds
-none-holds : (a b c d e f : Bool) → (a || b || c || d || e || f) ≡ false → (a ≡ false) × (b ≡ false) × (c ≡ false) × (d ≡ false) × (e ≡ false) × (f ≡ false)
-none-holds true b c d e f h = absurd (false≢true (sym h))
-none-holds false true c d e f h = absurd (false≢true (sym h))
-none-holds false false true d e f h = absurd (false≢true (sym h))
-none-holds false false false true e f h = absurd (false≢true (sym h))
-none-holds false false false false true f h = absurd (false≢true (sym h))
-none-holds false false false false false f h = (refl, refl, refl, refl, refl, h)
+-- no test of seven holds
+none-holds : (a b c d e f g : Bool) → (a || b || c || d || e || f || g) ≡ false → (a ≡ false) × (b ≡ false) × (c ≡ false) × (d ≡ false) × (e ≡ false) × (f ≡ false) × (g ≡ false)
+none-holds true b c d e f g h = absurd (false≢true (sym h))
+none-holds false true c d e f g h = absurd (false≢true (sym h))
+none-holds false false true d e f g h = absurd (false≢true (sym h))
+none-holds false false false true e f g h = absurd (false≢true (sym h))
+none-holds false false false false true f g h = absurd (false≢true (sym h))
+none-holds false false false false false true g h = absurd (false≢true (sym h))
+none-holds false false false false false false g h = (refl, refl, refl, refl, refl, refl, h)
 
-pub all-long : (a b c d e f : ℕ) (short : Bool) → short ≡ anyShort a b c d e f → short ≡ false → Long a b c d e f
+pub all-long : (b : Buffers) (short : Bool) → short ≡ shortIn b → short ≡ false → Long b
 unfolding anyShort
-all-long a b c d e f short told h =
-    let n = none-holds (ltb a maxCells) (ltb b maxCells) (ltb c maxRows) (ltb d maxHostChannels) (ltb e maxCapacity) (ltb f maxHostChannels) (sym told ∙ h) in
+all-long b short told h =
+    let n = none-holds (ltb (length (b .cells)) maxCells) (ltb (length (b .marks)) maxCells) (ltb (length (b .states)) maxRows) (ltb (length (b .places)) maxHostChannels) (ltb (length (b .numbers)) maxCapacity) (ltb (length (b .counts)) maxHostChannels) (ltb (length (b .outputMarks)) maxCapacity) (sym told ∙ h) in
     record {
-      cells = ltb-false a maxCells (n .0);
-      marks = ltb-false b maxCells (n .1);
-      states = ltb-false c maxRows (n .2);
-      places = ltb-false d maxHostChannels (n .3);
-      numbers = ltb-false e maxCapacity (n .4);
-      counts = ltb-false f maxHostChannels (n .5);
+      cells = ltb-false (length (b .cells)) maxCells (n .0);
+      marks = ltb-false (length (b .marks)) maxCells (n .1);
+      states = ltb-false (length (b .states)) maxRows (n .2);
+      places = ltb-false (length (b .places)) maxHostChannels (n .3);
+      numbers = ltb-false (length (b .numbers)) maxCapacity (n .4);
+      counts = ltb-false (length (b .counts)) maxHostChannels (n .5);
+      outputMarks = ltb-false (length (b .outputMarks)) maxCapacity (n .6);
     }

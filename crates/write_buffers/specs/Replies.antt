@@ -16,7 +16,7 @@ abbrev pub replyIn : Done → Reply
 replyIn d =
     record {
       answer = d .answer;
-      buffers = record { cells = d .cells; marks = d .marks; states = d .states; places = d .places; numbers = d .numbers; counts = d .counts };
+      buffers = record { cells = d .cells; marks = d .marks; states = d .states; places = d .places; numbers = d .numbers; counts = d .counts; outputMarks = d .«output_marks» };
     }
 
 -- a list over the first places of another, with what is past them
@@ -33,6 +33,7 @@ over a b =
       places = past (a .places) (b .places);
       numbers = past (a .numbers) (b .numbers);
       counts = past (a .counts) (b .counts);
+      outputMarks = past (a .outputMarks) (b .outputMarks);
     }
 
 -- "Refused calls write to no lent buffer"
@@ -44,15 +45,16 @@ writtenUnlessRefused (Ran o k n) a b = over a b
 abbrev pub putReply : Reply → Buffers → Reply
 putReply r b = record { answer = r .answer; buffers = writtenUnlessRefused (r .answer) (r .buffers) b }
 
--- whether a lent buffer is shorter than its limit, by the lengths of cells, marks, row states, places, numbers and counts
-unfoldable pub anyShort : ℕ → ℕ → ℕ → ℕ → ℕ → ℕ → Bool
-anyShort a b c d e f = ltb a maxCells || ltb b maxCells || ltb c maxRows || ltb d maxHostChannels || ltb e maxCapacity || ltb f maxHostChannels
+-- whether a lent buffer is shorter than its limit, by the lengths of cells, marks, row states, places, numbers, counts and output marks
+unfoldable pub anyShort : ℕ → ℕ → ℕ → ℕ → ℕ → ℕ → ℕ → Bool
+anyShort a b c d e f g = ltb a maxCells || ltb b maxCells || ltb c maxRows || ltb d maxHostChannels || ltb e maxCapacity || ltb f maxHostChannels || ltb g maxCapacity
 
 -- "Each lent buffer must be as long as its limit": the same said of each
-pub record Long (a b c d e f : ℕ) : Type 0 where
-  pub cells : maxCells ≤ a
-  pub marks : maxCells ≤ b
-  pub states : maxRows ≤ c
-  pub places : maxHostChannels ≤ d
-  pub numbers : maxCapacity ≤ e
-  pub counts : maxHostChannels ≤ f
+pub record Long (b : Buffers) : Type 0 where
+  pub cells : maxCells ≤ length (b .cells)
+  pub marks : maxCells ≤ length (b .marks)
+  pub states : maxRows ≤ length (b .states)
+  pub places : maxHostChannels ≤ length (b .places)
+  pub numbers : maxCapacity ≤ length (b .numbers)
+  pub counts : maxHostChannels ≤ length (b .counts)
+  pub outputMarks : maxCapacity ≤ length (b .outputMarks)

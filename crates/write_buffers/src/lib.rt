@@ -3,6 +3,7 @@ ghost use mathlib.Core.Path.{_≡_};
 ghost use Prim.Native.Nat.{_≤_};
 ghost use lib.ListN.{length};
 ghost use Rattle.write_buffers.specs.Replies.{past, anyShort, Long, replyIn, putReply};
+ghost use Rattle.write_buffers.specs.Lending.{buffersAt, lentBuffers, leftBuffers};
 
 pub mod copying; // copying.rt: a list over the first places of a buffer
 
@@ -20,6 +21,7 @@ pub struct Done {
     pub places: [u32; 8],
     pub numbers: [i32; 1024],
     pub counts: [u32; 8],
+    pub output_marks: [u8; 1024],
 }
 
 // Whether a lent buffer is shorter than its limit, by their lengths.
@@ -30,8 +32,9 @@ pub fn too_short(
     places: usize,
     numbers: usize,
     counts: usize,
+    output_marks: usize,
 ) -> bool
-    ensures { λ t. ⌜ t ≡ anyShort cells marks states places numbers counts ⌝ }
+    ensures { λ t. ⌜ t ≡ anyShort cells marks states places numbers counts «output_marks» ⌝ }
 {
     if cells < 256 {
         return true;
@@ -48,7 +51,10 @@ pub fn too_short(
     if numbers < 1024 {
         return true;
     }
-    counts < 8
+    if counts < 8 {
+        return true;
+    }
+    output_marks < 1024
 }
 
 // A run's cells, their set marks and its row states.
@@ -61,14 +67,21 @@ fn put_cells(d: Done, cells: &mut [i32], marks: &mut [u8], states: &mut [u8])
     copy_bytes(&d.states, states);
 }
 
-// Its places in the readings, its output numbers and their counts.
-fn put_host_channels(d: Done, places: &mut [u32], numbers: &mut [i32], counts: &mut [u32])
-    requires { ⌜ (8 ≤ length (now places)) × (1024 ≤ length (now numbers)) × (8 ≤ length (now counts)) ⌝ }
-    ensures { λ _. ⌜ (now (places .exit) ≡ past (d .places) (now (places .entry))) × (now (numbers .exit) ≡ past (d .numbers) (now (numbers .entry))) × (now (counts .exit) ≡ past (d .counts) (now (counts .entry))) ⌝ }
+// Its places in the readings, its output numbers, their counts and marks.
+fn put_host_channels(
+    d: Done,
+    places: &mut [u32],
+    numbers: &mut [i32],
+    counts: &mut [u32],
+    output_marks: &mut [u8],
+)
+    requires { ⌜ (8 ≤ length (now places)) × (1024 ≤ length (now numbers)) × (8 ≤ length (now counts)) × (1024 ≤ length (now «output_marks»)) ⌝ }
+    ensures { λ _. ⌜ (now (places .exit) ≡ past (d .places) (now (places .entry))) × (now (numbers .exit) ≡ past (d .numbers) (now (numbers .entry))) × (now (counts .exit) ≡ past (d .counts) (now (counts .entry))) × (now («output_marks» .exit) ≡ past (d .«output_marks») (now («output_marks» .entry))) ⌝ }
 {
     copy_counts(&d.places, places);
     copy_numbers(&d.numbers, numbers);
     copy_counts(&d.counts, counts);
+    copy_bytes(&d.output_marks, output_marks);
 }
 
 // The answer of a task; the arrays of a run are put into the lent buffers, those of a refusal are not.
@@ -80,16 +93,17 @@ pub fn put_done(
     places: &mut [u32],
     numbers: &mut [i32],
     counts: &mut [u32],
+    output_marks: &mut [u8],
 ) -> Answer
-    requires { ⌜ Long (length (now cells)) (length (now marks)) (length (now states)) (length (now places)) (length (now numbers)) (length (now counts)) ⌝ }
-    ensures { λ a. ⌜ record { answer = a; buffers = record { cells = now (cells .exit); marks = now (marks .exit); states = now (states .exit); places = now (places .exit); numbers = now (numbers .exit); counts = now (counts .exit) } } ≡ putReply (replyIn d) (record { cells = now (cells .entry); marks = now (marks .entry); states = now (states .entry); places = now (places .entry); numbers = now (numbers .entry); counts = now (counts .entry) }) ⌝ }
+    requires { ⌜ Long (buffersAt cells marks states places numbers counts «output_marks») ⌝ }
+    ensures { λ a. ⌜ record { answer = a; buffers = leftBuffers cells marks states places numbers counts «output_marks» } ≡ putReply (replyIn d) (lentBuffers cells marks states places numbers counts «output_marks») ⌝ }
 {
     let answer = d.answer;
     match answer {
         Answer::Refused(number, place) => Answer::Refused(number, place),
         Answer::Ran(outcome, steps, ready) => {
             put_cells(d, cells, marks, states);
-            put_host_channels(d, places, numbers, counts);
+            put_host_channels(d, places, numbers, counts, output_marks);
             Answer::Ran(outcome, steps, ready)
         }
     }

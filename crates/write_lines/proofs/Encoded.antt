@@ -1,37 +1,46 @@
 -- What a run leaves in the lent buffers says what the run's state says: the printed text made of the buffers is the printed text of the run.
 use mathlib.Core.Path.{_≡_, refl, sym, ap, ap₂, _∙_}
-use mathlib.Core.Bool.{true, false≢true}
 use mathlib.Core.List.{List, [], _∷_, _++_, map, append-assoc}
 use mathlib.Core.Option.{none, some}
-use Prim.Native.Nat.{ℕ, zero, suc, _+_, _*_, _≤_}
+use Prim.Native.Nat.{ℕ, zero, suc, _+_, _-_, _*_, _≤_}
 use native.Mathlib.Numerals.{add-one}
 use native.Mathlib.Omega.{arith}
 use lib.IntN.{ℤ, pos}
-use lib.ListN.{length, take, drop, length-append, length-drop, length-map}
-use lib.Seq.{take-all, take-append-le, drop-append-le, take-at, drop-at}
+use lib.ListN.{length, take, drop, replicate, length-append, length-drop, length-map}
+use lib.Seq.{take-all, take-append-le, drop-append-le, drop-at}
 use Rattle.meaning.specs.declared.Outcome.{Outcome}
 use Rattle.meaning.specs.Limits.{maxRows, maxCells, maxHostChannels, maxCapacity}
 use Rattle.meaning.specs.Rows.{rowCount}
-use Rattle.meaning.specs.Basics.{isSome}
 use Rattle.meaning.specs.Declarations.{declarations, sumBelow, cellsAt, capacityAt, totalCells, hostChannels, channels}
 use Rattle.meaning.specs.Values.{Message}
 use Rattle.meaning.specs.State.{State}
-use Rattle.meaning.specs.Buffers.{Buffers, sized, mark, numberIn, decoded, capacities, strips, encode}
+use Rattle.meaning.specs.Buffers.{Buffers, sized, lent, mark, numberIn, decoded, capacities, strips, encode}
 use Rattle.meaning.specs.Printing.{Line, varWord, numbered, cellsOf, cellLines, outLines, stopLines, outcomeLine, endLines, printedLines}
 use Rattle.meaning.specs.Answers.{ran}
 use Rattle.meaning.specs.Runner.{printedResult}
-use Rattle.meaning.specs.PrintedForms.{Each, each-none, each-more}
-use Rattle.meaning.proofs.LentLaws.{sized-length, sized-is, lent-front, lent-whole}
+use Rattle.meaning.proofs.LentLaws.{sized-length, sized-front, sized-is, lent-front, lent-whole}
 use Rattle.write_lines.specs.Decoding.{outputsIn, tableRows, stateIn}
 use Rattle.write_lines.proofs.RowLines.{cellsBelow, cells-below-none, cells-below-all, cells-below-more, total, host-channels-below, capacities-below}
 
--- Cells -----------------------------------------------------------------------------------------------------------------------------
+-- Messages --------------------------------------------------------------------------------------------------------------------------
 
--- a cell comes back from its mark and its number, with whatever stands behind
+-- messages come back from their marks and numbers, with whatever stands behind
 cells-back : (cells : List Message) (ms : List ℕ) (zs : List ℤ) → decoded (map numberIn cells ++ zs) (map mark cells ++ ms) ≡ cells ++ decoded zs ms
 cells-back [] ms zs = refl
 cells-back (none ∷ cells) ms zs = ap {B = List Message} (λ l. none ∷ l) (cells-back cells ms zs)
 cells-back (some z ∷ cells) ms zs = ap {B = List Message} (λ l. some z ∷ l) (cells-back cells ms zs)
+
+-- messages come back from the fronts of two lent buffers, with some behind them
+abbrev messages-behind : ℕ → List Message → List Message
+messages-behind n xs = decoded (replicate (n - length (map numberIn xs)) (pos 0)) (replicate (n - length (map mark xs)) 0)
+
+messages-back : (n : ℕ) (xs : List Message) (oldNumbers : List ℤ) (oldMarks : List ℕ) → length xs ≤ n
+    → decoded (take n (lent n (pos 0) (map numberIn xs) oldNumbers)) (take n (lent n 0 (map mark xs) oldMarks)) ≡ xs ++ messages-behind n xs
+messages-back n xs oldNumbers oldMarks h =
+    ap₂ decoded
+    (lent-front (pos 0) n (map numberIn xs) oldNumbers ∙ sized-is (pos 0) n (map numberIn xs) (omega (arith, length-map xs numberIn)))
+    (lent-front 0 n (map mark xs) oldMarks ∙ sized-is 0 n (map mark xs) (omega (arith, length-map xs mark)))
+    ∙ cells-back xs _ _
 
 module _ (rows : List ℤ) (cells more : List Message) where
   -- a variable whose cells are there does not look behind them
@@ -58,52 +67,35 @@ module _ (rows : List ℤ) (cells more : List Message) where
 
 -- Output lists ----------------------------------------------------------------------------------------------------------------------
 
--- every message of a list is a number
-abbrev pub Numbers : List Message → Type 0
-Numbers xs = Each (λ m. isSome m ≡ true) xs
-
--- lists of numbers, each within its capacity
+-- lists within their capacities
 pub data Within : List ℕ → List (List Message) → Type 0 where
   within-none : Within [] []
-  within-more : {k : ℕ} {ks : List ℕ} {xs : List Message} {xss : List (List Message)} → length xs ≤ k → Numbers xs → Within ks xss → Within (k ∷ ks) (xs ∷ xss)
-
-numbers-back : (xs : List Message) → Numbers xs → map some (map numberIn xs) ≡ xs
-numbers-back [] each-none = refl
-numbers-back (none ∷ xs) (each-more p h) = absurd (false≢true p)
-numbers-back (some z ∷ xs) (each-more p h) = ap {B = List Message} (λ l. some z ∷ l) (numbers-back xs h)
+  within-more : {k : ℕ} {ks : List ℕ} {xs : List Message} {xss : List (List Message)} → length xs ≤ k → Within ks xss → Within (k ∷ ks) (xs ∷ xss)
 
 length-outputs : (ks : List ℕ) (xss : List (List Message)) → Within ks xss → length xss ≡ length ks
 length-outputs [] [] within-none = refl
-length-outputs (k ∷ ks) (xs ∷ xss) (within-more h n w) = ap suc (length-outputs ks xss w)
+length-outputs (k ∷ ks) (xs ∷ xss) (within-more h w) = ap suc (length-outputs ks xss w)
 
 length-strips : (f : ℕ → ℕ) (cs : List ℕ) (xss : List (List Message)) → Within (map f cs) xss → length (strips (map f cs) xss) ≡ total f cs
 unfolding strips total
 length-strips f [] [] within-none = refl
-length-strips f (c ∷ cs) (xs ∷ xss) (within-more h n w) =
-    length-append (sized (f c) (pos 0) (map numberIn xs)) (strips (map f cs) xss)
-    ∙ ap₂ (λ (i j : ℕ). i + j) (sized-length (pos 0) (f c) (map numberIn xs)) (length-strips f cs xss w)
+length-strips f (c ∷ cs) (xs ∷ xss) (within-more h w) =
+    length-append (sized (f c) none xs) (strips (map f cs) xss)
+    ∙ ap₂ (λ (i j : ℕ). i + j) (sized-length none (f c) xs) (length-strips f cs xss w)
 
--- a strip's numbers, with whatever stands behind the strip
-strip-back : (k : ℕ) (xs : List Message) (zs : List ℤ) → length xs ≤ k → Numbers xs → map some (take (length xs) (sized k (pos 0) (map numberIn xs) ++ zs)) ≡ xs
-strip-back k xs zs h n =
-    let e = length-map xs numberIn in
-    ap (map some) (
-    take-append-le (length xs) (sized k (pos 0) (map numberIn xs)) zs (omega (arith, sized-length (pos 0) k (map numberIn xs)))
-    ∙ ap (take (length xs)) (sized-is (pos 0) k (map numberIn xs) (omega (arith, e)))
-    ∙ take-at (map numberIn xs) _ (length xs) e
-    )
-    ∙ numbers-back xs n
-
-outputs-back : (ks : List ℕ) (xss : List (List Message)) (counts : List ℕ) (zs : List ℤ) → Within ks xss → outputsIn ks (map length xss ++ counts) (strips ks xss ++ zs) ≡ xss
+-- the lists come back from the strips, with whatever stands behind
+outputs-back : (ks : List ℕ) (xss : List (List Message)) (counts : List ℕ) (ys : List Message) → Within ks xss → outputsIn ks (map length xss ++ counts) (strips ks xss ++ ys) ≡ xss
 unfolding outputsIn strips
-outputs-back [] [] counts zs within-none = refl
-outputs-back (k ∷ ks) (xs ∷ xss) counts zs (within-more h n w) =
-    ap (λ (l : List ℤ). map some (take (length xs) l) ∷ outputsIn ks (map length xss ++ counts) (drop k l)) (append-assoc S (strips ks xss) zs)
-    ∙ ap₂ (λ (l : List Message) (m : List ℤ). l ∷ outputsIn ks (map length xss ++ counts) m) (strip-back k xs (strips ks xss ++ zs) h n) (drop-at S (strips ks xss ++ zs) k (sized-length (pos 0) k (map numberIn xs)))
-    ∙ ap {B = List (List Message)} (λ l. xs ∷ l) (outputs-back ks xss counts zs w)
+outputs-back [] [] counts ys within-none = refl
+outputs-back (k ∷ ks) (xs ∷ xss) counts ys (within-more h w) =
+    ap (λ (l : List Message). take (length xs) l ∷ outputsIn ks (map length xss ++ counts) (drop k l)) (append-assoc S (strips ks xss) ys)
+    ∙ ap₂ (λ (l m : List Message). l ∷ outputsIn ks (map length xss ++ counts) m)
+    (take-append-le (length xs) S (strips ks xss ++ ys) (omega (arith, sized-length none k xs)) ∙ sized-front none k xs h)
+    (drop-at S (strips ks xss ++ ys) k (sized-length none k xs))
+    ∙ ap {B = List (List Message)} (λ l. xs ∷ l) (outputs-back ks xss counts ys w)
   where
-    S : List ℤ
-    S = sized k (pos 0) (map numberIn xs)
+    S : List Message
+    S = sized k none xs
 
 -- The printed text --------------------------------------------------------------------------------------------------------------------------
 
@@ -122,30 +114,25 @@ module _ (rows : List ℤ) (s : State) (b : Buffers) (h : Held rows s) where
   abbrev said : State
   said =
       let e = encode rows s b in
-      stateIn rows (e .cells) (e .marks) (e .states) (e .numbers) (e .counts)
+      stateIn rows (e .cells) (e .marks) (e .states) (e .numbers) (e .counts) (e .outputMarks)
 
   cells-said : cellLines rows (said .store .cells) ≡ cellLines rows (s .store .cells)
   unfolding encode
   cells-said =
       let few : length (s .store .cells) ≤ maxCells = (let a = h .cells-all in let f = h .cells-few in omega arith) in
-      ap (cellLines rows) (
-      ap₂ decoded
-      (lent-front (pos 0) maxCells (map numberIn (s .store .cells)) (b .cells) ∙ sized-is (pos 0) maxCells (map numberIn (s .store .cells)) (omega (arith, length-map (s .store .cells) numberIn)))
-      (lent-front 0 maxCells (map mark (s .store .cells)) (b .marks) ∙ sized-is 0 maxCells (map mark (s .store .cells)) (omega (arith, length-map (s .store .cells) mark)))
-      ∙ cells-back (s .store .cells) _ _
-      )
+      ap (cellLines rows) (messages-back maxCells (s .store .cells) (b .cells) (b .marks) few)
       ∙ cell-lines-inside rows (s .store .cells) _ (h .cells-all)
 
-  -- as many output lists as output channels, as many numbers as capacities
+  -- as many output lists as output channels, as many messages as capacities
   lists-few : length (map length (s .store .outputs)) ≤ maxHostChannels
   unfolding channels hostChannels
   lists-few =
       let f = h .host-channels-few in
       omega (arith, length-map (s .store .outputs) length, length-outputs (capacities rows) (s .store .outputs) (h .outputs-within), length-map (channels rows 2) (capacityAt rows), host-channels-below rows (declarations rows))
 
-  numbers-few : length (strips (capacities rows) (s .store .outputs)) ≤ maxCapacity
+  messages-few : length (strips (capacities rows) (s .store .outputs)) ≤ maxCapacity
   unfolding channels
-  numbers-few =
+  messages-few =
       let f = h .capacity-few in
       omega (arith, length-strips (capacityAt rows) (channels rows 2) (s .store .outputs) (h .outputs-within), capacities-below rows (declarations rows))
 
@@ -154,7 +141,7 @@ module _ (rows : List ℤ) (s : State) (b : Buffers) (h : Held rows s) where
   outputs-said =
       ap₂ (outputsIn (capacities rows))
       (lent-front 0 maxHostChannels (map length (s .store .outputs)) (b .counts) ∙ sized-is 0 maxHostChannels (map length (s .store .outputs)) lists-few)
-      (lent-front (pos 0) maxCapacity (strips (capacities rows) (s .store .outputs)) (b .numbers) ∙ sized-is (pos 0) maxCapacity (strips (capacities rows) (s .store .outputs)) numbers-few)
+      (messages-back maxCapacity (strips (capacities rows) (s .store .outputs)) (b .numbers) (b .outputMarks) messages-few)
       ∙ outputs-back (capacities rows) (s .store .outputs) _ _ (h .outputs-within)
 
   states-said : said .states ≡ s .states
@@ -168,11 +155,11 @@ module _ (rows : List ℤ) (s : State) (b : Buffers) (h : Held rows s) where
       ap₂ (λ (l : List Line) (xss : List (List Message)). outcomeLine o n ∷ l ++ outLines (channels rows 2) xss ++ stopLines 0 (said .states)) cells-said outputs-said
       ∙ ap (λ (qs : List ℕ). outcomeLine o n ∷ cellLines rows (s .store .cells) ++ outLines (channels rows 2) (s .store .outputs) ++ stopLines 0 qs) states-said
 
-  -- what `run_page` is given by what a run leaves, it prints as the sheet runner's definition says
+  -- what `run_printed_text` is given by what a run leaves, it prints as the sheet runner's definition says
   pub printed-text-said : length rows ≤ 4 * maxRows → (o : Outcome) (n total : ℕ)
       → let e = encode rows s b in
-      printedLines (endLines (tableRows rows) o n (stateIn (tableRows rows) (e .cells) (e .marks) (e .states) (e .numbers) (e .counts))) ≡ printedResult rows (ran (record { outcome = o; steps = n; ready = total; state = s }))
+      printedLines (endLines (tableRows rows) o n (stateIn (tableRows rows) (e .cells) (e .marks) (e .states) (e .numbers) (e .counts) (e .outputMarks))) ≡ printedResult rows (ran (record { outcome = o; steps = n; ready = total; state = s }))
   printed-text-said few o n total =
       let e = encode rows s b in
-      ap (λ (t : List ℤ). printedLines (endLines t o n (stateIn t (e .cells) (e .marks) (e .states) (e .numbers) (e .counts)))) (take-all (4 * maxRows) rows few)
+      ap (λ (t : List ℤ). printedLines (endLines t o n (stateIn t (e .cells) (e .marks) (e .states) (e .numbers) (e .counts) (e .outputMarks)))) (take-all (4 * maxRows) rows few)
       ∙ ap printedLines (lines-said o n)

@@ -1,7 +1,7 @@
--- Lines after lines: of the elements of a list, of cells by their marks and numbers, and of stopped rows.
+-- Lines after lines: of the messages of a list, of messages by their marks and numbers, and of stopped rows.
 use mathlib.Core.Path.{_≡_, refl, sym, ap, ap₂, _∙_}
 use mathlib.Core.Bool.{Bool}
-use mathlib.Core.List.{List, [], _∷_, _++_, map, append-nil}
+use mathlib.Core.List.{List, [], _∷_, _++_, map, append-nil, flatten}
 use mathlib.Core.Option.{Option, none, some}
 use Prim.Native.Nat.{ℕ, zero, suc, _+_, _-_, _≤_, _<_}
 use native.Mathlib.Numerals.{add-one}
@@ -13,42 +13,44 @@ use lib.Dec.{leb}
 use Rattle.meaning.specs.Basics.{ifElse}
 use borrow.Author.Tests.{eq-eqb, ne-eqb, le-leb, lt-leb}
 use Rattle.meaning.specs.Printing.{Word, Line, line, numbered, stopWord, stopLines, wordBytes, valueBytes, lineBytes}
+use Rattle.meaning.specs.Values.{Message}
 use Rattle.meaning.specs.Buffers.{cellOf, decoded}
 use Rattle.base_numbers.specs.declared.Text.{Text}
 use Rattle.base_numbers.specs.Printing.{textOf}
 use Rattle.write_bytes.specs.Writing.{Writer, putAll, putLines, shown, lineOf}
-use Rattle.write_bytes.proofs.Writers.{shown-text, putLines-append, putLines-none, putLines-one}
+use Rattle.write_lines.specs.Decoding.{messageBytes}
+use Rattle.write_bytes.proofs.Writers.{shown-text, putAll-append, putLines-append, putLines-none, putLines-one}
 
 -- a line whose value is a text
 pub one-line : (w : Word) (r i : ℕ) (v : Option ℤ) {t : Text} → t ≡ textOf (valueBytes v) → (x : Writer) → putAll (lineOf (wordBytes w) r i (shown t)) x ≡ putLines (line w r i v ∷ []) x
 unfolding lineBytes
 one-line w r i v e x = ap (λ (l : List ℕ). putAll (lineOf (wordBytes w) r i l) x) (shown-text (valueBytes v) e) ∙ sym (putLines-one (line w r i v) x)
 
--- The elements of a list ----------------------------------------------------------------------------------------------------------
+-- The messages of a list ----------------------------------------------------------------------------------------------------------
 
-module _ (w : Word) (r : ℕ) (xs : List (Option ℤ)) (i : ℕ) (x : Writer) where
-  pub numbered-next : (v : Option ℤ) → drop i xs ≡ v ∷ drop (suc i) xs → putLines (numbered w r i (drop i xs)) x ≡ putLines (numbered w r (i + 1) (drop (i + 1) xs)) (putLines (line w r i v ∷ []) x)
-  unfolding numbered
-  numbered-next v e =
-      ap (λ (l : List (Option ℤ)). putLines (numbered w r i l) x) e
-      ∙ putLines-append (line w r i v ∷ []) (numbered w r (suc i) (drop (suc i) xs)) x
-      ∙ ap (λ (k : ℕ). putLines (numbered w r k (drop k xs)) (putLines (line w r i v ∷ []) x)) (sym (add-one i))
+module _ (word : List ℕ) (r : ℕ) (xs : List Message) (i : ℕ) (x : Writer) where
+  pub message-next : (v : Message) → drop i xs ≡ v ∷ drop (suc i) xs → putAll (messageBytes word r i (drop i xs)) x ≡ putAll (messageBytes word r (i + 1) (drop (i + 1) xs)) (putAll (lineOf word r i (valueBytes v)) x)
+  unfolding messageBytes
+  message-next v e =
+      ap (λ (l : List Message). putAll (messageBytes word r i l) x) e
+      ∙ putAll-append (lineOf word r i (valueBytes v)) (messageBytes word r (suc i) (drop (suc i) xs)) x
+      ∙ ap (λ (k : ℕ). putAll (messageBytes word r k (drop k xs)) (putAll (lineOf word r i (valueBytes v)) x)) (sym (add-one i))
 
-  pub numbered-done : drop i xs ≡ [] → putLines (numbered w r i (drop i xs)) x ≡ x
-  unfolding numbered
-  numbered-done e = ap (λ (l : List (Option ℤ)). putLines (numbered w r i l) x) e ∙ putLines-none x
+  pub messages-done : drop i xs ≡ [] → putAll (messageBytes word r i (drop i xs)) x ≡ x
+  unfolding messageBytes putAll
+  messages-done e = ap (λ (l : List Message). putAll (messageBytes word r i l) x) e
 
--- the numbers of a strip
-pub strip-next : (zs : List ℤ) (i : ℕ) → i < length zs → drop i (map some zs) ≡ some (getD zs i (pos 0)) ∷ drop (suc i) (map some zs)
-strip-next (z ∷ zs) zero h = refl
-strip-next (z ∷ zs) (suc i) h = strip-next zs i (omega arith)
+-- behind the bytes of a word they are its lines
+bytes-lines : (w : Word) (r i : ℕ) (xs : List Message) → messageBytes (wordBytes w) r i xs ≡ flatten (map lineBytes (numbered w r i xs))
+unfolding messageBytes numbered lineBytes flatten
+bytes-lines w r i [] = refl
+bytes-lines w r i (v ∷ xs) = ap {B = List ℕ} (λ l. lineOf (wordBytes w) r i (valueBytes v) ++ l) (bytes-lines w r (suc i) xs)
 
-pub strip-done : (zs : List ℤ) (i : ℕ) → length zs ≤ i → _≡_ {A = List (Option ℤ)} (drop i (map some zs)) []
-strip-done [] i h = drop-nil i
-strip-done (z ∷ zs) zero h = absurd (omega arith)
-strip-done (z ∷ zs) (suc i) h = strip-done zs i (omega arith)
+pub messages-lined : (w : Word) (r : ℕ) (xs : List Message) (x : Writer) → putAll (messageBytes (wordBytes w) r 0 xs) x ≡ putLines (numbered w r 0 xs) x
+unfolding putLines
+messages-lined w r xs x = ap (λ (l : List ℕ). putAll l x) (bytes-lines w r 0 xs)
 
--- Cells ---------------------------------------------------------------------------------------------------------------------------
+-- Messages by marks and numbers ---------------------------------------------------------------------------------------------------
 
 pub cell-unset : (m : ℕ) (z : ℤ) → m ≡ 0 → cellOf z m ≡ none
 cell-unset m z h = ap (λ (t : Bool). ifElse t none (some z)) (eq-eqb m 0 h)

@@ -33,10 +33,10 @@ pub take-short : {A : Type 0} (n : ℕ) (l : List A) → length (take n l) ≤ n
 take-short n l = omega (arith, length-take n l)
 
 -- the arrays that a run leaves, cut off at their limits
-pub run-made : (rows : List ℤ) (o : Outcome) (n : ℕ) (values : List ℤ) (marks states : List ℕ) (numbers : List ℤ) (counts old : List ℕ) {w : Writer}
-    {T cutValues cutNumbers : List ℤ} {cutMarks cutStates cutCounts : List ℕ}
-    → T ≡ take 4096 rows → cutValues ≡ take 256 values → cutMarks ≡ take 256 marks → cutStates ≡ take (length T / 4) states → cutNumbers ≡ take 1024 numbers → cutCounts ≡ take 8 counts
-    → w ≡ printedIn (printedLines (partLines T o n (decoded cutValues cutMarks) (outputsIn (capacities T) cutCounts cutNumbers) cutStates)) old
-    → w ≡ printedIn (printedLines (endLines (tableRows rows) o n (stateIn (tableRows rows) values marks states numbers counts))) old
+pub run-made : (rows : List ℤ) (o : Outcome) (n : ℕ) (values : List ℤ) (marks states : List ℕ) (numbers : List ℤ) (counts outputMarks old : List ℕ) {w : Writer}
+    {T cutValues cutNumbers : List ℤ} {cutMarks cutStates cutCounts cutOutputMarks : List ℕ}
+    → T ≡ take 4096 rows → cutValues ≡ take 256 values → cutMarks ≡ take 256 marks → cutStates ≡ take (length T / 4) states → cutNumbers ≡ take 1024 numbers → cutCounts ≡ take 8 counts → cutOutputMarks ≡ take 1024 outputMarks
+    → w ≡ printedIn (printedLines (partLines T o n (decoded cutValues cutMarks) (outputsIn (capacities T) cutCounts (decoded cutNumbers cutOutputMarks)) cutStates)) old
+    → w ≡ printedIn (printedLines (endLines (tableRows rows) o n (stateIn (tableRows rows) values marks states numbers counts outputMarks))) old
 unfolding endLines
-run-made rows o n values marks states numbers counts old t v m s z k e = rw (s, t, v, m, z, k) at e
+run-made rows o n values marks states numbers counts outputMarks old t v m s z k l e = rw (s, t, v, m, z, k, l) at e

@@ -2,7 +2,6 @@
 use mathlib.Core.Path.{_≡_, refl, sym, ap, ap₂, _∙_}
 use mathlib.Core.Bool.{Bool, true, false}
 use mathlib.Core.List.{List, [], _∷_, _++_, map, append-nil, append-assoc, flatten}
-use mathlib.Core.Option.{some}
 use Prim.Native.Nat.{ℕ, zero, suc, _+_, _≤_}
 use native.Mathlib.Numerals.{add-one}
 use native.Mathlib.Omega.{arith}
@@ -14,12 +13,12 @@ use Rattle.meaning.specs.Basics.{ifElse, allBelow}
 use Rattle.meaning.specs.Declarations.{declarations, sumBelow, isVariable, hasRole, cellsAt, hostChannelsAt, capacityAt, variables, channels}
 use Rattle.meaning.specs.Values.{Message}
 use Rattle.meaning.specs.Buffers.{decoded, capacities}
-use Rattle.meaning.specs.Printing.{Line, varWord, outWord, numbered, cellsOf, cellLines, outLines}
+use Rattle.meaning.specs.Printing.{Line, varWord, outWord, wordBytes, numbered, cellsOf, cellLines, outLines}
 use Rattle.base_rows.proofs.Leading.{declarations-at-most}
-use Rattle.write_bytes.specs.Writing.{Writer, putLines}
-use Rattle.write_lines.specs.Decoding.{outputsIn}
+use Rattle.write_bytes.specs.Writing.{Writer, putAll, putLines}
+use Rattle.write_lines.specs.Decoding.{messageBytes, outputsIn}
 use Rattle.write_bytes.proofs.Writers.{putLines-append}
-use Rattle.write_lines.proofs.LineSteps.{cells-part}
+use Rattle.write_lines.proofs.LineSteps.{cells-part, messages-lined}
 
 -- Variables -----------------------------------------------------------------------------------------------------------------------
 
@@ -74,19 +73,19 @@ total-append f [] ys = omega arith
 total-append f (x ∷ xs) ys = ap (λ (n : ℕ). f x + n) (total-append f xs ys) ∙ omega arith
 
 -- one channel more behind some
-outs-behind : (f : ℕ → ℕ) (cs : List ℕ) (c : ℕ) (counts : List ℕ) (zs : List ℤ)
-    → outLines (cs ++ (c ∷ [])) (outputsIn (map f (cs ++ (c ∷ []))) counts zs) ≡ outLines cs (outputsIn (map f cs) counts zs) ++ numbered outWord c 0 (map some (take (getD counts (length cs) 0) (drop (total f cs) zs)))
+outs-behind : (f : ℕ → ℕ) (cs : List ℕ) (c : ℕ) (counts : List ℕ) (xs : List Message)
+    → outLines (cs ++ (c ∷ [])) (outputsIn (map f (cs ++ (c ∷ []))) counts xs) ≡ outLines cs (outputsIn (map f cs) counts xs) ++ numbered outWord c 0 (take (getD counts (length cs) 0) (drop (total f cs) xs))
 unfolding outLines outputsIn numbered total
-outs-behind f [] c [] zs = refl
-outs-behind f [] c (n ∷ counts) zs = append-nil (numbered outWord c 0 (map some (take n zs)))
-outs-behind f (d ∷ cs) c [] zs = refl
-outs-behind f (d ∷ cs) c (n ∷ counts) zs =
-    ap {B = List Line} (λ l. first ++ l) (outs-behind f cs c counts (drop (f d) zs))
-    ∙ sym (append-assoc first (outLines cs (outputsIn (map f cs) counts (drop (f d) zs))) (numbered outWord c 0 (map some (take (getD counts (length cs) 0) (drop (total f cs) (drop (f d) zs))))))
-    ∙ ap (λ (l : List ℤ). (first ++ outLines cs (outputsIn (map f cs) counts (drop (f d) zs))) ++ numbered outWord c 0 (map some (take (getD counts (length cs) 0) l))) (drop-drop (total f cs) (f d) zs)
+outs-behind f [] c [] xs = refl
+outs-behind f [] c (n ∷ counts) xs = append-nil (numbered outWord c 0 (take n xs))
+outs-behind f (d ∷ cs) c [] xs = refl
+outs-behind f (d ∷ cs) c (n ∷ counts) xs =
+    ap {B = List Line} (λ l. first ++ l) (outs-behind f cs c counts (drop (f d) xs))
+    ∙ sym (append-assoc first (outLines cs (outputsIn (map f cs) counts (drop (f d) xs))) (numbered outWord c 0 (take (getD counts (length cs) 0) (drop (total f cs) (drop (f d) xs)))))
+    ∙ ap (λ (l : List Message). (first ++ outLines cs (outputsIn (map f cs) counts (drop (f d) xs))) ++ numbered outWord c 0 (take (getD counts (length cs) 0) l)) (drop-drop (total f cs) (f d) xs)
   where
     first : List Line
-    first = numbered outWord d 0 (map some (take n zs))
+    first = numbered outWord d 0 (take n xs)
 
 module _ (rows : List ℤ) where
   -- the output channels below row r
@@ -116,35 +115,35 @@ module _ (rows : List ℤ) where
       go true e = omega arith
       go false e = sym (no-capacity r e)
 
-  module _ (counts : List ℕ) (zs : List ℤ) where
+  module _ (counts : List ℕ) (xs : List Message) where
     -- the lines of the output channels below row r
     unfoldable pub outsBelow : ℕ → List Line
-    outsBelow r = outLines (sinks r) (outputsIn (map (capacityAt rows) (sinks r)) counts zs)
+    outsBelow r = outLines (sinks r) (outputsIn (map (capacityAt rows) (sinks r)) counts xs)
 
     pub outs-below-none : outsBelow 0 ≡ []
     unfolding outsBelow allBelow outLines
     outs-below-none = refl
 
-    pub outs-below-all : outsBelow (declarations rows) ≡ outLines (channels rows 2) (outputsIn (capacities rows) counts zs)
+    pub outs-below-all : outsBelow (declarations rows) ≡ outLines (channels rows 2) (outputsIn (capacities rows) counts xs)
     unfolding outsBelow channels
     outs-below-all = refl
 
-    -- the numbers that row r has in its strip
-    abbrev pub strip : ℕ → List ℤ
-    strip r = take (ifElse (hasRole 2 rows r) (getD counts (sumBelow (hostChannelsAt 2 rows) r) 0) 0) (drop (sumBelow (capacityAt rows) r) zs)
+    -- the messages that row r has in its strip
+    abbrev pub strip : ℕ → List Message
+    strip r = take (ifElse (hasRole 2 rows r) (getD counts (sumBelow (hostChannelsAt 2 rows) r) 0) 0) (drop (sumBelow (capacityAt rows) r) xs)
 
-    pub outs-below-more : (r : ℕ) → outsBelow (r + 1) ≡ outsBelow r ++ numbered outWord r 0 (map some (strip r))
+    pub outs-below-more : (r : ℕ) → outsBelow (r + 1) ≡ outsBelow r ++ numbered outWord r 0 (strip r)
     unfolding outsBelow allBelow numbered
     outs-below-more r = ap outsBelow (add-one r) ∙ go (hasRole 2 rows r)
       where
         go : (t : Bool)
-            → outLines (sinks r ++ ifElse t (r ∷ []) []) (outputsIn (map (capacityAt rows) (sinks r ++ ifElse t (r ∷ []) [])) counts zs)
-            ≡ outsBelow r ++ numbered outWord r 0 (map some (take (ifElse t (getD counts (sumBelow (hostChannelsAt 2 rows) r) 0) 0) (drop (sumBelow (capacityAt rows) r) zs)))
+            → outLines (sinks r ++ ifElse t (r ∷ []) []) (outputsIn (map (capacityAt rows) (sinks r ++ ifElse t (r ∷ []) [])) counts xs)
+            ≡ outsBelow r ++ numbered outWord r 0 (take (ifElse t (getD counts (sumBelow (hostChannelsAt 2 rows) r) 0) 0) (drop (sumBelow (capacityAt rows) r) xs))
         go true =
-            outs-behind (capacityAt rows) (sinks r) r counts zs
-            ∙ ap₂ (λ (m n : ℕ). outsBelow r ++ numbered outWord r 0 (map some (take (getD counts m 0) (drop n zs)))) (host-channels-below r) (capacities-below r)
+            outs-behind (capacityAt rows) (sinks r) r counts xs
+            ∙ ap₂ (λ (m n : ℕ). outsBelow r ++ numbered outWord r 0 (take (getD counts m 0) (drop n xs))) (host-channels-below r) (capacities-below r)
         go false =
-            ap (λ (cs : List ℕ). outLines cs (outputsIn (map (capacityAt rows) cs) counts zs)) (append-nil (sinks r))
+            ap (λ (cs : List ℕ). outLines cs (outputsIn (map (capacityAt rows) cs) counts xs)) (append-nil (sinks r))
             ∙ sym (append-nil (outsBelow r))
 
 -- What a loop over the rows has written ---------------------------------------------------------------------------------------------
@@ -160,24 +159,27 @@ part-short from size zs = omega (arith, length-take size (drop from zs), length-
 -- after the lines of the variables below row r, those of row r
 pub cells-step : (rows : List ℤ) (ms : List ℕ) (zs : List ℤ) (r first size : ℕ) (x : Writer) {v w : Writer} {ns : List ℕ} {ys : List ℤ}
     → first ≡ sumBelow (cellsAt rows) r → size ≡ cellsAt rows r → ns ≡ take size (drop first ms) → ys ≡ take size (drop first zs)
-    → v ≡ putLines (cellsBelow rows (decoded zs ms) r) x → w ≡ putLines (numbered varWord r 0 (decoded ys ns)) v → w ≡ putLines (cellsBelow rows (decoded zs ms) (r + 1)) x
+    → v ≡ putLines (cellsBelow rows (decoded zs ms) r) x → w ≡ putAll (messageBytes (wordBytes varWord) r 0 (decoded ys ns)) v → w ≡ putLines (cellsBelow rows (decoded zs ms) (r + 1)) x
 cells-step rows ms zs r first size x f s n y e d =
     d
+    ∙ messages-lined varWord r _ _
     ∙ ap₂ (λ (l : List Message) (u : Writer). putLines (numbered varWord r 0 l) u)
     (ap₂ decoded y n ∙ cells-part ms zs first size ∙ ap₂ (λ (m k : ℕ). take m (drop k (decoded zs ms))) s f)
     e
     ∙ sym (ap (λ (l : List Line). putLines l x) (cells-below-more rows (decoded zs ms) r) ∙ putLines-append (cellsBelow rows (decoded zs ms) r) _ x)
 
 -- after the lines of the output channels below row r, those of row r
-pub outs-step : (rows : List ℤ) (counts : List ℕ) (zs : List ℤ) (r first port given : ℕ) (x : Writer) {v w : Writer} {ys : List ℤ}
-    → first ≡ sumBelow (capacityAt rows) r → port ≡ sumBelow (hostChannelsAt 2 rows) r → given ≡ ifElse (hasRole 2 rows r) (getD counts port 0) 0 → ys ≡ take given (drop first zs)
-    → v ≡ putLines (outsBelow rows counts zs r) x → w ≡ putLines (numbered outWord r 0 (map some ys)) v → w ≡ putLines (outsBelow rows counts zs (r + 1)) x
-outs-step rows counts zs r first port given x f p g y e d =
+pub outs-step : (rows : List ℤ) (counts ms : List ℕ) (zs : List ℤ) (r first port given : ℕ) (x : Writer) {v w : Writer} {ns : List ℕ} {ys : List ℤ}
+    → first ≡ sumBelow (capacityAt rows) r → port ≡ sumBelow (hostChannelsAt 2 rows) r → given ≡ ifElse (hasRole 2 rows r) (getD counts port 0) 0
+    → ns ≡ take given (drop first ms) → ys ≡ take given (drop first zs)
+    → v ≡ putLines (outsBelow rows counts (decoded zs ms) r) x → w ≡ putAll (messageBytes (wordBytes outWord) r 0 (decoded ys ns)) v → w ≡ putLines (outsBelow rows counts (decoded zs ms) (r + 1)) x
+outs-step rows counts ms zs r first port given x f p g n y e d =
     d
-    ∙ ap₂ (λ (l : List ℤ) (u : Writer). putLines (numbered outWord r 0 (map some l)) u)
-    (y ∙ ap₂ (λ (m k : ℕ). take m (drop k zs)) (g ∙ ap (λ (k : ℕ). ifElse (hasRole 2 rows r) (getD counts k 0) 0) p) f)
+    ∙ messages-lined outWord r _ _
+    ∙ ap₂ (λ (l : List Message) (u : Writer). putLines (numbered outWord r 0 l) u)
+    (ap₂ decoded y n ∙ cells-part ms zs first given ∙ ap₂ (λ (m k : ℕ). take m (drop k (decoded zs ms))) (g ∙ ap (λ (k : ℕ). ifElse (hasRole 2 rows r) (getD counts k 0) 0) p) f)
     e
-    ∙ sym (ap (λ (l : List Line). putLines l x) (outs-below-more rows counts zs r) ∙ putLines-append (outsBelow rows counts zs r) _ x)
+    ∙ sym (ap (λ (l : List Line). putLines l x) (outs-below-more rows counts (decoded zs ms) r) ∙ putLines-append (outsBelow rows counts (decoded zs ms) r) _ x)
 
 -- one row more in a sum
 pub sum-more : (f : ℕ → ℕ) (r m n : ℕ) → m ≡ sumBelow f r → n ≡ f r → m + n ≡ sumBelow f (r + 1)

@@ -1,26 +1,24 @@
 // The lines of a printed text, at a place of a lent buffer: each function gives the place after its lines.
 ghost use mathlib.Core.Path.{_≡_};
-ghost use mathlib.Core.List.{[], _∷_, map};
-ghost use mathlib.Core.Option.{some};
+ghost use mathlib.Core.List.{[], _∷_};
 ghost use Prim.Native.Nat.{_*_, _≤_};
 ghost use lib.ListN.{length, getD};
 ghost use Rattle.meaning.specs.Basics.{ifElse};
 ghost use Rattle.meaning.specs.Limits.{maxRows, maxCells, maxCapacity};
 ghost use Rattle.meaning.specs.Declarations.{declarations, hasRole, channels};
 ghost use Rattle.meaning.specs.Buffers.{cellOf, decoded, capacities};
-ghost use Rattle.meaning.specs.Printing as printing;
-ghost use Rattle.meaning.specs.Printing.{varWord, line, numbered, cellLines, outLines, stopLines, outcomeLine, valueBytes};
+ghost use Rattle.meaning.specs.Printing.{cellLines, outLines, stopLines, outcomeLine, valueBytes};
 ghost use Rattle.base_numbers.specs.Printing.{textOf};
-ghost use Rattle.write_bytes.specs.Writing.{putLines};
-ghost use Rattle.write_lines.specs.Decoding.{outputsIn};
+ghost use Rattle.write_bytes.specs.Writing.{putAll, putLines};
+ghost use Rattle.write_lines.specs.Decoding.{messageBytes, outputsIn};
 use base_numbers::Text;
 use meaning::Outcome;
 use write_bytes::put_line;
 use write_bytes::slices;
 
-// A cell's number as text, nothing if the cell is unset.
-fn cell_text(mark: u8, value: i32) -> Text
-    ensures { λ t. ⌜ t ≡ textOf (valueBytes (cellOf value mark)) ⌝ }
+// A message's number as text, nothing for an absence.
+fn message_text(mark: u8, number: i32) -> Text
+    ensures { λ t. ⌜ t ≡ textOf (valueBytes (cellOf number mark)) ⌝ }
 {
     if mark == 0 {
         return Text {
@@ -28,35 +26,29 @@ fn cell_text(mark: u8, value: i32) -> Text
             length: 0,
         };
     }
-    base_numbers::printed(value)
+    base_numbers::printed(number)
 }
 
-// The line of a cell.
-fn put_cell(row: u32, position: u32, mark: u8, value: i32, out: &mut [u8], at: usize) -> usize
-    ensures { λ r. ⌜ (r, now (out .exit)) ≡ putLines (line varWord row position (cellOf value mark) ∷ []) (at, now (out .entry)) ⌝ }
-{
-    put_line(b"var", row, position, cell_text(mark, value), out, at)
-}
-
-// A line for each cell of the variable of a row.
-fn put_cells(row: u32, marks: &[u8], values: &[i32], out: &mut [u8], at: usize) -> usize
-    requires { ⌜ length (now values) ≤ maxCells ⌝ }
-    ensures { λ r. ⌜ (r, now (out .exit)) ≡ putLines (numbered varWord row 0 (decoded (now (values .entry)) (now (marks .entry)))) (at, now (out .entry)) ⌝ }
+// A line for each message of a row: of the cells of its variable, or of the host outputs of its channel.
+fn put_messages(
+    word: &[u8],
+    row: u32,
+    marks: &[u8],
+    numbers: &[i32],
+    out: &mut [u8],
+    at: usize,
+) -> usize
+    requires { ⌜ length (now numbers) ≤ maxCapacity ⌝ }
+    ensures { λ r. ⌜ (r, now (out .exit)) ≡ putAll (messageBytes (now (word .entry)) row 0 (decoded (now (numbers .entry)) (now (marks .entry)))) (at, now (out .entry)) ⌝ }
 {
     let mut place = at;
     let mut i: usize = 0;
-    while i < values.len() {
+    while i < numbers.len() {
         if marks.len() <= i {
             return place;
         }
-        place = put_cell(
-            row,
-            i as u32,
-            marks[i],
-            slices::number_at(values, i),
-            out,
-            place,
-        );
+        let text = message_text(marks[i], slices::number_at(numbers, i));
+        place = put_line(word, row, i as u32, text, out, place);
         i += 1;
     }
     place
@@ -74,7 +66,8 @@ pub fn put_variables(rows: &[i32], marks: &[u8], values: &[i32], out: &mut [u8],
     while r < count {
         let size = base_rows::cells_at(rows, count, r) as usize;
         let cells = slices::of_numbers(values, first, size);
-        place = put_cells(
+        place = put_messages(
+            b"var",
             r as u32,
             slices::of_bytes(marks, first, size),
             cells,
@@ -87,28 +80,7 @@ pub fn put_variables(rows: &[i32], marks: &[u8], values: &[i32], out: &mut [u8],
     place
 }
 
-// The line of a number that an output channel was given.
-fn put_output(row: u32, position: u32, value: i32, out: &mut [u8], at: usize) -> usize
-    ensures { λ r. ⌜ (r, now (out .exit)) ≡ putLines (line printing.outWord row position (some value) ∷ []) (at, now (out .entry)) ⌝ }
-{
-    put_line(b"out", row, position, base_numbers::printed(value), out, at)
-}
-
-// A line for each number that the output channel of a row was given.
-fn put_strip(row: u32, strip: &[i32], out: &mut [u8], at: usize) -> usize
-    requires { ⌜ length (now strip) ≤ maxCapacity ⌝ }
-    ensures { λ r. ⌜ (r, now (out .exit)) ≡ putLines (numbered printing.outWord row 0 (map some (now (strip .entry)))) (at, now (out .entry)) ⌝ }
-{
-    let mut place = at;
-    let mut i: usize = 0;
-    while i < strip.len() {
-        place = put_output(row, i as u32, slices::number_at(strip, i), out, place);
-        i += 1;
-    }
-    place
-}
-
-// How many numbers the strip of a row has: none unless the row is an output channel with a count.
+// How many messages the strip of a row has: none unless the row is an output channel with a count.
 fn strip_count(rows: &[i32], count: usize, r: usize, counts: &[u32], port: usize) -> usize
     requires { ⌜ count ≡ declarations (now rows) ⌝ }
     ensures { λ n. ⌜ n ≡ ifElse (hasRole 2 (now (rows .entry)) r) (getD (now (counts .entry)) port 0) 0 ⌝ }
@@ -121,16 +93,17 @@ fn strip_count(rows: &[i32], count: usize, r: usize, counts: &[u32], port: usize
     0
 }
 
-// A line for each number of each output channel.
+// A line for each message of each output channel.
 pub fn put_outputs(
     rows: &[i32],
     counts: &[u32],
     numbers: &[i32],
+    marks: &[u8],
     out: &mut [u8],
     at: usize,
 ) -> usize
     requires { ⌜ (length (now rows) ≤ 4 * maxRows) × (length (now numbers) ≤ maxCapacity) ⌝ }
-    ensures { λ r. ⌜ (r, now (out .exit)) ≡ putLines (outLines (channels (now (rows .entry)) 2) (outputsIn (capacities (now (rows .entry))) (now (counts .entry)) (now (numbers .entry)))) (at, now (out .entry)) ⌝ }
+    ensures { λ r. ⌜ (r, now (out .exit)) ≡ putLines (outLines (channels (now (rows .entry)) 2) (outputsIn (capacities (now (rows .entry))) (now (counts .entry)) (decoded (now (numbers .entry)) (now (marks .entry))))) (at, now (out .entry)) ⌝ }
 {
     let count = base_rows::declarations(rows);
     let mut place = at;
@@ -139,9 +112,12 @@ pub fn put_outputs(
     let mut r: usize = 0;
     while r < count {
         let given = strip_count(rows, count, r, counts, port);
-        place = put_strip(
+        let strip = slices::of_numbers(numbers, first, given);
+        place = put_messages(
+            b"out",
             r as u32,
-            slices::of_numbers(numbers, first, given),
+            slices::of_bytes(marks, first, given),
+            strip,
             out,
             place,
         );

@@ -35,15 +35,16 @@ fn put_run(
     states: &[u8],
     numbers: &[i32],
     counts: &[u32],
+    output_marks: &[u8],
     out: &mut [u8],
 ) -> usize
     requires { ⌜ (length (now rows) ≤ 4 * maxRows) × (length (now values) ≤ maxCells) × (length (now states) ≤ maxRows) × (length (now numbers) ≤ maxCapacity) ⌝ }
-    ensures { λ r. ⌜ (r, now (out .exit)) ≡ printedIn (printedLines (partLines (now (rows .entry)) outcome steps (decoded (now (values .entry)) (now (marks .entry))) (outputsIn (capacities (now (rows .entry))) (now (counts .entry)) (now (numbers .entry))) (now (states .entry)))) (now (out .entry)) ⌝ }
+    ensures { λ r. ⌜ (r, now (out .exit)) ≡ printedIn (printedLines (partLines (now (rows .entry)) outcome steps (decoded (now (values .entry)) (now (marks .entry))) (outputsIn (capacities (now (rows .entry))) (now (counts .entry)) (decoded (now (numbers .entry)) (now («output_marks» .entry)))) (now (states .entry)))) (now (out .entry)) ⌝ }
 {
     let mut place = write_bytes::put_bytes(b"what,name,at,value\n", out, 0);
     place = lines::put_answer(outcome, steps, out, place);
     place = lines::put_variables(rows, marks, values, out, place);
-    place = lines::put_outputs(rows, counts, numbers, out, place);
+    place = lines::put_outputs(rows, counts, numbers, output_marks, out, place);
     lines::put_stops(states, out, place)
 }
 
@@ -57,9 +58,10 @@ pub fn run_printed_text(
     states: &[u8],
     numbers: &[i32],
     counts: &[u32],
+    output_marks: &[u8],
     out: &mut [u8],
 ) -> usize
-    ensures { λ r. ⌜ (r, now (out .exit)) ≡ printedIn (printedLines (endLines (tableRows (now (rows .entry))) outcome steps (stateIn (tableRows (now (rows .entry))) (now (values .entry)) (now (marks .entry)) (now (states .entry)) (now (numbers .entry)) (now (counts .entry))))) (now (out .entry)) ⌝ }
+    ensures { λ r. ⌜ (r, now (out .exit)) ≡ printedIn (printedLines (endLines (tableRows (now (rows .entry))) outcome steps (stateIn (tableRows (now (rows .entry))) (now (values .entry)) (now (marks .entry)) (now (states .entry)) (now (numbers .entry)) (now (counts .entry)) (now («output_marks» .entry))))) (now (out .entry)) ⌝ }
 {
     let table = slices::of_numbers(rows, 0, 4096);
     put_run(
@@ -71,6 +73,7 @@ pub fn run_printed_text(
         slices::of_bytes(states, 0, table.len() / 4),
         slices::of_numbers(numbers, 0, 1024),
         slices::of_counts(counts, 0, 8),
+        slices::of_bytes(output_marks, 0, 1024),
         out,
     )
 }

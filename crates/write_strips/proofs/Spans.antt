@@ -1,4 +1,4 @@
--- The strip of an output channel found by one pass over the declarations, and that strip in output numbers of any length.
+-- The strip of an output channel found by one pass over the declarations, and that strip in a list of any length.
 use mathlib.Core.Path.{_≡_, refl, sym, ap, _∙_}
 use mathlib.Core.Bool.{Bool, true, false, _&&_, false≢true}
 use mathlib.Core.List.{List, []}
@@ -17,7 +17,7 @@ use Rattle.meaning.specs.Buffers.{capacities}
 use Rattle.machine.specs.Held.{sumOf, stripStart}
 use Rattle.machine.proofs.Declared.{capacities-length, capacities-sum, capacity-at, strip-start}
 use Rattle.write_strips.specs.declared.Span.{Span}
-use Rattle.write_strips.specs.Spans.{spanOf}
+use Rattle.write_strips.specs.Spans.{spanOf, heldSpan}
 
 -- a row has one output channel, or none
 pub one-port : (rows : List ℤ) (r : ℕ) → hostChannelsAt 2 rows r ≤ 1
@@ -84,23 +84,44 @@ module _ (rows : List ℤ) (channel limit : ℕ) where
       let held : 0 ≡ min (getD (capacities rows) channel 0) limit = omega (arith, List·getD-eq-default (capacities rows) 0 {n = channel} few) in
       λ i. record { start = from i; size = held i }
 
--- a part of a list, from a start and of a size that are cut to its length
-pub part-cut : (l : List ℤ) (s k : ℕ) → let start = min s (length l) in take (min (start + min k (length l)) (length l) - start) (drop start l) ≡ take k (drop s l)
-part-cut l s k = go (decLt (length l) s)
-  where
-    nothing : (n : ℕ) → take {A = ℤ} n [] ≡ []
-    nothing n = take-all n [] (omega arith)
+-- cut at the limit, it is the part within
+pub held-within : (rows : List ℤ) (channel limit : ℕ) (s : Span) (end : ℕ) → s ≡ spanOf rows channel limit → end ≡ min (s .start + s .size) limit
+    → _≡_ {A = Span} (record { start = s .start; size = end - s .start }) (heldSpan rows channel limit)
+unfolding spanOf heldSpan
+held-within rows channel limit s end e d =
+    let from : s .start ≡ min (stripStart rows channel) limit = ap (λ (t : Span). t .start) e in
+    let most : s .size ≡ min (getD (capacities rows) channel 0) limit = ap (λ (t : Span). t .size) e in
+    let held : end - s .start ≡ min (getD (capacities rows) channel 0) (limit - min (stripStart rows channel) limit) = omega arith in
+    λ i. record { start = from i; size = held i }
 
-    inside : s ≤ length l → Dec (length l - s < k) → take (min (s + min k (length l)) (length l) - s) (drop s l) ≡ take k (drop s l)
-    inside h (yes g) =
-        let e : min (s + min k (length l)) (length l) - s ≡ length l - s = omega arith in
-        rw e (take-all (length l - s) (drop s l) (omega (arith, length-drop s l)) ∙ sym (take-all k (drop s l) (omega (arith, length-drop s l))))
-    inside h (no g) = let e : min (s + min k (length l)) (length l) - s ≡ k = omega arith in rw e
+module _ {A : Type 0} (l : List A) where
+  -- a part that ends where the list does
+  part-to-end : (s k : ℕ) → take (min k (length l - s)) (drop s l) ≡ take k (drop s l)
+  part-to-end s k = go (decLt (length l - s) k)
+    where
+      go : Dec (length l - s < k) → take (min k (length l - s)) (drop s l) ≡ take k (drop s l)
+      go (yes h) = take-all (min k (length l - s)) (drop s l) (omega (arith, length-drop s l)) ∙ sym (take-all k (drop s l) (omega (arith, length-drop s l)))
+      go (no h) = let e : min k (length l - s) ≡ k = omega arith in rw e
 
-    go : Dec (length l < s) → let start = min s (length l) in take (min (start + min k (length l)) (length l) - start) (drop start l) ≡ take k (drop s l)
-    go (yes h) =
-        let e : min s (length l) ≡ length l = omega arith in
-        let a : length l ≤ s = omega arith in
-        let b : length l ≤ length l = omega arith in
-        rw (e, drop-of-length-le l {i = length l} b, drop-of-length-le l {i = s} a) (nothing (min (length l + min k (length l)) (length l) - length l) ∙ sym (nothing k))
-    go (no h) = let e : min s (length l) ≡ s = omega arith in rw e (inside (omega arith) (decLt (length l - s) k))
+  -- a start past the list's end is as good as its end
+  drop-cut : (s : ℕ) → drop (min s (length l)) l ≡ drop s l
+  drop-cut s = go (decLt (length l) s)
+    where
+      go : Dec (length l < s) → drop (min s (length l)) l ≡ drop s l
+      go (yes h) =
+          let a : length l ≤ min s (length l) = omega arith in
+          let b : length l ≤ s = omega arith in
+          drop-of-length-le l {i = min s (length l)} a ∙ sym (drop-of-length-le l {i = s} b)
+      go (no h) = let e : min s (length l) ≡ s = omega arith in rw e
+
+  -- the part of a list within its length is the strip in it
+  pub part-held : (rows : List ℤ) (channel : ℕ) (s : Span) → s ≡ heldSpan rows channel (length l)
+      → (s .start + s .size ≤ length l) × (take (s .start + s .size - s .start) (drop (s .start) l) ≡ take (getD (capacities rows) channel 0) (drop (stripStart rows channel) l))
+  unfolding heldSpan
+  part-held rows channel s e =
+      let from : s .start ≡ min (stripStart rows channel) (length l) = ap (λ (t : Span). t .start) e in
+      let most : s .size ≡ min (getD (capacities rows) channel 0) (length l - min (stripStart rows channel) (length l)) = ap (λ (t : Span). t .size) e in
+      let size : s .start + s .size - s .start ≡ min (getD (capacities rows) channel 0) (length l - s .start) = omega arith in (
+        omega arith,
+        rw size (part-to-end (s .start) (getD (capacities rows) channel 0)) ∙ ap (λ (n : ℕ). take (getD (capacities rows) channel 0) (drop n l)) from ∙ ap (take (getD (capacities rows) channel 0)) (drop-cut (stripStart rows channel)),
+      )

@@ -1,4 +1,4 @@
-// The strip of an output channel: its part of the lent output numbers.
+// The strip of an output channel: its part of the lent output numbers, and of their marks.
 ghost use mathlib.Core.Path.{_≡_};
 ghost use mathlib.Core.Bool.{_&&_};
 ghost use Prim.Native.Nat.{_+_, _≤_, min};
@@ -6,7 +6,7 @@ ghost use lib.ListN.{getD, take, drop};
 ghost use lib.Dec.{eqb};
 ghost use Rattle.meaning.specs.Buffers.{capacities};
 ghost use Rattle.machine.specs.Held.{stripStart};
-ghost use Rattle.write_strips.specs.Spans.{spanOf};
+ghost use Rattle.write_strips.specs.Spans.{spanOf, heldSpan};
 
 // Where a strip begins, and its capacity.
 pub struct Span {
@@ -63,13 +63,37 @@ pub fn span_of(rows: &[i32], channel: usize, limit: usize) -> Span
     Span { start, size: 0 }
 }
 
+// The part of a strip that a list of so many holds: its begin and its size.
+fn held_span(rows: &[i32], channel: usize, limit: usize) -> Span
+    ensures { λ s. ⌜ s ≡ heldSpan (now (rows .entry)) channel limit ⌝ }
+{
+    let span = span_of(rows, channel, limit);
+    let start = span.start;
+    let end = sum_at_most(start, span.size, limit);
+    Span {
+        start,
+        size: end - start,
+    }
+}
+
 // The strip of an output channel, as a part of the lent output numbers: as much of it as they hold.
 pub fn strip<'a>(rows: &'a [i32], numbers: &'a [i32], channel: usize) -> &'a [i32]
     ensures { λ s. ⌜ now s ≡ take (getD (capacities (now (rows .entry))) channel 0) (drop (stripStart (now (rows .entry)) channel) (now (numbers .entry))) ⌝ }
 {
     let limit = numbers.len();
-    let span = span_of(rows, channel, limit);
-    let start = span.start;
-    let end = sum_at_most(start, span.size, limit);
+    let held = held_span(rows, channel, limit);
+    let start = held.start;
+    let end = start + held.size;
     &numbers[start..end]
+}
+
+// The marks of that strip, as a part of the lent output marks.
+pub fn strip_marks<'a>(rows: &'a [i32], output_marks: &'a [u8], channel: usize) -> &'a [u8]
+    ensures { λ s. ⌜ now s ≡ take (getD (capacities (now (rows .entry))) channel 0) (drop (stripStart (now (rows .entry)) channel) (now («output_marks» .entry))) ⌝ }
+{
+    let limit = output_marks.len();
+    let held = held_span(rows, channel, limit);
+    let start = held.start;
+    let end = start + held.size;
+    &output_marks[start..end]
 }

@@ -34,6 +34,9 @@ slice-aggregate-run-printed-text-3 c = search needs
 slice-aggregate-run-printed-text-4 : tie.Need-slice-aggregate-run-printed-text-4
 slice-aggregate-run-printed-text-4 c = search needs
 
+slice-aggregate-run-printed-text-5 : tie.Need-slice-aggregate-run-printed-text-5
+slice-aggregate-run-printed-text-5 c = search needs
+
 run-printed-text-requires : tie.Need-run-printed-text-requires
 run-printed-text-requires c κs = search needs
 
@@ -52,10 +55,10 @@ same-length-2 c = search needs
 
 returns-2 : tie.Need-returns-2
 returns-2 c =
-    let a = c .before .before .before .before .before .before .before .before .before .before .before .before .before .before .before .before .before .before .before .before .before .args in
-    let done = c .before .before .before .before .before .before .before .before .before .before .before .before .before .before .before .before .before .before .task-done in
-    let g = c .before .before .before .before .before .before .before .before .before .before .before .before .before .before .before .before .answer2 .given in
-    let states = c .before .before .before .before .before .before .row-states in
+    let a = c .before .before .before .before .before .before .before .before .before .before .before .before .before .before .before .before .before .before .before .before .before .before .before .args in
+    let done = c .before .before .before .before .before .before .before .before .before .before .before .before .before .before .before .before .before .before .before .before .task-done in
+    let g = c .before .before .before .before .before .before .before .before .before .before .before .before .before .before .before .before .before .before .answer2 .given in
+    let states = c .before .before .before .before .before .before .before .row-states in
     run-done (a .rows .now) (a .sheet .now) (done .result) (done .ensures) (a .out .now) (g .0 .0) (g .0 .1 .0) (g .0 .1 .1 .0) (g .1) _ (states .ensures .0) (states .ensures .1) _ (c .before .before .run-printed-text .ensures)
 
 pub rows-printed-text-spec : {M : Type 1} → statement M
@@ -72,6 +75,7 @@ rows-printed-text-spec =
     row-states-requires
     slice-aggregate-run-printed-text-3
     slice-aggregate-run-printed-text-4
+    slice-aggregate-run-printed-text-5
     run-printed-text-requires
     same-length
     returns

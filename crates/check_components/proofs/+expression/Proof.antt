@@ -89,7 +89,7 @@ expression-same-length-2 t c = search needs
 expression-returns-3 : (t : ℕ) → expression-lts.Need-returns-3 (expression-claims t) (expression-at t) expression.Post
 expression-returns-3 t c =
     let s = c .before .before .before .before .before .before .before .before .before .before in
-    one-call _ _ (c .before .before .expression2 .ensures) (monadic-marks (s .args .rows .now) (s .args .e) (c .before .before .before .before .before .before .before .if1 .left) (sym (c .before .before .before .before .before .before .natural .ensures) ∙ c .before .before .before .before .before .match .keys2) (c .before .before .before .before .operand2 .ensures))
+    one-call _ _ (c .before .before .expression2 .ensures) (monadic-marks (s .args .rows .now) (s .args .e) (c .before .before .before .before .before .before .before .if1 .left) (s .pre .1 .given) (sym (c .before .before .before .before .before .before .natural .ensures) ∙ c .before .before .before .before .before .match .keys2) (c .before .before .before .before .operand2 .ensures))
 
 expression-same-length-3 : (t : ℕ) → expression-lts.Need-same-length-3 (expression-claims t) (expression-at t) expression.Post
 expression-same-length-3 t c = search needs

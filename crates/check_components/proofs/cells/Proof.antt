@@ -26,7 +26,7 @@ same-length c = search needs
 returns : tie.Need-returns
 returns c =
     let s = c .before .before .before .before .before .before .before .before .before in
-    let v = variable-named (s .args .rows .now) (s .args .names .now) (s .pre .2) (s .args .r) (c .before .before .before .before .before .before .natural .ensures) (c .before .before .before .before .before .variable-at .ensures) in
+    let v = variable-named (s .args .rows .now) (s .args .names .now) (s .pre .2 .named) (s .args .r) (c .before .before .before .before .before .before .natural .ensures) (c .before .before .before .before .before .variable-at .ensures) in
     one-call _ _ (c .before .before .count .ensures) (ap (inSort (s .args .sort)) (cells-are (s .args .rows .now) (s .args .r) (v .0) (v .1) (c .before .before .before .before .operand .ensures)))
 
 pub cells-spec : {M : Type 1} → statement M

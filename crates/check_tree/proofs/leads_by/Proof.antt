@@ -31,7 +31,7 @@ b-leads c =
 
 returns : tie.Need-returns
 unfolding meantShape
-returns c = λ k. simp (eq-eqb _ 9 (c .if1 .taken))
+returns c = λ k. simp (eq-eqb _ 10 (c .if1 .taken))
 
 field-requires : tie.Need-field-requires
 field-requires c κs = search needs
@@ -65,7 +65,7 @@ unfolding meantShape
 returns-2 c = λ k.
     let h = c .before .before .before .before .before .before .before .before in
     let s = h .before .before .before .before .before in
-    simp (ne-eqb (s .args .s .a) 9 (h .before .before .before .if1 .left), sym (a-leads h) ∙ c .before .before .before .before .before .before .before .if2 .taken, sym (b-leads (c .before .before .before .before)) ∙ c .before .before .before .if3 .taken)
+    simp (ne-eqb (s .args .s .a) 10 (h .before .before .before .if1 .left), sym (a-leads h) ∙ c .before .before .before .before .before .before .before .if2 .taken, sym (b-leads (c .before .before .before .before)) ∙ c .before .before .before .if3 .taken)
     (c .all-right3 .ensures
     ∙ c .before .reference-of3 .ensures .0
     ∙ ap (leads (s .args .rows .now) (s .args .r) (fieldMeant (s .args .s .c))) (toZ-ofZ w32 (c .before .before .field3 .result) (record { sfits = c .before .before .field3 .ok }) ∙ c .before .before .field3 .ensures))
@@ -74,11 +74,11 @@ returns-3 : tie.Need-returns-3
 unfolding meantShape
 returns-3 c = λ k.
     let h = c .before .before .before .before .before in
-    simp (ne-eqb (h .before .before .before .before .before .args .s .a) 9 (h .before .before .before .if1 .left), sym (a-leads h) ∙ c .before .before .before .before .if2 .taken, sym (b-leads (c .before)) ∙ c .if3 .left)
+    simp (ne-eqb (h .before .before .before .before .before .args .s .a) 10 (h .before .before .before .if1 .left), sym (a-leads h) ∙ c .before .before .before .before .if2 .taken, sym (b-leads (c .before)) ∙ c .if3 .left)
 
 returns-4 : tie.Need-returns-4
 unfolding meantShape
-returns-4 c = λ k. simp (ne-eqb (c .before .before .before .before .before .before .args .s .a) 9 (c .before .before .before .before .if1 .left), sym (a-leads (c .before)) ∙ c .if2 .left)
+returns-4 c = λ k. simp (ne-eqb (c .before .before .before .before .before .before .args .s .a) 10 (c .before .before .before .before .if1 .left), sym (a-leads (c .before)) ∙ c .if2 .left)
 
 pub leads-by-spec : {M : Type 1} → statement M
 leads-by-spec =

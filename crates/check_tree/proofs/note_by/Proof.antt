@@ -1,5 +1,5 @@
 -- Field by field: a right reference is counted, and no other. Assumes nothing.
-use mathlib.Core.Path.{_≡_, refl, sym, ap, _∙_}
+use mathlib.Core.Path.{_≡_, ap, _∙_}
 use mathlib.Core.List.{List}
 use Prim.Native.Nat.{ℕ}
 use borrow.Author.Tests.{eq-eqb, ne-eqb}
@@ -71,7 +71,7 @@ returns c = λ k.
     let h = g .before .before .before .before .before .before in
     let s = h .before .before .before .before .before .before .before in
     let z = toZ-ofZ w32 (q .before .before .field3 .result) (record { sfits = q .before .before .field3 .ok }) ∙ q .before .before .field3 .ensures in
-    simp (ne-eqb (s .args .s .a) 9 (h .before .before .before .before .if1 .taken))
+    simp (ne-eqb (s .args .s .a) 10 (h .before .before .before .before .if1 .taken))
     (q .note3 .ensures
     ∙ ap (oneMoreFor (g .note2 .last .0)) (q .before .reference-of3 .ensures .1 ∙ ap (target (s .args .rows .now) (s .args .r) (fieldMeant (s .args .s .c))) z)
     ∙ ap (λ (l : List ℕ). oneMoreFor l (target (s .args .rows .now) (s .args .r) (fieldMeant (s .args .s .c)) (fieldAt (s .args .rows .now) (s .args .r) 3))) (after-b g ∙ ap (λ (l : List ℕ). oneMoreFor l (target (s .args .rows .now) (s .args .r) (fieldMeant (s .args .s .b)) (fieldAt (s .args .rows .now) (s .args .r) 2))) (after-a h))
@@ -79,7 +79,7 @@ returns c = λ k.
 
 returns-2 : tie.Need-returns-2
 unfolding meantShape oneMoreFor
-returns-2 c = λ k. simp (eq-eqb (c .before .before .before .args .s .a) 9 (c .if1 .left))
+returns-2 c = λ k. simp (eq-eqb (c .before .before .before .args .s .a) 10 (c .if1 .left))
 
 pub note-by-spec : {M : Type 1} → statement M
 note-by-spec =

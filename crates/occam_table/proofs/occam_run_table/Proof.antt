@@ -12,7 +12,7 @@ run-table-requires : tie.Need-run-table-requires
 run-table-requires c κs = search needs
 
 answer-number-requires : tie.Need-answer-number-requires
-answer-number-requires c κs = subst (λ (r : Reply). PossibleAnswer (r .answer)) (sym (c .before .before .before .before .before .before .before .before .before .before .run-table .ensures)) (calls-possible .1 _ _ _ _ _)
+answer-number-requires c κs = subst (λ (r : Reply). PossibleAnswer (r .answer)) (sym (c .before .before .before .before .before .before .before .before .before .before .before .before .run-table .ensures)) (calls-possible .1 _ _ _ _ _)
 
 same-length : tie.Need-same-length
 same-length c = search needs
@@ -32,8 +32,11 @@ same-length-5 c = search needs
 same-length-6 : tie.Need-same-length-6
 same-length-6 c = search needs
 
+same-length-7 : tie.Need-same-length-7
+same-length-7 c = search needs
+
 returns : tie.Need-returns
-returns c = packed-reply (c .answer-number .result) _ _ (c .answer-number .ensures) (c .before .before .before .before .before .before .before .before .before .before .before .run-table .ensures)
+returns c = packed-reply (c .answer-number .result) _ _ (c .answer-number .ensures) (c .before .before .before .before .before .before .before .before .before .before .before .before .before .run-table .ensures)
 
 pub occam-run-table-spec : {M : Type 1} → statement M
 occam-run-table-spec =
@@ -47,4 +50,5 @@ occam-run-table-spec =
     same-length-4
     same-length-5
     same-length-6
+    same-length-7
     returns)

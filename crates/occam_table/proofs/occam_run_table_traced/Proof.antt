@@ -12,7 +12,7 @@ run-table-traced-requires : tie.Need-run-table-traced-requires
 run-table-traced-requires c κs = search needs
 
 answer-number-requires : tie.Need-answer-number-requires
-answer-number-requires c κs = subst (λ (r : TracedReply). PossibleAnswer (r .reply .answer)) (sym (c .before .before .before .before .before .before .before .before .before .before .before .before .before .before .run-table-traced .ensures)) (traced-possible .1 _ _ _ _ _ _)
+answer-number-requires c κs = subst (λ (r : TracedReply). PossibleAnswer (r .reply .answer)) (sym (c .before .before .before .before .before .before .before .before .before .before .before .before .before .before .before .before .run-table-traced .ensures)) (traced-possible .1 _ _ _ _ _ _)
 
 same-length : tie.Need-same-length
 same-length c = search needs
@@ -38,8 +38,11 @@ same-length-7 c = search needs
 same-length-8 : tie.Need-same-length-8
 same-length-8 c = search needs
 
+same-length-9 : tie.Need-same-length-9
+same-length-9 c = search needs
+
 returns : tie.Need-returns
-returns c = packed-traced (c .answer-number .result) _ _ (c .answer-number .ensures) (c .before .before .before .before .before .before .before .before .before .before .before .before .before .before .before .run-table-traced .ensures)
+returns c = packed-traced (c .answer-number .result) _ _ (c .answer-number .ensures) (c .before .before .before .before .before .before .before .before .before .before .before .before .before .before .before .before .before .run-table-traced .ensures)
 
 pub occam-run-table-traced-spec : {M : Type 1} → statement M
 occam-run-table-traced-spec =
@@ -55,4 +58,5 @@ occam-run-table-traced-spec =
     same-length-6
     same-length-7
     same-length-8
+    same-length-9
     returns)

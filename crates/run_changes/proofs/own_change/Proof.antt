@@ -82,6 +82,9 @@ place-requires-2 c κs =
 cast-strip : tie.Need-cast-strip
 cast-strip c = search needs
 
+cast-t28 : tie.Need-cast-t28
+cast-t28 c = search needs
+
 becomes-requires-6 : tie.Need-becomes-requires-6
 becomes-requires-6 c κs = search needs
 
@@ -135,7 +138,7 @@ returns-6 c =
     let args = start .args in
     let x = at .before .before .handed .result in
     let f : SFits w32 x = search needs in
-    own-made (args .acts .now) (args .sent .now) (args .elements .now) (args .j) _ (stripAt (args .code .now) (args .j)) 6 (at .match .keys6) (rw (← at .before .before .before .before .act .ensures, ← at .before .before .handed .ensures, ← c .before .before .place .ensures, ← c .before .place2 .ensures) (rw (toZ-ofZ w32 x f) at (c .becomes6 .ensures)))
+    own-made (args .acts .now) (args .sent .now) (args .elements .now) (args .j) _ (stripAt (args .code .now) (args .j)) 6 (at .match .keys6) (rw (← at .before .before .before .before .act .ensures, ← at .before .before .before .act2 .ensures, ← at .before .before .handed .ensures, ← c .before .before .place .ensures, ← c .before .place2 .ensures) (rw (toZ-ofZ w32 x f) at (c .becomes6 .ensures)))
 
 returns-7 : tie.Need-returns-7
 returns-7 c =
@@ -178,6 +181,7 @@ own-change-spec =
     cast-d
     place-requires-2
     cast-strip
+    cast-t28
     becomes-requires-6
     communicates-requires
     becomes-requires-7

@@ -14,11 +14,11 @@ index-requires c κs = (c .pre .0, (c .pre .1 .0, omega (arith, c .pre .1 .1)))
 place-requires : tie.Need-place-requires
 place-requires c κs = search needs
 
-cast-eval : tie.Need-cast-eval
-cast-eval c = search needs
+cast-passed : tie.Need-cast-passed
+cast-passed c = search needs
 
-eval-requires : tie.Need-eval-requires
-eval-requires c κs =
+passed-requires : tie.Need-passed-requires
+passed-requires c κs =
     let s = c .before .before in
     (s .pre .0, rw (c .place .ensures) (third-inside (s .pre .0 .1) (s .args .r) (s .pre .1 .0) (omega (arith, s .pre .1 .1))))
 
@@ -46,7 +46,7 @@ sent-requires c κs =
 returns : tie.Need-returns
 returns c =
     let s = c .before .before .before .before .before .before .before in
-    λ rows p. output-found p (cellsIn (s .args .values .now) (s .args .marks .now)) (s .args .r) (s .pre .1 .0) (s .args .counts .now) (s .pre .1 .1) (c .before .before .before .before .before .before .index .ensures rows p) (c .before .before .before .before .before .place .ensures) (c .before .before .before .before .eval .ensures rows p) (c .before .before .before .place2 .ensures) (c .before .before .place3 .ensures) (c .before .place4 .ensures) (c .sent .ensures)
+    λ rows p. output-found p (cellsIn (s .args .values .now) (s .args .marks .now)) (s .args .r) (s .pre .1 .0) (s .args .counts .now) (s .pre .1 .1) (c .before .before .before .before .before .before .index .ensures rows p) (c .before .before .before .before .before .place .ensures) (c .before .before .before .before .passed .ensures rows p) (c .before .before .before .place2 .ensures) (c .before .before .place3 .ensures) (c .before .place4 .ensures) (c .sent .ensures)
 
 pub output-does-spec : {M : Type 1} → statement M
 output-does-spec =
@@ -54,8 +54,8 @@ output-does-spec =
     (tie.spec
     index-requires
     place-requires
-    cast-eval
-    eval-requires
+    cast-passed
+    passed-requires
     place-requires-2
     cast-d
     place-requires-3

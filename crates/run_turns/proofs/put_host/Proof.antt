@@ -53,7 +53,7 @@ enum-known-d-2 c = search needs
 
 put-output-requires : tie.Need-put-output-requires
 put-output-requires c κs =
-    let at-d = c .before .before .before in
+    let at-d = c .before .before .before .before in
     let start = at-d .before .before in
     let f = subst (λ (d : Data). HostFits d (start .args .places .now) (start .args .counts .now)) (at-d .d2 .given .1) (start .pre) in
     f
@@ -69,9 +69,9 @@ returns-3 c = rw (c .before .before .d .given .1, add-one)
 
 returns-4 : tie.Need-returns-4
 returns-4 c =
-    let x = c .before .before .before .before .d2 .given in
+    let x = c .before .before .before .before .before .d2 .given in
     let f : SFits w32 (x .0 .1 .1 .0) = search needs in
-    rw (x .1, c .put-output .ensures .0, c .put-output .ensures .1, toZ-ofZ w32 (x .0 .1 .1 .0) f)
+    rw (x .1, c .put-output .ensures .0, c .put-output .ensures .1 .0, c .put-output .ensures .1 .1, toZ-ofZ w32 (x .0 .1 .1 .0) f)
 
 pub put-host-spec : {M : Type 1} → statement M
 put-host-spec =

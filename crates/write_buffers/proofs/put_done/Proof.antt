@@ -18,7 +18,7 @@ put-host-channels-requires c κs = search needs
 
 returns : tie.Need-returns
 returns c =
-    let a = c .before .before .before .before .before .before .before .args in
+    let a = c .before .before .before .before .before .before .before .before .args in
     let g = c .before .answer .given in
     put-refused (a .d) _ (g .0 .0) (g .0 .1 .0) (g .1)
 
@@ -40,13 +40,16 @@ same-length-5 c = search needs
 same-length-6 : tie.Need-same-length-6
 same-length-6 c = search needs
 
+same-length-7 : tie.Need-same-length-7
+same-length-7 c = search needs
+
 returns-2 : tie.Need-returns-2
 returns-2 c =
-    let a = c .before .before .before .before .before .before .before .before .before .before .before .before .before .before .before .before .before .before .before .before .before .before .before .before .before .args in
-    let g = c .before .before .before .before .before .before .before .before .before .before .before .before .before .before .before .before .before .before .before .answer2 .given in
-    let first = c .before .before .before .before .before .before .before .before .before .before .before .before .before .before .put-cells .ensures in
-    let rest = c .before .before .before .before .before .put-host-channels .ensures in
-    put-ran (a .d) _ (g .0 .0) (g .0 .1 .0) (g .0 .1 .1 .0) _ (g .1) (λ i. record { cells = first .0 i; marks = first .1 i; states = first .2 i; places = rest .0 i; numbers = rest .1 i; counts = rest .2 i })
+    let a = c .before .before .before .before .before .before .before .before .before .before .before .before .before .before .before .before .before .before .before .before .before .before .before .before .before .before .before .before .before .args in
+    let g = c .before .before .before .before .before .before .before .before .before .before .before .before .before .before .before .before .before .before .before .before .before .before .answer2 .given in
+    let first = c .before .before .before .before .before .before .before .before .before .before .before .before .before .before .before .before .before .put-cells .ensures in
+    let rest = c .before .before .before .before .before .before .before .put-host-channels .ensures in
+    put-ran (a .d) _ (g .0 .0) (g .0 .1 .0) (g .0 .1 .1 .0) _ (g .1) (λ i. record { cells = first .0 i; marks = first .1 i; states = first .2 i; places = rest .0 i; numbers = rest .1 i; counts = rest .2 i; outputMarks = rest .3 i })
 
 pub put-done-spec : {M : Type 1} → statement M
 put-done-spec =
@@ -63,4 +66,5 @@ put-done-spec =
     same-length-4
     same-length-5
     same-length-6
+    same-length-7
     returns-2)

@@ -26,7 +26,11 @@ returns-5 c = simp (le-ltb _ 256 (c .before .before .before .before .if1 .left),
 
 returns-6 : tie.Need-returns-6
 unfolding anyShort
-returns-6 c = simp (le-ltb _ 256 (c .before .before .before .before .if1 .left), le-ltb _ 256 (c .before .before .before .if2 .left), le-ltb _ 1024 (c .before .before .if3 .left), le-ltb _ 8 (c .before .if4 .left), le-ltb _ 1024 (c .if5 .left))
+returns-6 c = simp (le-ltb _ 256 (c .before .before .before .before .before .if1 .left), le-ltb _ 256 (c .before .before .before .before .if2 .left), le-ltb _ 1024 (c .before .before .before .if3 .left), le-ltb _ 8 (c .before .before .if4 .left), le-ltb _ 1024 (c .before .if5 .left), lt-ltb _ 8 (c .if6 .taken))
+
+returns-7 : tie.Need-returns-7
+unfolding anyShort
+returns-7 c = simp (le-ltb _ 256 (c .before .before .before .before .before .if1 .left), le-ltb _ 256 (c .before .before .before .before .if2 .left), le-ltb _ 1024 (c .before .before .before .if3 .left), le-ltb _ 8 (c .before .before .if4 .left), le-ltb _ 1024 (c .before .if5 .left), le-ltb _ 8 (c .if6 .left))
 
 pub too-short-spec : {M : Type 1} → statement M
-too-short-spec = tie.close (tie.spec returns returns-2 returns-3 returns-4 returns-5 returns-6)
+too-short-spec = tie.close (tie.spec returns returns-2 returns-3 returns-4 returns-5 returns-6 returns-7)

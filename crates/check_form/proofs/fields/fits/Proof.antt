@@ -29,7 +29,7 @@ b-holds c =
 
 returns : tie.Need-returns
 unfolding meantShape
-returns c = λ k. simp (eq-eqb _ 9 (c .if1 .taken))
+returns c = λ k. simp (eq-eqb _ 10 (c .if1 .taken))
 
 field-requires : tie.Need-field-requires
 field-requires c κs = search needs
@@ -54,18 +54,18 @@ unfolding meantShape
 returns-2 c = λ k.
     let s = c .before .before .before .before .before .before .before .before .before .before in
     let h = c .before .before .before .before .before .before in
-    simp (ne-eqb (s .args .s .a) 9 (h .before .before .if1 .left), sym (a-holds h) ∙ c .before .before .before .before .before .if2 .taken, sym (b-holds (c .before .before .before)) ∙ c .before .before .if3 .taken)
+    simp (ne-eqb (s .args .s .a) 10 (h .before .before .if1 .left), sym (a-holds h) ∙ c .before .before .before .before .before .if2 .taken, sym (b-holds (c .before .before .before)) ∙ c .before .before .if3 .taken)
     (c .holds3 .ensures ∙ ap (mayHold (s .args .rows .now) (s .args .d) (s .args .r) (fieldMeant (s .args .s .c))) (toZ-ofZ w32 (c .before .field3 .result) (record { sfits = c .before .field3 .ok }) ∙ c .before .field3 .ensures))
 
 returns-3 : tie.Need-returns-3
 unfolding meantShape
 returns-3 c = λ k.
     let h = c .before .before .before .before in
-    simp (ne-eqb (h .before .before .before .before .args .s .a) 9 (h .before .before .if1 .left), sym (a-holds h) ∙ c .before .before .before .if2 .taken, sym (b-holds (c .before)) ∙ c .if3 .left)
+    simp (ne-eqb (h .before .before .before .before .args .s .a) 10 (h .before .before .if1 .left), sym (a-holds h) ∙ c .before .before .before .if2 .taken, sym (b-holds (c .before)) ∙ c .if3 .left)
 
 returns-4 : tie.Need-returns-4
 unfolding meantShape
-returns-4 c = λ k. simp (ne-eqb (c .before .before .before .before .before .args .s .a) 9 (c .before .before .before .if1 .left), sym (a-holds (c .before)) ∙ c .if2 .left)
+returns-4 c = λ k. simp (ne-eqb (c .before .before .before .before .before .args .s .a) 10 (c .before .before .before .if1 .left), sym (a-holds (c .before)) ∙ c .if2 .left)
 
 pub fits-spec : {M : Type 1} → statement M
 fits-spec =

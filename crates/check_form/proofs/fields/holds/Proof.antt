@@ -1,10 +1,9 @@
 -- Arm by arm, by the sort of the entry. Assumes nothing.
-use mathlib.Core.Path.{_≡_, ap, _∙_}
+use mathlib.Core.Path.{_≡_, _∙_}
 use Prim.Native.Nat.{_/_, _%_, _<_}
-use lib.IntN.{ℤ, pos}
 use mir.Syntax.{w32}
 use mir.ValLaws.{toZ-ofZ, toZ-pos}
-use Rattle.meaning.specs.Basics.{eqZ, inside}
+use Rattle.meaning.specs.Basics.{inside}
 use Rattle.meaning.specs.Verdict.{mayHold}
 use Rattle.base_kinds.specs.Table.{fieldMeant}
 use Rattle.base_kinds.proofs.Sorts.{other-sort}
@@ -40,6 +39,12 @@ names-variable-requires c κs = search needs
 
 names-channel-requires : tie.Need-names-channel-requires
 names-channel-requires c κs = search needs
+
+field-requires-3 : tie.Need-field-requires-3
+field-requires-3 c κs = search needs
+
+is-operator-requires : tie.Need-is-operator-requires
+is-operator-requires c κs = search needs
 
 same-requires : tie.Need-same-requires
 same-requires c κs = search needs
@@ -86,10 +91,17 @@ unfolding mayHold fieldMeant
 returns-8 c = rw (c .match .keys8)
 
 returns-9 : tie.Need-returns-9
-unfolding mayHold
+unfolding mayHold fieldMeant
 returns-9 c =
+    let s = c .before .before .before in
+    let operand = toZ-ofZ w32 (c .before .field3 .result) (record { sfits = c .before .field3 .ok }) ∙ c .before .field3 .ensures in
+    rw (c .before .before .match .keys9) (rw (operand, toZ-ofZ w32 (s .args .z) (s .fits .z)) at (c .is-operator .ensures))
+
+returns-10 : tie.Need-returns-10
+unfolding mayHold
+returns-10 c =
     let no = c .before .match .rest in
-    rw (other-sort (c .before .before .args .entry) (no .0 .0 .0 .0 .0 .0 .0 .1) (no .0 .0 .0 .0 .0 .0 .1) (no .0 .0 .0 .0 .0 .1) (no .0 .0 .0 .0 .1) (no .0 .0 .0 .1) (no .0 .0 .1) (no .0 .1) (no .1))
+    rw (other-sort (c .before .before .args .entry) (no .0 .0 .0 .0 .0 .0 .0 .0 .1) (no .0 .0 .0 .0 .0 .0 .0 .1) (no .0 .0 .0 .0 .0 .0 .1) (no .0 .0 .0 .0 .0 .1) (no .0 .0 .0 .0 .1) (no .0 .0 .0 .1) (no .0 .0 .1) (no .0 .1) (no .1))
     (rw (toZ-ofZ w32 (c .before .before .args .z) (c .before .before .fits .z)) at (c .same .ensures))
 
 pub holds-spec : {M : Type 1} → statement M
@@ -105,6 +117,8 @@ holds-spec =
     by-role-requires-2
     names-variable-requires
     names-channel-requires
+    field-requires-3
+    is-operator-requires
     same-requires
     returns
     returns-2
@@ -114,4 +128,5 @@ holds-spec =
     returns-6
     returns-7
     returns-8
-    returns-9)
+    returns-9
+    returns-10)

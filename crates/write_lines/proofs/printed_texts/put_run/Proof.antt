@@ -31,10 +31,10 @@ same-length c = search needs
 
 returns : tie.Need-returns
 returns c =
-    let a = c .before .before .before .before .before .before .before .before .before .before .before .before .before .before .before .before .before .before .before .before .before .before .before .before .before .args in
+    let a = c .before .before .before .before .before .before .before .before .before .before .before .before .before .before .before .before .before .before .before .before .before .before .before .before .before .before .args in
     printed-text-made (outcomeLine (a .outcome) (a .steps))
     (cellLines (a .rows .now) (decoded (a .values .now) (a .marks .now)))
-    (outLines (channels (a .rows .now) 2) (outputsIn (capacities (a .rows .now)) (a .counts .now) (a .numbers .now)))
+    (outLines (channels (a .rows .now) 2) (outputsIn (capacities (a .rows .now)) (a .counts .now) (decoded (a .numbers .now) (a .output-marks .now))))
     (stopLines 0 (a .states .now))
     (a .out .now)
     (c .before .before .before .before .before .before .before .before .before .before .before .before .before .before .before .before .before .before .put-bytes .ensures)
