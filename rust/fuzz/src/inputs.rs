@@ -26,7 +26,10 @@ fn base(seed: u64) -> Parts {
         6 => Some(Aim::Mutated),
         _ => None,
     };
-    let large = matches!(aim, Some(Aim::Shape | Aim::Refusal(3))) || seed.is_multiple_of(7);
+    let large = match seed % 16 {
+        0 | 3 | 4 => true,
+        _ => seed.is_multiple_of(7),
+    };
     generate(seed, !large, aim).parts()
 }
 
@@ -55,13 +58,13 @@ fn version(random: &mut Random, number: u64, base: &Parts) -> Given {
 }
 
 /// Buffer lengths: mostly longer than the limits, at times one shorter or none at all.
-fn some_lengths(random: &mut Random) -> [usize; 6] {
+fn some_lengths(random: &mut Random) -> [usize; 7] {
     let mut lengths = BUFFER_LENGTHS;
     for length in &mut lengths {
         *length += random.below(3);
     }
     if random.below(12) == 0 {
-        let short = random.below(6);
+        let short = random.below(lengths.len());
         lengths[short] = match random.below(3) {
             0 => 0,
             _ => BUFFER_LENGTHS[short] - 1,

@@ -4,7 +4,7 @@ use crate::same;
 use occam_table::Lent;
 use reference::Answer;
 
-/// Six buffers to lend.
+/// Seven buffers to lend.
 pub struct Lending {
     cells: Vec<i32>,
     marks: Vec<u8>,
@@ -12,11 +12,12 @@ pub struct Lending {
     places: Vec<u32>,
     numbers: Vec<i32>,
     counts: Vec<u32>,
+    output_marks: Vec<u8>,
 }
 
 impl Lending {
     /// Buffers of these lengths.
-    pub fn new(lengths: [usize; 6]) -> Lending {
+    pub fn new(lengths: [usize; 7]) -> Lending {
         Lending {
             cells: vec![-77_777; lengths[0]],
             marks: vec![77; lengths[1]],
@@ -24,10 +25,11 @@ impl Lending {
             places: vec![77_777; lengths[3]],
             numbers: vec![-77_777; lengths[4]],
             counts: vec![77_777; lengths[5]],
+            output_marks: vec![77; lengths[6]],
         }
     }
 
-    /// Lends all six.
+    /// Lends all seven.
     pub fn lend(&mut self) -> Lent<'_> {
         Lent {
             cells: &mut self.cells,
@@ -36,6 +38,7 @@ impl Lending {
             places: &mut self.places,
             numbers: &mut self.numbers,
             counts: &mut self.counts,
+            output_marks: &mut self.output_marks,
         }
     }
 
@@ -49,6 +52,7 @@ impl Lending {
             self.places.len(),
             self.numbers.len(),
             self.counts.len(),
+            self.output_marks.len(),
         ];
         let wanted = Lending::new(lengths).after(answer);
         same_numbers(what, "cells", &self.cells, &wanted.cells)?;
@@ -56,7 +60,9 @@ impl Lending {
         same_numbers(what, "states", &self.states, &wanted.states)?;
         same_numbers(what, "places", &self.places, &wanted.places)?;
         same_numbers(what, "numbers", &self.numbers, &wanted.numbers)?;
-        same_numbers(what, "counts", &self.counts, &wanted.counts)
+        same_numbers(what, "counts", &self.counts, &wanted.counts)?;
+        let (marks, wanted) = (&self.output_marks, &wanted.output_marks);
+        same_numbers(what, "output marks", marks, wanted)
     }
 
     /// The same buffers after an answer of the separate program.
@@ -68,6 +74,7 @@ impl Lending {
             self.places[..8].copy_from_slice(&ran.places);
             self.numbers[..1_024].copy_from_slice(&ran.numbers);
             self.counts[..8].copy_from_slice(&ran.counts);
+            self.output_marks[..1_024].copy_from_slice(&ran.output_marks);
         }
         self
     }

@@ -7,7 +7,7 @@ pub mod random;
 mod traces;
 
 use lending::Lending;
-use occam_table::{calls, Buffers, Machine, RowState, Run};
+use occam_table::{calls, strip, Buffers, Machine, RowState, Run, Strip};
 use packed::{packed_answer, packed_answer_at, packed_verdict};
 use reference::table::rows_of_bytes;
 use reference::{answer_bytes, answer_rows, check_bytes, check_rows, traced_bytes};
@@ -21,8 +21,8 @@ pub struct Given {
     pub sheet: Vec<u8>,
     pub choices: Vec<u16>,
     pub budget: u32,
-    /// The lengths of the six lent buffers.
-    pub lengths: [usize; 6],
+    /// The lengths of the seven lent buffers.
+    pub lengths: [usize; 7],
     /// Rows lent as numbers instead of those that the table has.
     pub numbers: Option<Vec<i32>>,
 }
@@ -52,6 +52,7 @@ pub fn compare(given: &Given, machine: &mut Machine) -> Result<Answer, String> {
     )?;
     let answer = compare_bytes(given)?;
     let rows = compare_rows_read(given)?;
+    compare_strips(&rows, &answer)?;
     compare_numbers(given, given.numbers.as_ref().unwrap_or(&rows))?;
     compare_binding(given, machine)?;
     Ok(answer)
@@ -153,6 +154,21 @@ fn compare_rows_read(given: &Given) -> Result<Vec<i32>, String> {
     Ok(numbers)
 }
 
+/// Compares where the strips of a run lie.
+fn compare_strips(rows: &[i32], answer: &Answer) -> Result<(), String> {
+    let Answer::Ran(ran) = answer else {
+        return Ok(());
+    };
+    for (channel, part) in ran.layout.strips.iter().enumerate() {
+        let wanted = Strip {
+            begin: part.first,
+            capacity: part.length,
+        };
+        same("strip", strip(rows, channel), wanted)?;
+    }
+    Ok(())
+}
+
 /// Compares the binding's view of a run, and that a refusal changes nothing in its buffers.
 fn compare_binding(given: &Given, machine: &mut Machine) -> Result<(), String> {
     let Given {
@@ -196,8 +212,16 @@ fn compare_run(run: &Run, ran: &Ran) -> Result<(), String> {
     same("states", &states[..], &ran.states[..ran.row_count])?;
     let channels = ran.layout.readings.len();
     same("places", run.places(), &ran.places[..channels])?;
+    same("lists", run.lists().collect(), lists_of(ran))
+}
+
+/// What was written on each channel to the host, by the separate program: none for an absence.
+fn lists_of(ran: &Ran) -> Vec<Vec<Option<i32>>> {
+    let message = |at: usize| (ran.output_marks[at] == 1).then_some(ran.numbers[at]);
     let strips = ran.layout.strips.iter().zip(ran.counts);
-    let lists = strips.map(|(strip, count)| &ran.numbers[strip.first..][..count as usize]);
-    let lists: Vec<&[i32]> = lists.collect();
-    same("lists", run.lists().collect(), lists)
+    let lists = strips.map(|(strip, count)| {
+        let written = strip.first..strip.first + count as usize;
+        written.map(message).collect()
+    });
+    lists.collect()
 }

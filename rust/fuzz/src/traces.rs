@@ -48,10 +48,10 @@ fn numbers_of(table: &[u8]) -> Vec<i32> {
     each.collect()
 }
 
-/// Compares one traced call: its answer, the six buffers and the two lists.
+/// Compares one traced call: its answer, the seven buffers and the two lists.
 fn compare_call(
     what: &str,
-    lengths: [usize; 6],
+    lengths: [usize; 7],
     lists: [usize; 2],
     wanted: &Traced,
     call: impl FnOnce(&mut Lending, LentTrace) -> u64,

@@ -10,8 +10,8 @@ use occam_table::{calls, Buffers, Machine, STACK};
 use std::process::{Command, Stdio};
 use std::thread;
 use tables::{
-    bytes, deep_alts, deep_expression, deep_ifs, deep_loops, deep_pars_in_a_loop, deep_subscript,
-    deep_sum, largest, nested, readings, wide_in_a_loop,
+    absences_everywhere, bytes, deep_alts, deep_expression, deep_given, deep_ifs, deep_loops,
+    deep_pars_in_a_loop, deep_subscript, deep_sum, largest, nested, readings, wide_in_a_loop,
 };
 
 /// The stack of a call in KiB, for the tests; `OCCAM_STACK` asks for another one.
@@ -49,6 +49,7 @@ fn answered(rows: Vec<[i32; 4]>, sheet: &[u8], budget: u32) -> u64 {
 /// The lower 40 bits of an answer: a refusal, or outcome and steps.
 const OUTCOME_AND_STEPS: u64 = (1 << 40) - 1;
 const ENDED: u64 = 256;
+const STUCK: u64 = 2 * 256;
 const BROKEN: u64 = 3 * 256;
 const SPENT: u64 = 4 * 256;
 
@@ -90,6 +91,19 @@ fn a_deep_sum_to_the_left() {
 #[test]
 fn a_deep_subscript() {
     assert_eq!(answered(deep_subscript(), b"\n", 65_536), BROKEN + 65_536);
+}
+
+#[test]
+fn a_deep_given() {
+    assert_eq!(answered(deep_given(), b"\n", 65_536), ENDED + 65_536);
+}
+
+#[test]
+fn absences_fill_every_strip() {
+    // Of each loop 257 tests and 256 writes; then its output waits.
+    let steps = 4 * (257 + 256);
+    let stuck = answered(absences_everywhere(), b"\n", 65_536);
+    assert_eq!(stuck, STUCK + steps * 65_536);
 }
 
 #[test]

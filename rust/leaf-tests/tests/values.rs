@@ -5,7 +5,7 @@ mod common;
 use common::Random;
 use leaf_tests::NOTHING;
 use reference::generate::{generate, Aim};
-use reference::kinds::EXPRESSION;
+use reference::kinds::{EXPRESSION, GIVEN, MONADIC};
 use reference::limits::{check_limits, CELLS};
 use reference::program::Program;
 use reference::table::{rows_of_bytes, Row};
@@ -31,6 +31,11 @@ fn some_cells(random: &mut Random) -> Vec<Option<i32>> {
     (0..CELLS).map(cell).collect()
 }
 
+/// Whether a row is GIVEN of an element.
+fn is_given(row: &Row) -> bool {
+    row.kind == MONADIC && row.a == GIVEN
+}
+
 /// What the leaf tells of a row: the answer, and what is left of the number lent.
 fn told(rows: &[i32], cells: &[Option<i32>], row: usize) -> (u32, i32) {
     let values: Vec<i32> = cells.iter().map(|cell| cell.unwrap_or(-1)).collect();
@@ -44,6 +49,7 @@ fn told(rows: &[i32], cells: &[Option<i32>], row: usize) -> (u32, i32) {
 fn values_agree() {
     let mut random = Random(8);
     let mut answers = [0; 5];
+    let mut given = [0; 2];
     for seed in 0..TABLES {
         let aim = match seed % 50 {
             0 => Aim::Shape,
@@ -68,12 +74,16 @@ fn values_agree() {
                 let told = told(&rows, &cells, row);
                 assert_eq!(told, expected, "{seed}, row {row}: {rows:?} {cells:?}");
                 answers[told.0 as usize] += 1;
+                if is_given(&program.rows[row]) && told.0 == 0 {
+                    given[told.1 as usize] += 1;
+                }
             }
         }
     }
     println!("values, and reasons 1 to 4: {answers:?}");
     assert!(answers.iter().sum::<usize>() > 100_000);
     assert!(answers.iter().all(|&count| count > 50), "{answers:?}");
+    assert!(given.iter().all(|&count| count > 200), "{given:?}");
 }
 
 #[test]

@@ -1,4 +1,4 @@
-//! The six buffers that a run leaves its state in, and the two lists of a traced run.
+//! The seven buffers that a run leaves its state in, and the two lists of a traced run.
 
 /// Most rows of a table.
 pub const ROWS: usize = 1_024;
@@ -15,14 +15,14 @@ pub const BUDGET: u32 = 65_536;
 /// budget allows.
 pub const TRACE: usize = BUDGET as usize;
 
-/// Six lent buffers. Each has to be at least as long as its limit; a shorter one is refusal 1.
+/// Seven lent buffers. Each has to be at least as long as its limit; a shorter one is refusal 1.
 ///
 /// ```
 /// use occam_table::{calls, Buffers};
 ///
 /// let mut buffers = Buffers::default();
 /// let mut lent = buffers.lend();
-/// lent.counts = &mut lent.counts[..7];
+/// lent.output_marks = &mut lent.output_marks[..1_023];
 /// let answer = calls::run_rows(&[21, 0, 0, 0], b"\n", &[], 0, lent);
 /// assert_eq!(answer, 1, "refusal 1 at place 0");
 /// ```
@@ -35,10 +35,13 @@ pub struct Lent<'b> {
     pub states: &'b mut [u8],
     /// Each role 1 channel's place in the readings: 8.
     pub places: &'b mut [u32],
-    /// The strips of the role 2 channels, each following the one before it: 1,024.
+    /// The strips of the role 2 channels, each following the one before it, 0 for an absence:
+    /// 1,024.
     pub numbers: &'b mut [i32],
     /// How long each role 2 channel's list is: 8.
     pub counts: &'b mut [u32],
+    /// Beside each number of the strips its set mark, 1 a value, 0 an absence or unused: 1,024.
+    pub output_marks: &'b mut [u8],
 }
 
 /// Two further lists, lent to a traced run. Each has to be at least [`TRACE`] long; a shorter one is
@@ -61,7 +64,7 @@ pub struct LentTrace<'b> {
     pub taken: &'b mut [u16],
 }
 
-/// Six buffers, each exactly as long as its limit.
+/// Seven buffers, each exactly as long as its limit.
 #[derive(Clone, Debug, PartialEq, Eq)]
 pub struct Buffers {
     /// Each cell's value, 0 if it is unset.
@@ -72,10 +75,12 @@ pub struct Buffers {
     pub states: [u8; ROWS],
     /// Each role 1 channel's place in the readings.
     pub places: [u32; HOST_CHANNELS],
-    /// The strips of the role 2 channels, each following the one before it.
+    /// The strips of the role 2 channels, each following the one before it; 0 for an absence.
     pub numbers: [i32; CAPACITIES],
     /// How long each role 2 channel's list is.
     pub counts: [u32; HOST_CHANNELS],
+    /// Beside each number of the strips its set mark: 1 a value, 0 an absence or unused.
+    pub output_marks: [u8; CAPACITIES],
 }
 
 impl Default for Buffers {
@@ -87,12 +92,13 @@ impl Default for Buffers {
             places: [0; HOST_CHANNELS],
             numbers: [0; CAPACITIES],
             counts: [0; HOST_CHANNELS],
+            output_marks: [0; CAPACITIES],
         }
     }
 }
 
 impl Buffers {
-    /// Lends all six.
+    /// Lends all seven.
     pub fn lend(&mut self) -> Lent<'_> {
         Lent {
             cells: &mut self.cells,
@@ -101,6 +107,7 @@ impl Buffers {
             places: &mut self.places,
             numbers: &mut self.numbers,
             counts: &mut self.counts,
+            output_marks: &mut self.output_marks,
         }
     }
 }

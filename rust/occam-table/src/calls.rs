@@ -10,101 +10,44 @@
 use crate::buffers::{Lent, LentTrace};
 
 mod exported {
+    /// Declares an exported run: a table or rows, the sheet, the choices and the budget, the seven
+    /// lent buffers, then the further lists of a traced one.
+    macro_rules! declare_run {
+        ($name:ident($table:ty $(, $list:ty)*)) => {
+            pub fn $name(
+                table: *const $table,
+                table_length: usize,
+                sheet: *const u8,
+                sheet_length: usize,
+                choices: *const u16,
+                choices_length: usize,
+                budget: u32,
+                cells: *mut i32,
+                cells_length: usize,
+                marks: *mut u8,
+                marks_length: usize,
+                states: *mut u8,
+                states_length: usize,
+                places: *mut u32,
+                places_length: usize,
+                numbers: *mut i32,
+                numbers_length: usize,
+                counts: *mut u32,
+                counts_length: usize,
+                output_marks: *mut u8,
+                output_marks_length: usize,
+                $(_: *mut $list, _: usize,)*
+            ) -> u64;
+        };
+    }
+
     extern "C" {
         pub fn occam_check_rows(rows: *const i32, rows_length: usize) -> u64;
         pub fn occam_check_table(table: *const u8, table_length: usize) -> u64;
-        pub fn occam_run_rows(
-            rows: *const i32,
-            rows_length: usize,
-            sheet: *const u8,
-            sheet_length: usize,
-            choices: *const u16,
-            choices_length: usize,
-            budget: u32,
-            cells: *mut i32,
-            cells_length: usize,
-            marks: *mut u8,
-            marks_length: usize,
-            states: *mut u8,
-            states_length: usize,
-            places: *mut u32,
-            places_length: usize,
-            numbers: *mut i32,
-            numbers_length: usize,
-            counts: *mut u32,
-            counts_length: usize,
-        ) -> u64;
-        pub fn occam_run_table(
-            table: *const u8,
-            table_length: usize,
-            sheet: *const u8,
-            sheet_length: usize,
-            choices: *const u16,
-            choices_length: usize,
-            budget: u32,
-            cells: *mut i32,
-            cells_length: usize,
-            marks: *mut u8,
-            marks_length: usize,
-            states: *mut u8,
-            states_length: usize,
-            places: *mut u32,
-            places_length: usize,
-            numbers: *mut i32,
-            numbers_length: usize,
-            counts: *mut u32,
-            counts_length: usize,
-        ) -> u64;
-        pub fn occam_run_rows_traced(
-            rows: *const i32,
-            rows_length: usize,
-            sheet: *const u8,
-            sheet_length: usize,
-            choices: *const u16,
-            choices_length: usize,
-            budget: u32,
-            cells: *mut i32,
-            cells_length: usize,
-            marks: *mut u8,
-            marks_length: usize,
-            states: *mut u8,
-            states_length: usize,
-            places: *mut u32,
-            places_length: usize,
-            numbers: *mut i32,
-            numbers_length: usize,
-            counts: *mut u32,
-            counts_length: usize,
-            ready: *mut u16,
-            ready_length: usize,
-            taken: *mut u16,
-            taken_length: usize,
-        ) -> u64;
-        pub fn occam_run_table_traced(
-            table: *const u8,
-            table_length: usize,
-            sheet: *const u8,
-            sheet_length: usize,
-            choices: *const u16,
-            choices_length: usize,
-            budget: u32,
-            cells: *mut i32,
-            cells_length: usize,
-            marks: *mut u8,
-            marks_length: usize,
-            states: *mut u8,
-            states_length: usize,
-            places: *mut u32,
-            places_length: usize,
-            numbers: *mut i32,
-            numbers_length: usize,
-            counts: *mut u32,
-            counts_length: usize,
-            ready: *mut u16,
-            ready_length: usize,
-            taken: *mut u16,
-            taken_length: usize,
-        ) -> u64;
+        declare_run!(occam_run_rows(i32));
+        declare_run!(occam_run_table(u8));
+        declare_run!(occam_run_rows_traced(i32, u16, u16));
+        declare_run!(occam_run_table_traced(u8, u16, u16));
         pub fn occam_read_rows(
             table: *const u8,
             table_length: usize,
@@ -130,62 +73,50 @@ pub fn check_table(table: &[u8]) -> u64 {
     unsafe { exported::occam_check_table(table.as_ptr(), table.len()) }
 }
 
+/// Calls an exported run: each slice goes as its pointer and its length.
+macro_rules! call_run {
+    ($name:ident($table:expr, $asked:expr, $lent:expr $(, $list:expr)*)) => {{
+        let (sheet, choices, budget) = $asked;
+        // SAFETY: each pointer comes from a slice, with its length. The seven slices of `lent` and
+        // the lists of a traced run are borrowed alone, so none overlaps another or the three that
+        // are only read.
+        unsafe {
+            exported::$name(
+                $table.as_ptr(),
+                $table.len(),
+                sheet.as_ptr(),
+                sheet.len(),
+                choices.as_ptr(),
+                choices.len(),
+                budget,
+                $lent.cells.as_mut_ptr(),
+                $lent.cells.len(),
+                $lent.marks.as_mut_ptr(),
+                $lent.marks.len(),
+                $lent.states.as_mut_ptr(),
+                $lent.states.len(),
+                $lent.places.as_mut_ptr(),
+                $lent.places.len(),
+                $lent.numbers.as_mut_ptr(),
+                $lent.numbers.len(),
+                $lent.counts.as_mut_ptr(),
+                $lent.counts.len(),
+                $lent.output_marks.as_mut_ptr(),
+                $lent.output_marks.len(),
+                $($list.as_mut_ptr(), $list.len(),)*
+            )
+        }
+    }};
+}
+
 /// The packed answer to rows lent as numbers; a run leaves its state in what is lent.
 pub fn run_rows(rows: &[i32], sheet: &[u8], choices: &[u16], budget: u32, lent: Lent) -> u64 {
-    // SAFETY: each pointer comes from a slice, with its length. The six slices of `lent` are
-    // borrowed alone, so none overlaps another or the three that are only read.
-    unsafe {
-        exported::occam_run_rows(
-            rows.as_ptr(),
-            rows.len(),
-            sheet.as_ptr(),
-            sheet.len(),
-            choices.as_ptr(),
-            choices.len(),
-            budget,
-            lent.cells.as_mut_ptr(),
-            lent.cells.len(),
-            lent.marks.as_mut_ptr(),
-            lent.marks.len(),
-            lent.states.as_mut_ptr(),
-            lent.states.len(),
-            lent.places.as_mut_ptr(),
-            lent.places.len(),
-            lent.numbers.as_mut_ptr(),
-            lent.numbers.len(),
-            lent.counts.as_mut_ptr(),
-            lent.counts.len(),
-        )
-    }
+    call_run!(occam_run_rows(rows, (sheet, choices, budget), lent))
 }
 
 /// The packed answer to a table's bytes; a run leaves its state in what is lent.
 pub fn run_table(table: &[u8], sheet: &[u8], choices: &[u16], budget: u32, lent: Lent) -> u64 {
-    // SAFETY: each pointer comes from a slice, with its length. The six slices of `lent` are
-    // borrowed alone, so none overlaps another or the three that are only read.
-    unsafe {
-        exported::occam_run_table(
-            table.as_ptr(),
-            table.len(),
-            sheet.as_ptr(),
-            sheet.len(),
-            choices.as_ptr(),
-            choices.len(),
-            budget,
-            lent.cells.as_mut_ptr(),
-            lent.cells.len(),
-            lent.marks.as_mut_ptr(),
-            lent.marks.len(),
-            lent.states.as_mut_ptr(),
-            lent.states.len(),
-            lent.places.as_mut_ptr(),
-            lent.places.len(),
-            lent.numbers.as_mut_ptr(),
-            lent.numbers.len(),
-            lent.counts.as_mut_ptr(),
-            lent.counts.len(),
-        )
-    }
+    call_run!(occam_run_table(table, (sheet, choices, budget), lent))
 }
 
 /// The packed answer to rows lent as numbers; a run leaves its state and each of its steps in
@@ -198,35 +129,14 @@ pub fn run_rows_traced(
     lent: Lent,
     trace: LentTrace,
 ) -> u64 {
-    // SAFETY: each pointer comes from a slice, with its length. The six slices of `lent` and the
-    // two of `trace` are borrowed alone, so none overlaps another or the three that are only read.
-    unsafe {
-        exported::occam_run_rows_traced(
-            rows.as_ptr(),
-            rows.len(),
-            sheet.as_ptr(),
-            sheet.len(),
-            choices.as_ptr(),
-            choices.len(),
-            budget,
-            lent.cells.as_mut_ptr(),
-            lent.cells.len(),
-            lent.marks.as_mut_ptr(),
-            lent.marks.len(),
-            lent.states.as_mut_ptr(),
-            lent.states.len(),
-            lent.places.as_mut_ptr(),
-            lent.places.len(),
-            lent.numbers.as_mut_ptr(),
-            lent.numbers.len(),
-            lent.counts.as_mut_ptr(),
-            lent.counts.len(),
-            trace.ready.as_mut_ptr(),
-            trace.ready.len(),
-            trace.taken.as_mut_ptr(),
-            trace.taken.len(),
-        )
-    }
+    let asked = (sheet, choices, budget);
+    call_run!(occam_run_rows_traced(
+        rows,
+        asked,
+        lent,
+        trace.ready,
+        trace.taken
+    ))
 }
 
 /// The packed answer to a table's bytes; a run leaves its state and each of its steps in
@@ -239,35 +149,14 @@ pub fn run_table_traced(
     lent: Lent,
     trace: LentTrace,
 ) -> u64 {
-    // SAFETY: each pointer comes from a slice, with its length. The six slices of `lent` and the
-    // two of `trace` are borrowed alone, so none overlaps another or the three that are only read.
-    unsafe {
-        exported::occam_run_table_traced(
-            table.as_ptr(),
-            table.len(),
-            sheet.as_ptr(),
-            sheet.len(),
-            choices.as_ptr(),
-            choices.len(),
-            budget,
-            lent.cells.as_mut_ptr(),
-            lent.cells.len(),
-            lent.marks.as_mut_ptr(),
-            lent.marks.len(),
-            lent.states.as_mut_ptr(),
-            lent.states.len(),
-            lent.places.as_mut_ptr(),
-            lent.places.len(),
-            lent.numbers.as_mut_ptr(),
-            lent.numbers.len(),
-            lent.counts.as_mut_ptr(),
-            lent.counts.len(),
-            trace.ready.as_mut_ptr(),
-            trace.ready.len(),
-            trace.taken.as_mut_ptr(),
-            trace.taken.len(),
-        )
-    }
+    let asked = (sheet, choices, budget);
+    call_run!(occam_run_table_traced(
+        table,
+        asked,
+        lent,
+        trace.ready,
+        trace.taken
+    ))
 }
 
 /// How many numbers of a table's rows were written to `rows`; 0 if the bytes are refused or

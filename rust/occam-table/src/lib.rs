@@ -20,9 +20,9 @@
 //! let run = machine.run_table(table, b"0\n120\n", &[], BUDGET)?;
 //! assert_eq!((run.outcome, run.steps), (Outcome::Ended, 2));
 //! assert_eq!(run.cell(0), Some(120));
-//! assert_eq!(run.list(0), [125]);
+//! assert_eq!(run.list(0), [Some(125)]);
 //!
-//! // A missing reading stays missing: the cell is unset, and no number is written.
+//! // A missing reading stays missing: the cell is unset, and no number is made of it.
 //! let run = machine.run_table(table, b"0\n\n", &[], BUDGET)?;
 //! assert_eq!((run.outcome, run.steps), (Outcome::Broken, 2));
 //! assert_eq!(run.cell(0), None);

@@ -48,13 +48,24 @@ pub fn read_rows(table: &[u8]) -> Option<Vec<[i32; 4]>> {
     (written != 0).then(|| rows.map(|row| [row[0], row[1], row[2], row[3]]).collect())
 }
 
-/// The part of the output numbers that belongs to one channel to the host.
+/// The part of the output numbers that belongs to one channel to the host; their marks stand at
+/// the same positions of the output marks.
 #[derive(Clone, Copy, Debug, Default, PartialEq, Eq)]
 pub struct Strip {
     /// The position of its first number.
     pub begin: usize,
     /// How many numbers it can hold.
     pub capacity: usize,
+}
+
+impl Strip {
+    /// The strip of a packed one: its begin, and 65,536 times its capacity.
+    fn of(packed: u64) -> Strip {
+        Strip {
+            begin: (packed & 0xFFFF) as usize,
+            capacity: (packed >> 16) as usize,
+        }
+    }
 }
 
 /// The strip of a channel to the host of an accepted table; `channel` counts those of role 2
@@ -68,11 +79,7 @@ pub struct Strip {
 /// assert_eq!(strip(rows.as_flattened(), 1), second);
 /// ```
 pub fn strip(rows: &[i32], channel: usize) -> Strip {
-    let packed = calls::strip(rows, channel);
-    Strip {
-        begin: (packed & 0xFFFF) as usize,
-        capacity: (packed >> 16) as usize,
-    }
+    Strip::of(calls::strip(rows, channel))
 }
 
 /// Runs tables. It owns the buffers that runs leave their state in, so that a run allocates
@@ -135,12 +142,9 @@ impl Machine {
         choices: &[u16],
         budget: u32,
     ) -> Result<Run<'_>, Refusal> {
-        let held = &mut *self.held;
-        let packed = calls::run_table(table, sheet, choices, budget, held.buffers.lend());
-        let told = answers::answer(packed)?;
-        let written = calls::read_rows(table, &mut held.rows) as usize;
-        let sizes = note_strips(&held.rows[..written], &mut held.strips);
-        Ok(Run::new(told, &held.buffers, sizes, &held.strips))
+        let lent = self.held.buffers.lend();
+        let packed = calls::run_table(table, sheet, choices, budget, lent);
+        self.held.run_of_table(packed, table)
     }
 
     /// Runs rows lent as numbers, four to each, on a sheet's bytes.
@@ -151,11 +155,9 @@ impl Machine {
         choices: &[u16],
         budget: u32,
     ) -> Result<Run<'_>, Refusal> {
-        let held = &mut *self.held;
-        let packed = calls::run_rows(rows, sheet, choices, budget, held.buffers.lend());
-        let told = answers::answer(packed)?;
-        let sizes = note_strips(rows, &mut held.strips);
-        Ok(Run::new(told, &held.buffers, sizes, &held.strips))
+        let lent = self.held.buffers.lend();
+        let packed = calls::run_rows(rows, sheet, choices, budget, lent);
+        self.held.run_of_rows(packed, rows)
     }
 
     /// Runs a table's bytes on a sheet's bytes, and keeps what each step shows.
@@ -166,14 +168,10 @@ impl Machine {
         choices: &[u16],
         budget: u32,
     ) -> Result<Traced<'_>, Refusal> {
-        let held = &mut *self.held;
         let trace = self.trace.get_or_insert_default();
-        let (lent, lists) = (held.buffers.lend(), trace.lend());
+        let (lent, lists) = (self.held.buffers.lend(), trace.lend());
         let packed = calls::run_table_traced(table, sheet, choices, budget, lent, lists);
-        let told = answers::answer(packed)?;
-        let written = calls::read_rows(table, &mut held.rows) as usize;
-        let sizes = note_strips(&held.rows[..written], &mut held.strips);
-        let run = Run::new(told, &held.buffers, sizes, &held.strips);
+        let run = self.held.run_of_table(packed, table)?;
         Ok(Traced::new(run, trace))
     }
 
@@ -185,19 +183,33 @@ impl Machine {
         choices: &[u16],
         budget: u32,
     ) -> Result<Traced<'_>, Refusal> {
-        let held = &mut *self.held;
         let trace = self.trace.get_or_insert_default();
-        let (lent, lists) = (held.buffers.lend(), trace.lend());
+        let (lent, lists) = (self.held.buffers.lend(), trace.lend());
         let packed = calls::run_rows_traced(rows, sheet, choices, budget, lent, lists);
-        let told = answers::answer(packed)?;
-        let sizes = note_strips(rows, &mut held.strips);
-        let run = Run::new(told, &held.buffers, sizes, &held.strips);
+        let run = self.held.run_of_rows(packed, rows)?;
         Ok(Traced::new(run, trace))
     }
 
     /// The buffers as the last run left them; a refused call changes nothing in them.
     pub fn buffers(&self) -> &Buffers {
         &self.held.buffers
+    }
+}
+
+impl Held {
+    /// The run of a packed answer to a table's bytes, or its refusal.
+    fn run_of_table(&mut self, packed: u64, table: &[u8]) -> Result<Run<'_>, Refusal> {
+        let told = answers::answer(packed)?;
+        let written = calls::read_rows(table, &mut self.rows) as usize;
+        let sizes = note_strips(&self.rows[..written], &mut self.strips);
+        Ok(Run::new(told, &self.buffers, sizes, &self.strips))
+    }
+
+    /// The run of a packed answer to rows lent as numbers, or its refusal.
+    fn run_of_rows(&mut self, packed: u64, rows: &[i32]) -> Result<Run<'_>, Refusal> {
+        let told = answers::answer(packed)?;
+        let sizes = note_strips(rows, &mut self.strips);
+        Ok(Run::new(told, &self.buffers, sizes, &self.strips))
     }
 }
 

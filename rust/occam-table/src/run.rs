@@ -85,14 +85,32 @@ impl<'m> Run<'m> {
         &self.buffers.places[..self.sizes.readings]
     }
 
-    /// What was written on a channel to the host, in order.
-    pub fn list(&self, channel: usize) -> &'m [i32] {
+    /// What was written on a channel to the host, in order; none for each absence.
+    ///
+    /// ```
+    /// use occam_table::{Machine, BUDGET};
+    ///
+    /// // b ! x, then b ! 5; x is unset
+    /// let rows = [
+    ///     [2, 1, 2, 2], [1, 1, 0, 0], [30, 3, 0, 0], [40, 4, 8, 0], [24, 0, 5, 6], [10, 0, 0, 0],
+    ///     [11, 1, 7, 0], [10, 0, 0, 0], [40, 9, -1, 0], [24, 0, 10, 11], [10, 0, 0, 0], [10, 5, 0, 0],
+    /// ];
+    /// let mut machine = Machine::new();
+    /// let run = machine.run_rows(rows.as_flattened(), b"\n", &[], BUDGET)?;
+    /// assert_eq!(run.list(0), [None, Some(5)]);
+    /// # Ok::<(), occam_table::Refusal>(())
+    /// ```
+    pub fn list(&self, channel: usize) -> Vec<Option<i32>> {
         let begin = self.strips[channel].begin;
-        &self.buffers.numbers[begin..begin + self.buffers.counts[channel] as usize]
+        let written = begin..begin + self.buffers.counts[channel] as usize;
+        let numbers = self.buffers.numbers[written.clone()].iter();
+        let marked = numbers.zip(&self.buffers.output_marks[written]);
+        let message = |(&number, &mark): (&i32, &u8)| (mark != 0).then_some(number);
+        marked.map(message).collect()
     }
 
-    /// What was written on each channel to the host, in order.
-    pub fn lists(&self) -> impl Iterator<Item = &'m [i32]> + use<'m> {
+    /// What was written on each channel to the host, in order; none for each absence.
+    pub fn lists(&self) -> impl Iterator<Item = Vec<Option<i32>>> + use<'m> {
         let run = *self;
         (0..run.strips.len()).map(move |channel| run.list(channel))
     }
@@ -106,7 +124,7 @@ impl<'m> Run<'m> {
             cells: self.cells().collect(),
             states: self.states().collect(),
             places: self.places().to_vec(),
-            lists: self.lists().map(<[i32]>::to_vec).collect(),
+            lists: self.lists().collect(),
         }
     }
 }
@@ -140,6 +158,6 @@ pub struct Snapshot {
     pub states: Vec<RowState>,
     /// For each channel from the host: how many values have been taken.
     pub places: Vec<u32>,
-    /// What was written on each channel to the host.
-    pub lists: Vec<Vec<i32>>,
+    /// What was written on each channel to the host: none for each absence.
+    pub lists: Vec<Vec<Option<i32>>>,
 }

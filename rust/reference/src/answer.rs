@@ -9,9 +9,17 @@ use crate::table::{rows_of_bytes, rows_of_numbers, Row, ROWS};
 
 /// Greatest budget.
 pub const BUDGET_LIMIT: u64 = 65_536;
-/// Least lengths of the six lent buffers: cells, marks, row states, places, output numbers, counts.
-pub const BUFFER_LENGTHS: [usize; 6] =
-    [CELLS, CELLS, ROWS, HOST_CHANNELS, CAPACITIES, HOST_CHANNELS];
+/// Least lengths of the seven lent buffers: cells, marks, row states, places, output numbers,
+/// counts, output marks.
+pub const BUFFER_LENGTHS: [usize; 7] = [
+    CELLS,
+    CELLS,
+    ROWS,
+    HOST_CHANNELS,
+    CAPACITIES,
+    HOST_CHANNELS,
+    CAPACITIES,
+];
 /// Least length of each of the two further lists that a traced run is lent: how many steps were
 /// ready, and the rows taken. It is the greatest budget.
 pub const TRACE_LENGTH: usize = 65_536;
@@ -38,10 +46,12 @@ pub struct Ran {
     pub states: [u8; ROWS],
     /// Each role 1 channel's place in the readings.
     pub places: [u32; HOST_CHANNELS],
-    /// The strips, each following the one before it by capacity.
+    /// The strips, each following the one before it by capacity; 0 for an absence.
     pub numbers: [i32; CAPACITIES],
     /// Each role 2 channel's count.
     pub counts: [u32; HOST_CHANNELS],
+    /// Beside each number of the strips its set mark: 1 a value, 0 an absence or unused.
+    pub output_marks: [u8; CAPACITIES],
     /// How many rows the table has.
     pub row_count: usize,
     /// Where each variable's cells and each channel's strip lie.
@@ -66,20 +76,35 @@ struct Asked<'a> {
     room: bool,
 }
 
+impl<'a> Asked<'a> {
+    /// What a run is asked that is lent buffers of these lengths.
+    fn new(sheet: &'a [u8], choices: &'a [u16], budget: u64, lengths: [usize; 7]) -> Asked<'a> {
+        Asked {
+            sheet,
+            choices,
+            budget,
+            room: have_room(lengths),
+        }
+    }
+
+    /// The same of a traced run, which is lent two further lists of these lengths.
+    fn with_lists(self, lists: [usize; 2]) -> Asked<'a> {
+        Asked {
+            room: self.room && have_trace_room(lists),
+            ..self
+        }
+    }
+}
+
 /// The answer to a table of bytes.
 pub fn answer_bytes(
     table: &[u8],
     sheet: &[u8],
     choices: &[u16],
     budget: u64,
-    lengths: [usize; 6],
+    lengths: [usize; 7],
 ) -> Answer {
-    let asked = Asked {
-        sheet,
-        choices,
-        budget,
-        room: have_room(lengths),
-    };
+    let asked = Asked::new(sheet, choices, budget, lengths);
     answer(|| rows_of_bytes(table), asked, |_| {})
 }
 
@@ -89,14 +114,9 @@ pub fn answer_rows(
     sheet: &[u8],
     choices: &[u16],
     budget: u64,
-    lengths: [usize; 6],
+    lengths: [usize; 7],
 ) -> Answer {
-    let asked = Asked {
-        sheet,
-        choices,
-        budget,
-        room: have_room(lengths),
-    };
+    let asked = Asked::new(sheet, choices, budget, lengths);
     answer(|| rows_of_numbers(rows), asked, |_| {})
 }
 
@@ -106,15 +126,10 @@ pub fn traced_bytes(
     sheet: &[u8],
     choices: &[u16],
     budget: u64,
-    lengths: [usize; 6],
+    lengths: [usize; 7],
     lists: [usize; 2],
 ) -> Traced {
-    let asked = Asked {
-        sheet,
-        choices,
-        budget,
-        room: have_room(lengths) && have_trace_room(lists),
-    };
+    let asked = Asked::new(sheet, choices, budget, lengths).with_lists(lists);
     traced(|| rows_of_bytes(table), asked)
 }
 
@@ -124,15 +139,10 @@ pub fn traced_rows(
     sheet: &[u8],
     choices: &[u16],
     budget: u64,
-    lengths: [usize; 6],
+    lengths: [usize; 7],
     lists: [usize; 2],
 ) -> Traced {
-    let asked = Asked {
-        sheet,
-        choices,
-        budget,
-        room: have_room(lengths) && have_trace_room(lists),
-    };
+    let asked = Asked::new(sheet, choices, budget, lengths).with_lists(lists);
     traced(|| rows_of_numbers(rows), asked)
 }
 
@@ -146,8 +156,8 @@ pub fn check_rows(rows: &[i32]) -> Result<Program, Refusal> {
     Program::check(rows_of_numbers(rows)?)
 }
 
-/// Whether the six lent buffers are as long as their limits.
-fn have_room(lengths: [usize; 6]) -> bool {
+/// Whether the seven lent buffers are as long as their limits.
+fn have_room(lengths: [usize; 7]) -> bool {
     let mut pairs = lengths.iter().zip(BUFFER_LENGTHS);
     pairs.all(|(&lent, least)| lent >= least)
 }
@@ -207,6 +217,7 @@ fn what_a_run_leaves(program: Program, end: &End) -> Ran {
         places: [0; HOST_CHANNELS],
         numbers: [0; CAPACITIES],
         counts: [0; HOST_CHANNELS],
+        output_marks: [0; CAPACITIES],
         row_count: program.rows.len(),
         layout: program.layout,
     };
@@ -220,7 +231,10 @@ fn what_a_run_leaves(program: Program, end: &End) -> Ran {
     }
     for (index, list) in state.lists.iter().enumerate() {
         let first = ran.layout.strips[index].first;
-        ran.numbers[first..first + list.len()].copy_from_slice(list);
+        for (position, message) in (first..).zip(list) {
+            ran.numbers[position] = message.unwrap_or(0);
+            ran.output_marks[position] = u8::from(message.is_some());
+        }
         ran.counts[index] = list.len() as u32;
     }
     ran

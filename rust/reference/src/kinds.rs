@@ -31,6 +31,9 @@ pub const PROCESS: &[i32] = &[
     STOP, SKIP, ASSIGNMENT, INPUT, OUTPUT, SEQ, PAR, IF, WHILE, ALT,
 ];
 
+/// The monadic operator whose operand is an element, set or not.
+pub const GIVEN: i32 = 2;
+
 /// Role of a channel inside the table.
 pub const INNER: i32 = 0;
 /// Role of a channel from the host.
@@ -66,7 +69,7 @@ pub fn fields_of(kind: i32) -> Option<[Field; 3]> {
         CHANNEL => [Within(1, 64), Within(INNER, TO_HOST), Within(0, 256)],
         LITERAL => [Value, Unused, Unused],
         ELEMENT => [VariableName, Refers(EXPRESSION), Unused],
-        MONADIC => [Within(0, 1), Refers(EXPRESSION), Unused],
+        MONADIC => [Within(0, GIVEN), Refers(EXPRESSION), Unused],
         DYADIC => [Within(0, 15), Refers(EXPRESSION), Refers(EXPRESSION)],
         STOP | SKIP => [Unused, Unused, Unused],
         ASSIGNMENT => [VariableName, Refers(EXPRESSION), Refers(EXPRESSION)],
@@ -124,7 +127,12 @@ fn is_at_fault(rows: &[Row], declarations: &[Row], index: usize) -> bool {
     let late = is_declaration(row) && index >= declarations.len();
     let wrong_field = (fields.into_iter().zip(row.fields()))
         .any(|(field, number)| !field_fits(declarations, field, number));
-    late || wrong_field || (row.kind == CHANNEL && !channel_fits(row))
+    let whole_row_fits = match row.kind {
+        CHANNEL => channel_fits(row),
+        MONADIC => operand_fits(rows, row),
+        _ => true,
+    };
+    late || wrong_field || !whole_row_fits
 }
 
 /// Whether a field's number fits; references are left to refusal 5.
@@ -141,6 +149,13 @@ fn field_fits(declarations: &[Row], field: Field, number: i32) -> bool {
             named.is_some_and(|row| row.kind == CHANNEL && (row.b == inner || row.b == host))
         }
     }
+}
+
+/// Whether an operand fits its monadic operator: GIVEN takes no row of another kind than an element.
+/// A number that is no row is left to refusal 5.
+fn operand_fits(rows: &[Row], row: &Row) -> bool {
+    let operand = usize::try_from(row.b).ok().and_then(|row| rows.get(row));
+    row.a != GIVEN || operand.is_none_or(|operand| operand.kind == ELEMENT)
 }
 
 /// Whether a channel's elements and capacity fit its role.

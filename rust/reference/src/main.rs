@@ -20,15 +20,15 @@ With no flags it prints what the sheet runner of \"A run on paper\" prints.
 
   --budget N        budget in steps (default 65536; above that is refusal 11)
   --choices A,B,C   choices, each 0 to 65535 (default none)
-  --lengths C,M,S,P,O,K
-                    lengths of the lent buffers: cells, marks, row states, places,
-                    output numbers, counts (default 256,256,1024,8,1024,8)
+  --lengths C,M,S,P,O,K,T
+                    lengths of the lent buffers: cells, marks, row states, places, output
+                    numbers, counts, output marks (default 256,256,1024,8,1024,8,1024)
   --numbers         the table part is rows lent as numbers: whole numbers parted by
                     commas or line feeds, no line of names, empty pieces passed over
   --full            after the paper's lines also: cell,ROW,I,V and mark,ROW,I,0|1 of
                     each cell; state,ROW,0,S of each row; place,CH,0,N of each role 1
-                    channel; strip,CH,I,V of each place of each role 2 channel's
-                    capacity; count,CH,0,N of each role 2 channel
+                    channel; strip,CH,I,V and omark,CH,I,0|1 of each place of each role 2
+                    channel's capacity; count,CH,0,N of each role 2 channel
   --ready           only how many steps are ready after the run: ready,N
   --trace           for each step of the run step,NUMBER,READY,ROW (its number from 1, how
                     many were ready, the row that orders the one taken), then ready,N
@@ -55,7 +55,7 @@ With no flags it prints what the sheet runner of \"A run on paper\" prints.
 struct Request {
     budget: u64,
     choices: Vec<u16>,
-    lengths: [usize; 6],
+    lengths: [usize; 7],
     numbers: bool,
     full: bool,
     ready: bool,
@@ -126,7 +126,7 @@ fn requested(arguments: &[String]) -> Result<Request, String> {
             "--lengths" => {
                 request.lengths = numbers(flag, operand()?)?
                     .try_into()
-                    .map_err(|_| format!("{flag} needs six numbers (see --help)"))?;
+                    .map_err(|_| format!("{flag} needs seven numbers (see --help)"))?;
             }
             "--lists" => {
                 request.lists = numbers(flag, operand()?)?

@@ -1,6 +1,7 @@
 //! The sheet runner's input and printing: "A run on paper".
 
 use crate::answer::{Answer, Ran, Traced};
+use crate::limits::Part;
 use crate::state::STOPPED;
 use std::fmt::{Result, Write};
 
@@ -63,24 +64,31 @@ fn print_result(text: &mut String, ran: &Ran, full: bool) -> Result {
 
 /// Prints each cell: variable, cell number, value or empty.
 fn print_cells(text: &mut String, ran: &Ran) -> Result {
-    for (row, number, cell) in cells(ran) {
-        match ran.marks[cell] {
-            0 => writeln!(text, "var,{row},{number},")?,
-            _ => writeln!(text, "var,{row},{number},{}", ran.cells[cell])?,
+    for (row, number, cell) in positions(&ran.layout.variables) {
+        let value = value_or_empty(ran.cells[cell], ran.marks[cell]);
+        writeln!(text, "var,{row},{number},{value}")?;
+    }
+    Ok(())
+}
+
+/// Prints each host output: channel, position, value or empty.
+fn print_outputs(text: &mut String, ran: &Ran) -> Result {
+    for (strip, &count) in ran.layout.strips.iter().zip(&ran.counts) {
+        for position in 0..count as usize {
+            let at = strip.first + position;
+            let value = value_or_empty(ran.numbers[at], ran.output_marks[at]);
+            writeln!(text, "out,{},{position},{value}", strip.row)?;
         }
     }
     Ok(())
 }
 
-/// Prints each host output: channel, position, value.
-fn print_outputs(text: &mut String, ran: &Ran) -> Result {
-    for (strip, &count) in ran.layout.strips.iter().zip(&ran.counts) {
-        for position in 0..count as usize {
-            let value = ran.numbers[strip.first + position];
-            writeln!(text, "out,{},{position},{value}", strip.row)?;
-        }
+/// A value as it is printed, or nothing if its mark is 0.
+fn value_or_empty(value: i32, mark: u8) -> String {
+    match mark {
+        0 => String::new(),
+        _ => value.to_string(),
     }
-    Ok(())
 }
 
 /// Prints each stopped row with its reason.
@@ -93,12 +101,12 @@ fn print_stops(text: &mut String, ran: &Ran) -> Result {
     Ok(())
 }
 
-/// Prints all that the buffers hold: cells, marks, row states, places, strips and counts.
+/// Prints all that the buffers hold: cells, marks, row states, places, strips, their marks, counts.
 fn print_buffers(text: &mut String, ran: &Ran) -> Result {
-    for (row, number, cell) in cells(ran) {
+    for (row, number, cell) in positions(&ran.layout.variables) {
         writeln!(text, "cell,{row},{number},{}", ran.cells[cell])?;
     }
-    for (row, number, cell) in cells(ran) {
+    for (row, number, cell) in positions(&ran.layout.variables) {
         writeln!(text, "mark,{row},{number},{}", ran.marks[cell])?;
     }
     for (row, state) in ran.states[..ran.row_count].iter().enumerate() {
@@ -107,11 +115,11 @@ fn print_buffers(text: &mut String, ran: &Ran) -> Result {
     for (row, place) in ran.layout.readings.iter().zip(&ran.places) {
         writeln!(text, "place,{row},0,{place}")?;
     }
-    for strip in &ran.layout.strips {
-        for position in 0..strip.length {
-            let value = ran.numbers[strip.first + position];
-            writeln!(text, "strip,{},{position},{value}", strip.row)?;
-        }
+    for (row, number, at) in positions(&ran.layout.strips) {
+        writeln!(text, "strip,{row},{number},{}", ran.numbers[at])?;
+    }
+    for (row, number, at) in positions(&ran.layout.strips) {
+        writeln!(text, "omark,{row},{number},{}", ran.output_marks[at])?;
     }
     for (strip, count) in ran.layout.strips.iter().zip(&ran.counts) {
         writeln!(text, "count,{},0,{count}", strip.row)?;
@@ -119,11 +127,11 @@ fn print_buffers(text: &mut String, ran: &Ran) -> Result {
     Ok(())
 }
 
-/// Each declared cell: its variable's row, its number of that name, and its place in the store.
-fn cells(ran: &Ran) -> impl Iterator<Item = (usize, usize, usize)> + '_ {
-    let of_variable = |part: &crate::limits::Part| {
+/// Each position of these parts: the declaration's row, its number of that name, and where it lies.
+fn positions(parts: &[Part]) -> impl Iterator<Item = (usize, usize, usize)> + '_ {
+    let of_one = |part: &Part| {
         let part = *part;
         (0..part.length).map(move |number| (part.row, number, part.first + number))
     };
-    ran.layout.variables.iter().flat_map(of_variable)
+    parts.iter().flat_map(of_one)
 }

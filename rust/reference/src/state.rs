@@ -60,8 +60,8 @@ pub struct State {
     pub rows: Vec<u8>,
     /// For each role 1 channel: how many values have been taken from it.
     pub places: Vec<usize>,
-    /// For each role 2 channel: what its host writes passed, in their order.
-    pub lists: Vec<Vec<i32>>,
+    /// For each role 2 channel: what its host writes passed, in their order; none for an absence.
+    pub lists: Vec<Vec<Option<i32>>>,
     /// The rows that may have a step: running actions, and running IFs, WHILEs and ALTs
     /// with every row beneath them idle. It follows from the row states.
     pub may_step: RowSet,

@@ -5,7 +5,7 @@ use crate::limits::ELEMENTS;
 use crate::program::Program;
 use crate::sheet::Readings;
 use crate::state::State;
-use crate::values::{is_true, number_named, value, Reason};
+use crate::values::{is_true, number_named, passed, value, Reason};
 
 /// One step that is ready, with all it needs to be taken.
 #[derive(Clone, Copy, Debug, PartialEq, Eq)]
@@ -18,8 +18,12 @@ pub enum Step {
     Choice { row: usize, process: usize },
     /// An input that takes place.
     Input { row: usize, passing: Passing },
-    /// A host write of a value.
-    HostWrite { row: usize, list: usize, value: i32 },
+    /// A host write of a value or an absence.
+    HostWrite {
+        row: usize,
+        list: usize,
+        message: Option<i32>,
+    },
     /// An ALT taking an option; the input of its guard, if any, takes place.
     Option {
         alt: usize,
@@ -37,20 +41,20 @@ pub struct Passing {
     cell: usize,
 }
 
-/// Where an input's value comes from.
+/// Where an input's value or absence comes from.
 #[derive(Clone, Copy, Debug, PartialEq, Eq)]
 enum Source {
-    /// A waiting output and its value.
+    /// A waiting output and what it passes.
     Output(Offer),
     /// The next reading of this role 1 channel.
     Host { channel: usize },
 }
 
-/// A running output that would not stop, and its value.
+/// A running output that would not stop, and what it passes: a value, or none for an absence.
 #[derive(Clone, Copy, Debug, PartialEq, Eq)]
 struct Offer {
     row: usize,
-    value: i32,
+    message: Option<i32>,
 }
 
 impl Step {
@@ -64,6 +68,19 @@ impl Step {
             | Step::HostWrite { row, .. }
             | Step::Stop { row, .. } => row,
             Step::Option { option, .. } => option,
+        }
+    }
+
+    /// Whether an output's absence passes in this step.
+    pub fn passes_absence(&self) -> bool {
+        match *self {
+            Step::HostWrite { message, .. } => message.is_none(),
+            Step::Input { passing, .. }
+            | Step::Option {
+                passing: Some(passing),
+                ..
+            } => matches!(passing.from, Source::Output(Offer { message: None, .. })),
+            _ => false,
         }
     }
 }
@@ -101,11 +118,13 @@ impl Look<'_> {
         for row in self.state.may_step.rows() {
             if self.program.rows[row].kind == OUTPUT {
                 match self.output(row) {
-                    Ok((element, value)) if self.role(row) == TO_HOST => {
+                    Ok((element, message)) if self.role(row) == TO_HOST => {
                         debug_assert!(element < ELEMENTS);
-                        ready.extend(self.host_write(row, value));
+                        ready.extend(self.host_write(row, message));
                     }
-                    Ok((element, value)) => self.waiting[element] = Some(Offer { row, value }),
+                    Ok((element, message)) => {
+                        self.waiting[element] = Some(Offer { row, message });
+                    }
                     Err(reason) => ready.push(Step::Stop { row, reason }),
                 }
             }
@@ -197,22 +216,19 @@ impl Look<'_> {
         Ok(from.map(|from| Passing { from, cell }))
     }
 
-    /// The element and value of an output: channel subscript, then expression.
-    fn output(&self, row: usize) -> Result<(usize, i32), Reason> {
-        let element = number_named(self.program, &self.state.cells, row)?;
-        let value = value(
-            self.program,
-            &self.state.cells,
-            self.program.rows[row].c as usize,
-        )?;
-        Ok((element, value))
+    /// The element of an output and what it passes: channel subscript, then expression.
+    fn output(&self, row: usize) -> Result<(usize, Option<i32>), Reason> {
+        let cells = &self.state.cells;
+        let element = number_named(self.program, cells, row)?;
+        let message = passed(self.program, cells, self.program.rows[row].c as usize)?;
+        Ok((element, message))
     }
 
     /// A host write, if capacity is left.
-    fn host_write(&self, row: usize, value: i32) -> Option<Step> {
+    fn host_write(&self, row: usize, message: Option<i32>) -> Option<Step> {
         let list = self.host_number(row);
         let left = self.state.lists[list].len() < self.program.layout.strips[list].length;
-        left.then_some(Step::HostWrite { row, list, value })
+        left.then_some(Step::HostWrite { row, list, message })
     }
 
     /// The role of the channel that an input or output names.
@@ -257,8 +273,8 @@ pub fn take_step(program: &Program, readings: &Readings, state: &mut State, step
             pass(program, readings, state, passing);
             state.end_process(program, row);
         }
-        Step::HostWrite { row, list, value } => {
-            state.lists[list].push(value);
+        Step::HostWrite { row, list, message } => {
+            state.lists[list].push(message);
             state.end_process(program, row);
         }
         Step::Option {
@@ -283,11 +299,11 @@ fn assigned(program: &Program, state: &State, row: usize) -> Result<(usize, i32)
     Ok((cell, value))
 }
 
-/// The value passes: an output ends, or a reading is taken; an absent one unsets the cell.
+/// A value or an absence passes: an output ends, or a reading is taken; an absence unsets the cell.
 fn pass(program: &Program, readings: &Readings, state: &mut State, passing: Passing) {
     match passing.from {
         Source::Output(offer) => {
-            state.cells[passing.cell] = Some(offer.value);
+            state.cells[passing.cell] = offer.message;
             state.end_process(program, offer.row);
         }
         Source::Host { channel } => {

@@ -1,6 +1,6 @@
 //! Values: an expression has a number, or the first met reason for no value.
 
-use crate::kinds::{ELEMENT, LITERAL, MONADIC};
+use crate::kinds::{ELEMENT, GIVEN, LITERAL, MONADIC};
 use crate::program::Program;
 
 /// Why there is no value.
@@ -32,6 +32,7 @@ pub fn value(program: &Program, cells: &Cells, row: usize) -> Result<i32, Reason
     match expression.kind {
         LITERAL => Ok(expression.a),
         ELEMENT => cells[number_named(program, cells, row)?].ok_or(Reason::Unset),
+        MONADIC if expression.a == GIVEN => given(program, cells, expression.b as usize),
         MONADIC => monadic(expression.a, value(program, cells, expression.b as usize)?),
         _ => {
             let left = value(program, cells, expression.b as usize)?;
@@ -39,6 +40,20 @@ pub fn value(program: &Program, cells: &Cells, row: usize) -> Result<i32, Reason
             dyadic(expression.a, left, right)
         }
     }
+}
+
+/// What an output of an expression passes: a value, or the absence of an unset element.
+pub fn passed(program: &Program, cells: &Cells, row: usize) -> Result<Option<i32>, Reason> {
+    match program.rows[row].kind {
+        ELEMENT => Ok(cells[number_named(program, cells, row)?]),
+        _ => value(program, cells, row).map(Some),
+    }
+}
+
+/// GIVEN of an element: 1 if its cell is set, 0 if not.
+fn given(program: &Program, cells: &Cells, element: usize) -> Result<i32, Reason> {
+    let cell = number_named(program, cells, element)?;
+    Ok(i32::from(cells[cell].is_some()))
 }
 
 /// The cell or channel element that a row names by field a and subscript b.
@@ -55,7 +70,7 @@ pub fn is_true(program: &Program, cells: &Cells, row: usize) -> Result<bool, Rea
     Ok(value(program, cells, row)? != 0)
 }
 
-/// A monadic operator: 0 minus, 1 NOT.
+/// A monadic operator on a value: 0 minus, 1 NOT.
 fn monadic(operator: i32, operand: i32) -> Result<i32, Reason> {
     match operator {
         0 => operand.checked_neg().ok_or(Reason::Fit),

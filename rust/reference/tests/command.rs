@@ -51,11 +51,11 @@ fn budget_lengths_and_choices() {
         "refused,11,0,0\n"
     );
     assert_eq!(
-        reference("--lengths 256,256,1024,8,1024,7", &input).1,
+        reference("--lengths 256,256,1024,8,1024,8,1023", &input).1,
         "refused,1,0,0\n"
     );
     assert_eq!(
-        reference("--lengths 999,256,1024,8,1024,8", &input).1,
+        reference("--lengths 999,256,1024,8,1024,8,1024", &input).1,
         ENDED
     );
 }
@@ -64,7 +64,8 @@ fn budget_lengths_and_choices() {
 fn full() {
     let more = "cell,0,0,4\nmark,0,0,1\nstate,0,0,0\nstate,1,0,0\nstate,2,0,2\nstate,3,0,0\n\
         state,4,0,0\nstate,5,0,2\nstate,6,0,2\nstate,7,0,0\nstate,8,0,0\nstate,9,0,0\n\
-        state,10,0,0\nstate,11,0,0\nstrip,1,0,4\nstrip,1,1,0\ncount,1,0,1\n";
+        state,10,0,0\nstate,11,0,0\nstrip,1,0,4\nstrip,1,1,0\nomark,1,0,1\n\
+        omark,1,1,0\ncount,1,0,1\n";
     let input = format!("{TABLE}=\n\n");
     assert_eq!(reference("--full", &input).1, format!("{ENDED}{more}"));
     let reads = "kind,a,b,c\n2,1,1,0\n21,0,0,0\n=\n0\n5\n";
@@ -153,7 +154,7 @@ fn bad_flags_and_help() {
         "--budget",
         "--budget x",
         "--choices 65536",
-        "--lengths 1,2",
+        "--lengths 256,256,1024,8,1024,8",
         "--lists 1",
         "x",
     ] {

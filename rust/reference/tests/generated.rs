@@ -101,6 +101,21 @@ fn accepted(seed: u64, aim: Aim) -> Option<(Program, Readings)> {
     Some((program, readings))
 }
 
+/// Takes the steps of one order, at most 40, and tells each.
+fn follow(program: &Program, readings: &Readings, mut tell: impl FnMut(Step)) {
+    let mut state = State::start(program);
+    let mut ready = Vec::new();
+    for step_number in 0..40 {
+        ready_steps(program, readings, &state, &mut ready);
+        if ready.is_empty() {
+            break;
+        }
+        let step = ready[step_number % ready.len()];
+        take_step(program, readings, &mut state, step);
+        tell(step);
+    }
+}
+
 #[test]
 fn generated_runs_do_all_sorts_of_steps() {
     let mut counts: HashMap<&str, usize> = HashMap::new();
@@ -108,17 +123,9 @@ fn generated_runs_do_all_sorts_of_steps() {
         let Some((program, readings)) = accepted(seed, Aim::Accepted) else {
             continue;
         };
-        let mut state = State::start(&program);
-        let mut ready = Vec::new();
-        for step_number in 0..40 {
-            ready_steps(&program, &readings, &state, &mut ready);
-            if ready.is_empty() {
-                break;
-            }
-            let step = ready[step_number % ready.len()];
+        follow(&program, &readings, |step| {
             *counts.entry(name_of(&program, &step)).or_insert(0) += 1;
-            take_step(&program, &readings, &mut state, step);
-        }
+        });
     }
     for name in [
         "assignment",
@@ -139,6 +146,13 @@ fn generated_runs_do_all_sorts_of_steps() {
             "{name} in {counts:?}"
         );
     }
+}
+
+/// Whether an output's absence passes in one order of at most 40 steps.
+fn passes_absence(program: &Program, readings: &Readings) -> bool {
+    let mut passes = false;
+    follow(program, readings, |step| passes |= step.passes_absence());
+    passes
 }
 
 /// The sort of a step.
@@ -175,6 +189,7 @@ type Result3<'a> = (
     &'a [u32],
     &'a [i32],
     &'a [u32],
+    &'a [u8],
 );
 
 /// What a run answers and leaves.
@@ -188,6 +203,7 @@ fn result3(ran: &Ran) -> Result3<'_> {
         &ran.places,
         &ran.numbers,
         &ran.counts,
+        &ran.output_marks,
     )
 }
 
@@ -250,10 +266,11 @@ fn choices_agree(seed: u64, small: bool) -> Option<u64> {
 fn without_alt_all_orders_agree() {
     let mut agreeing = 0;
     let mut with_choice = 0;
+    let mut with_absence = 0;
     for seed in 0..800 {
         let input = generate(seed, true, Some(Aim::WithoutAlt));
         let (table, sheet) = split_input(&input.bytes);
-        let Ok(program) = check_bytes(table) else {
+        let Some((program, readings)) = accepted(seed, Aim::WithoutAlt) else {
             continue;
         };
         assert!(!program.has_alt());
@@ -266,6 +283,7 @@ fn without_alt_all_orders_agree() {
             }) => {
                 agreeing += 1;
                 with_choice += u32::from(orders > 1);
+                with_absence += u32::from(orders > 1 && passes_absence(&program, &readings));
                 let run = answer_bytes(table, sheet, &[], BUDGET_LIMIT, BUFFER_LENGTHS);
                 let Answer::Ran(run) = run else {
                     panic!("refused after it was explored: seed {seed}");
@@ -276,8 +294,8 @@ fn without_alt_all_orders_agree() {
         }
     }
     assert!(
-        agreeing >= 300 && with_choice >= 100,
-        "{agreeing} {with_choice}"
+        agreeing >= 300 && with_choice >= 100 && with_absence >= 40,
+        "{agreeing} {with_choice} {with_absence}"
     );
 }
 

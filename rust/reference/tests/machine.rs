@@ -209,7 +209,8 @@ fn strips_follow_by_capacity() {
         cell,1,0,0\ncell,1,1,0\nmark,1,0,0\nmark,1,1,0\nstate,0,0,0\nstate,1,0,0\nstate,2,0,0\n\
         state,3,0,2\nstate,4,0,0\nstate,5,0,0\nstate,6,0,2\nstate,7,0,0\nstate,8,0,0\n\
         state,9,0,2\nstate,10,0,0\nstate,11,0,0\nstrip,0,0,5\nstrip,0,1,0\nstrip,0,2,0\n\
-        strip,0,3,0\nstrip,2,0,6\nstrip,2,1,0\ncount,0,0,1\ncount,2,0,1\n";
+        strip,0,3,0\nstrip,2,0,6\nstrip,2,1,0\nomark,0,0,1\nomark,0,1,0\nomark,0,2,0\nomark,0,3,0\n\
+        omark,2,0,1\nomark,2,1,0\ncount,0,0,1\ncount,2,0,1\n";
     assert_eq!(printed(&answer, true), wanted);
 }
 

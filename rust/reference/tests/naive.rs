@@ -3,8 +3,8 @@
 
 use reference::generate::{generate, Aim};
 use reference::kinds::{
-    fields_of, Field, ALT, ASSIGNMENT, FROM_HOST, GUARD, IF, INNER, INPUT, OUTPUT, PAR, SEQ, SKIP,
-    TO_HOST, WHILE,
+    fields_of, Field, ALT, ASSIGNMENT, ELEMENT, FROM_HOST, GUARD, IF, INNER, INPUT, OUTPUT, PAR,
+    SEQ, SKIP, TO_HOST, WHILE,
 };
 use reference::printing::split_input;
 use reference::program::Program;
@@ -93,10 +93,16 @@ fn input_element(program: &Program, state: &State, row: usize) -> Result<usize, 
     Ok(element)
 }
 
-/// Whether an output has its values, and the channel element.
+/// Whether an output has what it passes, and the channel element: its expression's value, or an
+/// element inside its array, set or not.
 fn output_element(program: &Program, state: &State, row: usize) -> Result<usize, Reason> {
     let element = number_named(program, &state.cells, row)?;
-    value(program, &state.cells, program.rows[row].c as usize)?;
+    let expression = program.rows[row].c as usize;
+    if program.rows[expression].kind == ELEMENT {
+        number_named(program, &state.cells, expression)?;
+    } else {
+        value(program, &state.cells, expression)?;
+    }
     Ok(element)
 }
 

@@ -63,6 +63,38 @@ pub fn deep_subscript() -> Vec<[i32; 4]> {
     rows
 }
 
+/// An assignment of GIVEN v[GIVEN v[...]], 1,020 rows deep, in a variable of two cells.
+pub fn deep_given() -> Vec<[i32; 4]> {
+    let mut rows = vec![[1, 2, 0, 0], [22, 0, 2, 3], [10, 0, 0, 0]];
+    while rows.len() < 1_020 {
+        let row = rows.len() as i32;
+        rows.extend([[12, 2, row + 1, 0], [11, 0, row + 2, 0]]);
+    }
+    rows.push([10, 0, 0, 0]);
+    rows
+}
+
+/// Four channels to the host of 256 each, in a PAR of loops that write absences until all is full.
+pub fn absences_everywhere() -> Vec<[i32; 4]> {
+    let mut rows = vec![[2, 1, 2, 256]; 4];
+    rows.extend([[1, 1, 0, 0], [31, 6, 0, 0]]);
+    let mut links = Vec::new();
+    for channel in 0..4 {
+        member(&mut rows, &mut links, |r| {
+            vec![
+                [33, r + 1, r + 2, 0],
+                [10, 1, 0, 0],
+                [24, channel, r + 3, r + 4],
+                [10, 0, 0, 0],
+                [11, 4, r + 5, 0],
+                [10, 0, 0, 0],
+            ]
+        });
+    }
+    tie(&mut rows, &links);
+    rows
+}
+
 /// An IF in an IF in ..., 1,020 rows deep, with SKIP innermost.
 pub fn deep_ifs() -> Vec<[i32; 4]> {
     let mut rows = Vec::new();
@@ -134,6 +166,13 @@ fn member(
     rows.extend(process(at as i32 + 1));
 }
 
+/// Ties the links of a PAR together.
+fn tie(rows: &mut [[i32; 4]], links: &[usize]) {
+    for pair in links.windows(2) {
+        rows[pair[0]][2] = pair[1] as i32;
+    }
+}
+
 /// 1,023 rows, 256 cells, 256 channel elements, 8 channels from the host and 8 to it, capacities of 1,024.
 pub fn largest() -> Vec<[i32; 4]> {
     let mut rows: Vec<[i32; 4]> = (0..4).map(|_| [1, 64, 0, 0]).collect();
@@ -170,9 +209,7 @@ pub fn largest() -> Vec<[i32; 4]> {
         });
     }
     member(&mut rows, &mut links, |_| vec![[21, 0, 0, 0]]);
-    for pair in links.windows(2) {
-        rows[pair[0]][2] = pair[1] as i32;
-    }
+    tie(&mut rows, &links);
     rows
 }
 

@@ -8,14 +8,15 @@ use crate::kinds::{ALT, CHOICE, GUARD, IF, OPTION};
 const NOTHING: Slot = Slot::Number(0);
 
 impl Maker<'_> {
-    /// A boolean: a comparison, some expression, or a literal.
+    /// A boolean: a comparison, some expression, GIVEN, or a literal.
     pub fn boolean(&mut self, rights: &Rights) -> usize {
-        match self.random.below(10) {
+        match self.random.below(12) {
             0..=1 => {
                 let value = self.random.pick(&[0, 1, 1, 2, -1]);
                 self.literal(value)
             }
-            2..=3 => self.expression(rights, self.style.depth),
+            2..=3 => self.given(rights, 0),
+            4..=5 => self.expression(rights, self.style.depth),
             _ => {
                 let operator = self.random.between(8, 15) as i32;
                 let left = self.expression(rights, 1);

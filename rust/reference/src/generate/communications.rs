@@ -35,7 +35,7 @@ impl Maker<'_> {
             let component = self.random.below(count);
             let done = match self.random.below(10) {
                 0..=4 => self.communication(&mut parts, &mut actions, component),
-                5..=6 => self.served(&mut parts, &mut actions, component),
+                5..=7 => self.served(&mut parts, &mut actions, component),
                 _ => false,
             };
             if !done {
@@ -205,7 +205,7 @@ impl Maker<'_> {
             rights.join(&[inside]);
             return Some(self.counted(rights, counter, times, input));
         }
-        if self.style.alt && self.random.chance(35) {
+        if self.style.alt && self.random.chance(60) {
             let input = self.input_from(rights, element)?;
             let process = self.simple(rights);
             let guard = self.guard(rights, input);

@@ -2,8 +2,9 @@
 
 use super::random::Random;
 use crate::kinds::{
-    declaration_count, fields_of, Field, ALT, CHANNEL, CHOICE, DYADIC, FROM_HOST, GUARD, IF, INNER,
-    INPUT, LITERAL, MEMBER, OPTION, OUTPUT, PAR, SEQ, SKIP, TO_HOST, VARIABLE, WHILE,
+    declaration_count, fields_of, Field, ALT, CHANNEL, CHOICE, DYADIC, ELEMENT, FROM_HOST, GIVEN,
+    GUARD, IF, INNER, INPUT, LITERAL, MEMBER, MONADIC, OPTION, OUTPUT, PAR, SEQ, SKIP, TO_HOST,
+    VARIABLE, WHILE,
 };
 use crate::table::Row;
 
@@ -36,7 +37,7 @@ fn pick_field(
 /// Damages one row in a way that is refused as 4.
 pub fn damage_kinds(random: &mut Random, rows: &mut Vec<Row>) {
     let count = rows.len();
-    match random.below(6) {
+    match random.below(7) {
         0 => {
             let kinds = [
                 0,
@@ -74,6 +75,7 @@ pub fn damage_kinds(random: &mut Random, rows: &mut Vec<Row>) {
             }
         }
         4 => damage_channel(random, rows),
+        5 => damage_given(random, rows),
         _ => damage_name(random, rows),
     }
 }
@@ -112,6 +114,17 @@ fn damage_channel(random: &mut Random, rows: &mut [Row]) {
         _ if random.chance(50) => channel.c = random.pick(&[1, 4, -1]),
         _ => channel.b = random.pick(&[3, -1]),
     }
+}
+
+/// Makes some expression GIVEN of any row, or of none (which is refused as 5).
+fn damage_given(random: &mut Random, rows: &mut [Row]) {
+    let is_operation = |row: usize| matches!(rows[row].kind, MONADIC | DYADIC | ELEMENT);
+    let Some(row) = random.pick_where(rows.len(), is_operation) else {
+        return;
+    };
+    let any = random.below(rows.len()) as i32;
+    let operand = random.pick(&[any, any, row as i32, row as i32 + 1, -1, rows.len() as i32]);
+    rows[row] = Row::new(MONADIC, GIVEN, operand, 0);
 }
 
 /// Makes a name no declaration of the sort and role given.
@@ -234,8 +247,8 @@ pub fn mutate_rows(random: &mut Random, rows: &mut Vec<Row>) {
     match random.below(8) {
         0 => {
             let kinds = [
-                LITERAL, DYADIC, SKIP, INPUT, OUTPUT, SEQ, PAR, IF, WHILE, ALT, MEMBER, CHOICE,
-                OPTION, GUARD,
+                LITERAL, ELEMENT, MONADIC, DYADIC, SKIP, INPUT, OUTPUT, SEQ, PAR, IF, WHILE, ALT,
+                MEMBER, CHOICE, OPTION, GUARD,
             ];
             rows[row].kind = random.pick(&kinds);
         }

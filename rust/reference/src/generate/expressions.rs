@@ -4,7 +4,8 @@ use super::maker::Maker;
 use super::rights::Rights;
 use super::tree::Slot;
 use crate::kinds::{
-    ASSIGNMENT, DYADIC, ELEMENT, FROM_HOST, INNER, INPUT, LITERAL, MONADIC, OUTPUT, SKIP, TO_HOST,
+    ASSIGNMENT, DYADIC, ELEMENT, FROM_HOST, GIVEN, INNER, INPUT, LITERAL, MONADIC, OUTPUT, SKIP,
+    TO_HOST,
 };
 use crate::limits::Part;
 
@@ -57,13 +58,14 @@ impl Maker<'_> {
         if depth == 0 || self.random.chance(40) {
             return self.leaf(rights, depth);
         }
-        match self.random.below(20) {
+        match self.random.below(23) {
             0..=2 => {
                 let operator = i32::from(self.random.chance(40));
                 let operand = self.expression(rights, depth - 1);
                 self.monadic(operator, operand)
             }
-            3..=4 => {
+            3..=5 => self.given(rights, depth - 1),
+            6..=7 => {
                 let operator = self.random.pick(&[3, 4]);
                 let left = self.expression(rights, depth - 1);
                 let right = match !self.random.chance(10 * self.style.carelessness) {
@@ -97,6 +99,23 @@ impl Maker<'_> {
             Some(cell) if self.random.chance(60) => self.element(rights, cell, depth),
             _ => self.some_literal(),
         }
+    }
+
+    /// GIVEN of some cell that may be read, set or not; a literal if there is none.
+    pub fn given(&mut self, rights: &Rights, depth: usize) -> usize {
+        match self.any_element(rights, depth) {
+            Some(element) => self.monadic(GIVEN, element),
+            None => self.some_literal(),
+        }
+    }
+
+    /// An element: some cell that may be read, set or not; often one that is likely to be unset.
+    fn any_element(&mut self, rights: &Rights, depth: usize) -> Option<usize> {
+        let cells = rights.read.len();
+        let unset = self.random.chance(75);
+        let may = |cell: usize| rights.read[cell] && !(unset && rights.set[cell]);
+        let cell = self.random.pick_where(cells, may)?;
+        Some(self.element(rights, cell, depth))
     }
 
     /// An element: a cell that is read.
@@ -217,12 +236,16 @@ impl Maker<'_> {
         )
     }
 
-    /// An output to this channel element.
+    /// An output to this channel element; at times of a cell that may be unset.
     pub fn output_to(&mut self, rights: &Rights, element: usize) -> usize {
         let part = part_of(&self.layout.channels, element);
         let whole = whole(&rights.output, part);
         let subscript = self.subscript(rights, part, element - part.first, whole, 2);
-        let expression = self.expression(rights, self.style.depth - 1);
+        let element = match self.random.chance(50) {
+            true => self.any_element(rights, self.style.depth - 1),
+            false => None,
+        };
+        let expression = element.unwrap_or_else(|| self.expression(rights, self.style.depth - 1));
         let name = Slot::Number(part.row as i32);
         self.tree
             .add(OUTPUT, name, Slot::Node(subscript), Slot::Node(expression))

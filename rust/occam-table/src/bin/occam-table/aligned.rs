@@ -1,8 +1,9 @@
-//! A run as aligned columns, to be read by people. An unset cell is shown empty.
+//! A run as aligned columns, to be read by people. An unset cell and an absence are shown empty.
 
 use crate::kinds::kind_name;
 use crate::program::Program;
 use crate::ready::ready_words;
+use crate::sheet_lines::value_or_empty;
 use occam_table::{Outcome, RowState, Run};
 
 /// Columns: each is as wide as its widest entry; numbers stand to the right, words to the left.
@@ -78,19 +79,20 @@ fn cells(program: &Program, run: &Run) -> String {
     let mut columns = Columns::new(&["variable", "cell", "value"]);
     for variable in program.variables() {
         for (number, cell) in program.part(variable).enumerate() {
-            let value = run.cell(cell).map_or(String::new(), |z| z.to_string());
+            let value = value_or_empty(run.cell(cell));
             columns.add(&[variable.to_string(), number.to_string(), value]);
         }
     }
     columns.text()
 }
 
-/// Each host output.
+/// Each host output, absences empty.
 fn outputs(program: &Program, run: &Run) -> String {
     let mut columns = Columns::new(&["channel", "position", "value"]);
     for (channel, list) in program.output_channels().zip(run.lists()) {
-        for (position, value) in list.iter().enumerate() {
-            columns.add(&[channel.to_string(), position.to_string(), value.to_string()]);
+        for (position, message) in list.into_iter().enumerate() {
+            let value = value_or_empty(message);
+            columns.add(&[channel.to_string(), position.to_string(), value]);
         }
     }
     columns.text()

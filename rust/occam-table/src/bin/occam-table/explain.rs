@@ -20,8 +20,8 @@ const MEANINGS: [Meaning; 11] = [
     Meaning {
         summary: "a lent buffer is too short",
         place: "0",
-        advice: "Only a program that calls the library itself can see this; the six buffers must\n\
-                 be at least 256, 256, 1024, 8, 1024 and 8 long.",
+        advice: "Only a program that calls the library itself can see this; the seven buffers\n\
+                 must be at least 256, 256, 1024, 8, 1024, 8 and 1024 long.",
         help: "lend buffers that are at least as long as these limits",
     },
     Meaning {
@@ -45,8 +45,8 @@ const MEANINGS: [Meaning; 11] = [
         place: "the lowest row at fault, counted from 0 (row r is line r + 2)",
         advice: "The kind is unknown; or a variable or channel comes after another kind; or an\n\
                  operator, size, role or capacity is out of range; or a name is not the row of a\n\
-                 declaration of the sort and role wanted; or a field that the kind does not use\n\
-                 is not 0.",
+                 declaration of the sort and role wanted; or operator 2, GIVEN, has an operand\n\
+                 that is no element; or a field that the kind does not use is not 0.",
         help: "put into that field what is expected there",
     },
     Meaning {

@@ -38,15 +38,15 @@ const RUN: &str = "\
 occam-table run TABLE SHEET [--budget N] [--choices A,B,C] [--full] [--table | --plain]
 
 Runs a table on a sheet of readings and prints the lines of the sheet runner: outcome and steps,
-each cell (nothing after the last comma if it is unset), each host output, each stopped row. A
-refusal is one line on standard output, and in plain words on standard error. A `-` in place of
-TABLE and SHEET is standard input: a table, a line `=`, and readings; for one of the two it is
-that one.
+each cell, each host output, each stopped row. After the last comma there is nothing for an unset
+cell, and for a host output that is an absence. A refusal is one line on standard output, and in
+plain words on standard error. A `-` in place of TABLE and SHEET is standard input: a table, a
+line `=`, and readings; for one of the two it is that one.
 
   --budget N        at most N steps (default and greatest: 65536)
   --choices A,B,C   which ready step to take, in turn (default: always the first)
   --full            also each row's state and each channel's place in the readings
-  --table           aligned columns to be read by people; an unset cell is shown empty
+  --table           aligned columns to be read by people; unset cells and absences are empty
   --plain           the sheet runner's lines alone, also for a refusal: refused,NUMBER,PLACE,0
 Exit status: 0 it ran (whatever the outcome), 1 refused, 2 wrong use or an unreadable file.
 

@@ -24,6 +24,9 @@ pub const CHOICE: i32 = 41;
 pub const OPTION: i32 = 42;
 pub const GUARD: i32 = 43;
 
+/// The monadic operator whose operand is an element.
+pub const GIVEN: i32 = 2;
+
 /// Roles of a channel.
 pub const INNER: i32 = 0;
 pub const FROM_HOST: i32 = 1;
@@ -75,7 +78,7 @@ pub fn kind_of(number: i32) -> Option<(&'static str, [Field; 3])> {
         MONADIC => (
             "monadic",
             [
-                Within("operator", 0, 1),
+                Within("operator", 0, GIVEN),
                 Refers("operand", EXPRESSION),
                 Unused,
             ],

@@ -178,10 +178,11 @@ fn value_words(value: Option<i32>) -> String {
 }
 
 /// An output list.
-fn list_words(list: &[i32]) -> String {
-    let numbers: Vec<String> = list.iter().map(i32::to_string).collect();
+fn list_words(list: &[Option<i32>]) -> String {
+    let word = |message: &Option<i32>| message.map_or("absent".to_string(), |z| z.to_string());
+    let words: Vec<String> = list.iter().map(word).collect();
     match list {
         [] => "nothing".to_string(),
-        _ => numbers.join(" "),
+        _ => words.join(" "),
     }
 }

@@ -22,21 +22,27 @@ pub fn page(program: &Program, run: &Run, full: bool) -> String {
 fn cells(text: &mut String, program: &Program, run: &Run) -> std::fmt::Result {
     for variable in program.variables() {
         for (number, cell) in program.part(variable).enumerate() {
-            let value = run.cell(cell).map_or(String::new(), |z| z.to_string());
+            let value = value_or_empty(run.cell(cell));
             writeln!(text, "var,{variable},{number},{value}")?;
         }
     }
     Ok(())
 }
 
-/// Each host output: channel, position, value.
+/// Each host output: channel, position, value or empty.
 fn outputs(text: &mut String, program: &Program, run: &Run) -> std::fmt::Result {
     for (channel, list) in program.output_channels().zip(run.lists()) {
-        for (position, value) in list.iter().enumerate() {
+        for (position, message) in list.into_iter().enumerate() {
+            let value = value_or_empty(message);
             writeln!(text, "out,{channel},{position},{value}")?;
         }
     }
     Ok(())
+}
+
+/// A value, or nothing for an unset cell or an absence.
+pub fn value_or_empty(value: Option<i32>) -> String {
+    value.map_or(String::new(), |z| z.to_string())
 }
 
 /// Each stopped row with its reason.

@@ -1,6 +1,6 @@
 //! The value of an expression in a state, for words about a state. It settles no answer.
 
-use crate::kinds::{DYADIC, ELEMENT, LITERAL, MONADIC};
+use crate::kinds::{DYADIC, ELEMENT, GIVEN, LITERAL, MONADIC};
 use crate::program::Program;
 
 /// The value of an expression; none if it has none.
@@ -9,6 +9,7 @@ pub fn value(program: &Program, cells: &[Option<i32>], expression: i32) -> Optio
     match row.kind {
         LITERAL => Some(row.a()),
         ELEMENT => cells[position(program, cells, row.a(), row.b())?],
+        MONADIC if row.a() == GIVEN => given(program, cells, row.b()),
         MONADIC => monadic(row.a(), value(program, cells, row.b())?),
         DYADIC => {
             let left = value(program, cells, row.b())?;
@@ -45,7 +46,14 @@ fn position(
     Some(program.part(usize::try_from(declaration).ok()?).start + number)
 }
 
-/// A monadic operator's value.
+/// GIVEN of an element: 1 if its cell is set, 0 if not.
+fn given(program: &Program, cells: &[Option<i32>], element: i32) -> Option<i32> {
+    let element = program.row(element)?;
+    let cell = position(program, cells, element.a(), element.b())?;
+    Some(i32::from(cells[cell].is_some()))
+}
+
+/// A monadic operator's value, of minus or NOT.
 fn monadic(operator: i32, operand: i32) -> Option<i32> {
     match operator {
         0 => operand.checked_neg(),
@@ -100,5 +108,22 @@ mod tests {
         assert_eq!(value(&program, &[Some(2), Some(1)], 1), Some(1));
         assert_eq!(subscript(&program, &[], 0, 5), None);
         assert_eq!(subscript(&program, &[], 0, 3), Some(1));
+    }
+
+    #[test]
+    fn given_in_a_state() {
+        // GIVEN x[1], then GIVEN x[2] of two cells
+        let program = Program::new(&[
+            [1, 2, 0, 0],
+            [12, 2, 2, 0],
+            [11, 0, 3, 0],
+            [10, 1, 0, 0],
+            [12, 2, 5, 0],
+            [11, 0, 6, 0],
+            [10, 2, 0, 0],
+        ]);
+        assert_eq!(value(&program, &[None, None], 1), Some(0));
+        assert_eq!(value(&program, &[None, Some(0)], 1), Some(1));
+        assert_eq!(value(&program, &[Some(1), Some(0)], 4), None);
     }
 }

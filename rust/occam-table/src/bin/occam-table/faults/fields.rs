@@ -1,6 +1,9 @@
-//! Refusal 4: kind, late declaration, number, name or unused field.
+//! Refusal 4: kind, late declaration, number, name, operand of GIVEN or unused field.
 
-use crate::kinds::{kind_of, Field, CHANNEL, FIELD_NAMES, FROM_HOST, INNER, TO_HOST, VARIABLE};
+use crate::kinds::{
+    kind_of, Field, CHANNEL, ELEMENT, FIELD_NAMES, FROM_HOST, GIVEN, INNER, MONADIC, TO_HOST,
+    VARIABLE,
+};
 use crate::program::{Program, Row};
 
 /// Words about each fault of this sort in a row.
@@ -21,8 +24,11 @@ pub fn at_fault(program: &Program, index: usize) -> Vec<String> {
             words.push(wrong_field(program, at, field, number));
         }
     }
-    if words.is_empty() && row.kind == CHANNEL {
-        words.extend(wrong_for_role(row));
+    match row.kind {
+        _ if !words.is_empty() => {}
+        CHANNEL => words.extend(wrong_for_role(row)),
+        MONADIC => words.extend(wrong_for_operator(program, row)),
+        _ => {}
     }
     words
 }
@@ -64,6 +70,19 @@ fn wrong_field(program: &Program, at: usize, field: Field, number: i32) -> Strin
         };
     }
     words
+}
+
+/// Words about an operand of GIVEN that is a row of another kind than an element.
+fn wrong_for_operator(program: &Program, row: &Row) -> Option<String> {
+    let operand = program.row(row.b())?;
+    (row.a() == GIVEN && operand.kind != ELEMENT).then(|| {
+        format!(
+            "field b (operand) is {}; expected an element (kind 11) for operator 2, GIVEN; \
+             row {} is {operand}",
+            row.b(),
+            row.b()
+        )
+    })
 }
 
 /// Words about a channel whose elements or capacity do not fit its role.

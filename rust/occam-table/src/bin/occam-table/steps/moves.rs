@@ -25,7 +25,7 @@ pub enum Taker {
     Alt(usize, Vec<usize>),
 }
 
-/// One step.
+/// One step. Where a value passed, none is an absence.
 #[derive(Clone, Debug, PartialEq, Eq)]
 pub enum Move {
     Stopped {
@@ -164,7 +164,7 @@ impl Look<'_> {
                 .program
                 .output_channels()
                 .position(|row| row == channel)?;
-            let value = self.after.lists[list].last().copied();
+            let value = self.after.lists[list].last().copied().flatten();
             return Some(Move::Wrote {
                 row: output,
                 channel,
@@ -173,7 +173,8 @@ impl Look<'_> {
         }
         let taker = self.taker(channel, element.number)?;
         let cell = self.target(&taker);
-        let value = self.cell_value(cell);
+        let expression = self.program.rows[output].c();
+        let value = value(self.program, &self.before.cells, expression);
         Some(Move::Passed {
             output,
             element,

@@ -27,9 +27,9 @@ pub fn of_move(program: &Program, step: &Move) -> String {
         } => format!(
             "{} passed {} on {} to {}",
             row_words(program, *output),
-            passed_words(*cell, *value),
+            message_words(*value),
             named_words(program, *element),
-            taker_words(program, taker, *cell)
+            taker_words(program, taker, *cell, *value)
         ),
         Move::Read {
             taker,
@@ -44,7 +44,7 @@ pub fn of_move(program: &Program, step: &Move) -> String {
         } => format!(
             "{} wrote {} to the host on channel {channel}",
             row_words(program, *row),
-            value_words(*value)
+            message_words(*value)
         ),
         Move::Tested { row, held } => tested_words(program, *row, *held),
         Move::Chose { row, choice } => match choice {
@@ -85,24 +85,33 @@ pub fn named_words(program: &Program, named: Named) -> String {
     }
 }
 
-/// A value; none is unset.
+/// A value; none if it is not known.
 fn value_words(value: Option<i32>) -> String {
     value.map_or("no value".to_string(), |z| z.to_string())
 }
 
-/// What passed on a channel; its cell tells it, if it is known which.
-fn passed_words(cell: Option<Named>, value: Option<i32>) -> String {
-    match cell {
-        Some(_) => value_words(value),
-        None => "a value".to_string(),
+/// What passed on a channel: a value, or an absence.
+fn message_words(message: Option<i32>) -> String {
+    message.map_or("an absence".to_string(), |z| z.to_string())
+}
+
+/// What a message did to its cell, if it is known which; a value went `into` it.
+fn cell_words(program: &Program, into: &str, cell: Option<Named>, message: Option<i32>) -> String {
+    match (cell, message) {
+        (Some(cell), Some(_)) => format!("{into} {}", named_words(program, cell)),
+        (Some(cell), None) => format!(": {} is unset", named_words(program, cell)),
+        (None, _) => String::new(),
     }
 }
 
-/// Who took a value, and into which cell.
-fn taker_words(program: &Program, taker: &Taker, cell: Option<Named>) -> String {
-    let into = cell.map_or(String::new(), |cell| {
-        format!(", into {}", named_words(program, cell))
-    });
+/// Who took a message, and into which cell.
+fn taker_words(
+    program: &Program,
+    taker: &Taker,
+    cell: Option<Named>,
+    message: Option<i32>,
+) -> String {
+    let into = cell_words(program, ", into", cell, message);
     match taker {
         Taker::Input(row) => format!("{}{into}", row_words(program, *row)),
         Taker::Alt(alt, options) => format!(
@@ -126,11 +135,7 @@ fn read_words(
         (Some(_), None) => "an absent reading".to_string(),
         (None, _) => "a reading".to_string(),
     };
-    let into = match (cell, value) {
-        (Some(cell), Some(_)) => format!(" into {}", named_words(program, cell)),
-        (Some(cell), None) => format!(": {} is unset", named_words(program, cell)),
-        (None, _) => String::new(),
-    };
+    let into = cell_words(program, " into", cell, value);
     let (who, option) = match taker {
         Taker::Input(row) => (*row, String::new()),
         Taker::Alt(alt, options) => (

@@ -1,0 +1,77 @@
+//! What the inputs from seeds make runs do: GIVEN, and absences that pass to inputs, to options of
+//! an ALT and to the host, each in sufficient number.
+
+use fuzz::inputs::versions;
+use fuzz::Given;
+use reference::check_bytes;
+use reference::kinds::{GIVEN, MONADIC};
+use reference::sheet::readings_of_bytes;
+use reference::state::State;
+use reference::steps::{ready_steps, take_step, Step};
+use reference::table::Row;
+use std::collections::BTreeMap;
+
+const SEEDS: u64 = 2_500;
+const MOST_STEPS: usize = 200;
+
+/// Counts inputs by what they have or make a run do.
+type Tally = BTreeMap<&'static str, u64>;
+
+/// Whether a row is GIVEN of an element.
+fn is_given(row: &Row) -> bool {
+    row.kind == MONADIC && row.a == GIVEN
+}
+
+/// Where an output's absence goes in a step, if one passes.
+fn absence(step: &Step) -> Option<&'static str> {
+    let place = match step {
+        Step::HostWrite { .. } => "absence to the host",
+        Step::Option { .. } => "absence to an option",
+        _ => "absence to an input",
+    };
+    step.passes_absence().then_some(place)
+}
+
+/// What the beginning of an input's run does; nothing if it is refused.
+fn deeds(given: &Given) -> Option<Vec<&'static str>> {
+    let program = check_bytes(&given.table).ok()?;
+    let readings = readings_of_bytes(&given.sheet, &program.layout.readings).ok()?;
+    let mut deeds = Vec::new();
+    if program.rows.iter().any(is_given) {
+        deeds.push("GIVEN");
+    }
+    let mut state = State::start(&program);
+    let mut ready = Vec::new();
+    let most = MOST_STEPS.min(given.budget as usize);
+    let choices = given.choices.iter().copied().chain(std::iter::repeat(0));
+    for choice in choices.take(most) {
+        ready_steps(&program, &readings, &state, &mut ready);
+        let Some(step) = ready.get(usize::from(choice) % ready.len().max(1)) else {
+            break;
+        };
+        deeds.extend(absence(step));
+        take_step(&program, &readings, &mut state, *step);
+    }
+    deeds.sort_unstable();
+    deeds.dedup();
+    Some(deeds)
+}
+
+#[test]
+fn absences_pass_and_given_asks() {
+    let mut tally = Tally::new();
+    for given in (0..SEEDS).flat_map(versions) {
+        for deed in deeds(&given).unwrap_or_default() {
+            *tally.entry(deed).or_default() += 1;
+        }
+    }
+    println!("{tally:?}");
+    for (deed, least) in [
+        ("GIVEN", 1_000),
+        ("absence to an input", 200),
+        ("absence to an option", 50),
+        ("absence to the host", 400),
+    ] {
+        assert!(tally.get(deed) >= Some(&least), "{deed} in {tally:?}");
+    }
+}
