@@ -5,7 +5,7 @@ use mathlib.Core.List.{List, [], _∷_, List·Memᴰ, List·Memᴰ·head, List·
 use Prim.Native.Nat.{ℕ, zero, suc, _<_}
 use lib.ListN.{length, getD, set, length-set}
 use lib.Seq.{getD-set-same}
-use Rattle.meaning.specs.Tree.{Action, stop, skip, sequence, parallel, Process, node, Processes, empty, also, rowOf, rowsIn, rowsBeneath, assign, input, output, conditional, loop, alternation}
+use Rattle.meaning.specs.Tree.{Action, stop, skip, sequence, parallel, Process, node, Processes, empty, also, rowOf, rowsIn, rowsBeneath, assign, input, output, conditional, loop, alternation, block}
 use Rattle.meaning.specs.State.{stateOf, makeIdle, anyOf}
 use Rattle.meaning.specs.Settle.{statesOf, Mode, byStep, mode, starts, nextMode, complete, endsWhenClosed, settleRunning, settleEach, settle, allOf, isIdleOrEnded, isEnded}
 use Rattle.agreement.proofs.Frame.{body-node, body-shape, walk-none, walk-also, row-in, walk-local, see-local, zeros-local, Off, length-local, off-look, swap}
@@ -95,6 +95,7 @@ loop-never (output c a b) e = refl
 loop-never (conditional ts) e = refl
 loop-never (loop a b) e = refl
 loop-never (alternation bs) e = refl
+loop-never (block v) e = absurd (true≢false e)
 
 -- ---- modes
 

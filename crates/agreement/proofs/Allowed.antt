@@ -13,7 +13,7 @@ use Rattle.meaning.specs.declared.Index.{Index}
 use Rattle.meaning.specs.declared.Index.the-variants.{At, Fails}
 use Rattle.meaning.specs.Basics.{ifElse}
 use Rattle.meaning.specs.Declarations.{Variable, Channel}
-use Rattle.meaning.specs.Tree.{Expr, ChannelInput, IfChoice, AltOption, Action, stop, skip, sequence, parallel, assign, input, output, conditional, loop, alternation, Process, node, actionOf, processesIn, rowsBeneath}
+use Rattle.meaning.specs.Tree.{Expr, ChannelInput, IfChoice, AltOption, Action, stop, skip, sequence, parallel, assign, input, output, conditional, loop, alternation, block, Process, node, actionOf, processesIn, rowsBeneath}
 use Rattle.meaning.specs.Values.{Message, isTrue, value, index, Sent, gives, lacking, passed}
 use Rattle.meaning.specs.State.{State, Program, processAt, Write, writeCell, writePlace, writeOutput, Effect}
 use Rattle.meaning.specs.Labels.{Label, own, pass, takeOption, takeWithOutput}
@@ -200,6 +200,7 @@ module _ (P : Program) (sheet : Sheet) (s : State) where
   sound r (conditional ts) g = sound-tests r ts (λ q h. if-true g h) (λ k h. stopping g (if-test h))
   sound r (loop e b) g = sound-while r b e g (value cells e) refl
   sound r (alternation bs) g = sound-select r bs g (optionsResult sheet bs (s .store)) (looked bs)
+  sound r (block v) g = tt
 
   split : (a b : Bool) → (a && b) ≡ true → (a ≡ true) × (b ≡ true)
   split true b e = (refl, e)

@@ -1,6 +1,6 @@
 -- A reached state has what the table declares: a state for each row, a message for each cell, a place for each channel from the host, and
 -- for each channel to the host a list of messages. Every step keeps it.
-use mathlib.Core.Path.{_≡_, sym, ap, subst, _∙_}
+use mathlib.Core.Path.{_≡_, ap, _∙_}
 use mathlib.Core.Option.{none, some}
 use mathlib.Core.List.{List, [], _∷_, _++_}
 use Prim.Native.Nat.{ℕ, suc}
@@ -8,12 +8,14 @@ use lib.IntN.{ℤ}
 use lib.ListN.{length, length-set, length-replicate}
 use Rattle.meaning.specs.Declarations.{totalCells, hostChannels}
 use Rattle.meaning.specs.Values.{Message}
-use Rattle.meaning.specs.State.{Store, State, program, writeCell, writePlace, writeOutput, write, writeAll, Effect}
+use Rattle.meaning.specs.State.{Store, State, program, whole, writeCell, writePlace, writeOutput, write, writeAll, Effect}
 use Rattle.meaning.specs.Labels.{Label}
 use Rattle.meaning.specs.Readings.{Sheet}
+use Rattle.meaning.specs.SettlingRules.{Settling}
 use Rattle.meaning.specs.Step.{Allows, Step, assignment, while-false, while-true, if-true, communication, host-read, host-write, alt-skip, alt-read, alt-communication, stopping}
 use Rattle.meaning.specs.Order.{Begins, Order, halt, next-step}
 use Rattle.agreement.specs.BufferClaims.{ReachedAsDeclared}
+use Rattle.agreement.proofs.SettlingData.{settling-places, settling-outputs, settling-length}
 use Rattle.agreement.proofs.OrdersCoherent.{orders-coherent}
 
 module _ (rows : List ℤ) (sheet : Sheet) where
@@ -44,8 +46,18 @@ module _ (rows : List ℤ) (sheet : Sheet) where
   effect-kept s x e (alt-communication {a} {m} g c d o h q w y) k = cell-kept a m (s .store) k
   effect-kept s x e (stopping g h) k = k
 
+  -- settling keeps how many they are
+  settling-kept : {s t : State} → Settling (whole (program rows)) s t → Kept (s .store) → Kept (t .store)
+  settling-kept p k =
+      let P = program rows in
+      record {
+        cells = settling-length P p ∙ k .cells;
+        places = ap length (settling-places P p) ∙ k .places;
+        outputs = ap length (settling-outputs P p) ∙ k .outputs;
+      }
+
   step-kept : (s : State) (x : Label) (t : State) → Step (program rows) sheet s x t → Kept (s .store) → Kept (t .store)
-  step-kept s x t h k = subst Kept (sym (h .leaves .stores)) (effect-kept s x (h .does) (h .allowed) k)
+  step-kept s x t h k = settling-kept (h .leaves .by-rules) (effect-kept s x (h .does) (h .allowed) k)
 
   order-kept : {s t : State} {l : List Label} → Order (program rows) sheet s l t → Kept (s .store) → Kept (t .store)
   order-kept halt k = k
@@ -54,10 +66,11 @@ module _ (rows : List ℤ) (sheet : Sheet) where
   begins-kept : (s : State) → Begins (program rows) s → Kept (s .store)
   unfolding program
   begins-kept s h =
+      settling-kept (h .by-rules)
       record {
-        cells = ap length (h .unset) ∙ length-replicate (totalCells rows) none;
-        places = ap length (h .unread) ∙ length-replicate (hostChannels 1 rows) 0;
-        outputs = ap length (h .unwritten) ∙ length-replicate (hostChannels 2 rows) [];
+        cells = length-replicate (totalCells rows) none;
+        places = length-replicate (hostChannels 1 rows) 0;
+        outputs = length-replicate (hostChannels 2 rows) [];
       }
 
 pub reached-as-declared : ReachedAsDeclared

@@ -17,7 +17,7 @@ use Rattle.meaning.specs.Buffers.{Buffers, tooShort, lent, mark, numberIn, capa
 use Rattle.meaning.proofs.LentLaws.{entry-is, lent-holds, lent-past, lent-length}
 use Rattle.agreement.specs.BufferClaims.{LongEnough, TooShortExactly, AsDeclared, HoldsAt, UntouchedPast, ToHost, outputNumber, stripBegins, listIn, BuffersHold}
 use Rattle.agreement.proofs.HostOutputs.{output-count, capacity-total, numbered-at}
-use Rattle.agreement.proofs.GivenLists.{strip-message, strips-length}
+use Rattle.agreement.proofs.WrittenLists.{strip-message, strips-length}
 use Rattle.agreement.proofs.TableLimits.{Limited}
 
 -- Long enough ----------------------------------------------------------------------------------------------------------------------

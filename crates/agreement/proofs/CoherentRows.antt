@@ -6,8 +6,8 @@ use mathlib.Core.List.{List, List·Memᴰ, List·Memᴰ·head, List·Memᴰ·tai
 use Prim.Native.Nat.{ℕ, zero, suc, _+_}
 use native.Mathlib.Omega.{arith}
 use lib.ListN.{getD}
-use Rattle.meaning.specs.Tree.{Expr, Action, sequence, parallel, loop, Process, node, Processes, empty, also, rowOf, rowsIn, rowsBeneath}
-use Rattle.meaning.specs.Settle.{Mode, inTurn, together, byStep, mode, isIdleOrEnded}
+use Rattle.meaning.specs.Tree.{Expr, Action, loop, Process, node, Processes, empty, also, rowOf, rowsIn, rowsBeneath}
+use Rattle.meaning.specs.Settle.{Mode, inTurn, together, byStep, mode, statesOf, isEnded, isIdleOrEnded, allOf, complete}
 use Rattle.meaning.specs.SettlingRules.{Among, All}
 use Rattle.agreement.specs.Coherence.{RowState, Before, AllIdle, NoneAtWork, OneByOne, AtMostOne, CoherentRows}
 use Rattle.agreement.proofs.Frame.{row-in}
@@ -20,7 +20,7 @@ use Rattle.agreement.proofs.Inside.{within-of, among-row, sub-rows}
 
 module _ {s : List ℕ} {k : Action} {r : ℕ} {ms : Processes} where
   mutual
-    good-inside : (p : Process) → Sub k r ms p → Good s p → Good s (node k r ms)
+    pub good-inside : (p : Process) → Sub k r ms p → Good s p → Good s (node k r ms)
     good-inside (node k′ r′ ps) self g = g
     good-inside (node k′ r′ ps) (inside u) (idle i) = idle (λ x m. i x (sub-rows m (node k′ r′ ps) (inside u)))
     good-inside (node k′ r′ ps) (inside u) (over i e q h o) = goodM-inside ps u (mode k′) h
@@ -74,7 +74,7 @@ not-by-step : (m : Mode) → isByStep m ≡ false → m ≡ byStep → ⊥
 not-by-step m f e = true≢false (sym (ap isByStep e) ∙ f)
 
 module _ {s : List ℕ} {k : Action} {r : ℕ} {ms : Processes} where
-  idle-beneath : Good s (node k r ms) → getD s r 0 ≡ 0 → AllIdle s (rowsBeneath ms)
+  pub idle-beneath : Good s (node k r ms) → getD s r 0 ≡ 0 → AllIdle s (rowsBeneath ms)
   idle-beneath (idle i) e = λ x m. i x (List·Memᴰ·tail m)
   idle-beneath (over i z q h o) e = absurd (omega arith)
   idle-beneath (run z h) e = absurd (omega arith)
@@ -90,18 +90,18 @@ module _ {s : List ℕ} {k : Action} {r : ℕ} {ms : Processes} where
   stopped-beneath (over i z q h (inr (m, j))) n e = j
   stopped-beneath (run z h) n e = absurd (omega arith)
 
-module _ {s : List ℕ} {r : ℕ} {ms : Processes} where
-  sequence-ended : Good s (node sequence r ms) → getD s r 0 ≡ 2 → All 2 s ms
-  sequence-ended (idle i) e = absurd (omega (arith, i r (List·Memᴰ·head refl)))
-  sequence-ended (over i z q h (inl (a, c, x))) e = all-ended ms s c
-  sequence-ended (over i z q h (inr (m, j))) e = absurd (not-by-step inTurn refl m)
-  sequence-ended (run z h) e = absurd (omega arith)
+ended-members : (m : Mode) (l : List ℕ) → isByStep m ≡ false → complete m l ≡ true → allOf isEnded l ≡ true
+ended-members inTurn l f c = c
+ended-members together l f c = c
+ended-members byStep l f c = absurd (true≢false f)
 
-  parallel-ended : Good s (node parallel r ms) → getD s r 0 ≡ 2 → All 2 s ms
-  parallel-ended (idle i) e = absurd (omega (arith, i r (List·Memᴰ·head refl)))
-  parallel-ended (over i z q h (inl (a, c, x))) e = all-ended ms s c
-  parallel-ended (over i z q h (inr (m, j))) e = absurd (not-by-step together refl m)
-  parallel-ended (run z h) e = absurd (omega arith)
+module _ {s : List ℕ} {r : ℕ} {ms : Processes} where
+  -- a SEQ, a PAR or a block
+  ended-with-all : {k : Action} → isByStep (mode k) ≡ false → Good s (node k r ms) → getD s r 0 ≡ 2 → All 2 s ms
+  ended-with-all f (idle i) e = absurd (omega (arith, i r (List·Memᴰ·head refl)))
+  ended-with-all {k} f (over i z q h (inl (a, c, x))) e = all-ended ms s (ended-members (mode k) (statesOf ms s) f c)
+  ended-with-all {k} f (over i z q h (inr (m, j))) e = absurd (not-by-step (mode k) f m)
+  ended-with-all f (run z h) e = absurd (omega arith)
 
   loop-ended : {c : Expr} {b : ℕ} → Good s (node (loop c b) r ms) → getD s r 0 ≡ 2 → AllIdle s (rowsBeneath ms)
   loop-ended (idle i) e = absurd (omega (arith, i r (List·Memᴰ·head refl)))
@@ -117,8 +117,9 @@ coherent-rows whole s g known outside =
       beneath-ended = λ a r ms i. ended-beneath (good-inside whole (within-of i) g);
       beneath-stopped = λ a r ms i. stopped-beneath (good-inside whole (within-of i) g);
       in-sequence = λ r ms i. one-by-one ms (members-good (good-inside whole (within-of i) g));
-      ended-sequence = λ r ms i. sequence-ended (good-inside whole (within-of i) g);
-      ended-parallel = λ r ms i. parallel-ended (good-inside whole (within-of i) g);
+      ended-sequence = λ r ms i. ended-with-all refl (good-inside whole (within-of i) g);
+      ended-block = λ v r ms i. ended-with-all refl (good-inside whole (within-of i) g);
+      ended-parallel = λ r ms i. ended-with-all refl (good-inside whole (within-of i) g);
       in-conditional = λ ts r ms i. at-most-one ms (members-good (good-inside whole (within-of i) g));
       in-alternation = λ bs r ms i. at-most-one ms (members-good (good-inside whole (within-of i) g));
       in-loop = λ e b r ms i. at-most-one ms (members-good (good-inside whole (within-of i) g));

@@ -6,11 +6,11 @@ use mathlib.Core.List.{List, _∷_, List·Memᴰ, List·Memᴰ·head, List·Mem�
 use Prim.Native.Nat.{ℕ, suc}
 use native.Mathlib.Omega.{arith}
 use lib.ListN.{length, getD, set, length-set}
-use lib.Seq.{set-comm, getD-set-other}
+use lib.Seq.{getD-set-other}
 use Rattle.meaning.specs.Tree.{Action, Process, node, Processes, also, rowOf, rowsIn, rowsBeneath}
 use Rattle.meaning.specs.State.{stateOf}
 use Rattle.meaning.specs.Settle.{statesOf, Mode, inTurn, together, byStep, mode, starts, nextMode, complete, settleRunning, settleEach, settle, allOf, isIdleOrEnded, isEnded}
-use Rattle.agreement.proofs.Frame.{body-node, row-in, walk-local, see-local, Off, length-local, off-look, off-put, swap}
+use Rattle.agreement.proofs.Frame.{body-node, row-in, walk-local, see-local, length-local, off-look, off-put, swap}
 use Rattle.agreement.proofs.Again.{Out, Sound, SoundM, sound-row, Idle, see-run, idle-body, Under, low, same, sameB, see-again, after, walk-after, after-eq, again, againM}
 
 -- a step at row r stores, there, ended or stopped; or at the row of a member's process, running
@@ -80,7 +80,7 @@ module _ {b x v : ℕ} {s : List ℕ} where
 
 -- ---- a frontier row stays one while its process settles
 
-under-body : {b x v : ℕ} (k : Action) (r : ℕ) (ms : Processes) (s : List ℕ) → AtM b x v (settleEach ms (mode k) s) ms → settleRunning (node k r ms) s ≡ settleEach ms (mode k) s
+pub under-body : {b x v : ℕ} (k : Action) (r : ℕ) (ms : Processes) (s : List ℕ) → AtM b x v (settleEach ms (mode k) s) ms → settleRunning (node k r ms) s ≡ settleEach ms (mode k) s
 under-body k r ms s h = rw (body-node k r ms s, alive h (mode k))
 
 module _ (b x v n : ℕ) where
@@ -106,12 +106,9 @@ under-one inTurn i = low
 under-one together i = same
 under-one byStep i = same
 
-after-run : (p : Process) (m : Mode) (s t : List ℕ) → stateOf (settle p (starts m) s) p ≡ 1 → Under (after p m s) (after p m t)
+pub after-run : (p : Process) (m : Mode) (s t : List ℕ) → stateOf (settle p (starts m) s) p ≡ 1 → Under (after p m s) (after p m t)
 unfolding after
 after-run p m s t e = rw e (under-one m (stateOf (settle p (starts m) t) p))
-
-not-in : {x : ℕ} {R Q : List ℕ} → Off R Q → List·Memᴰ x R → Out x Q
-not-in o h q = o _ h q
 
 module _ (b x v n : ℕ) where
   mutual
@@ -200,12 +197,3 @@ module _ (p : Process) (n : ℕ) (d : Sound p n) (s : List ℕ) (l : length s �
   pub stays : At b y w (step p x v s) p
   unfolding step
   stays = let q = other a x v b y w n s ne p d ha hb .0 in rw (see-run p false (set s x v) (at-run q)) (persist b y w n p d (set s x v) q)
-
-  pub commute : step p y w (step p x v s) ≡ step p x v (step p y w s)
-  unfolding step
-  commute =
-      rw (
-        absorb b y w n p d (set s x v) (length-set s x v ∙ l) (other a x v b y w n s ne p d ha hb .0) false,
-        absorb a x v n p d (set s y w) (length-set s y w ∙ l) (other b y w a x v n s (λ e. ne (sym e)) p d hb ha .0) false,
-        set-comm s x y v w (other a x v b y w n s ne p d ha hb .1),
-      )

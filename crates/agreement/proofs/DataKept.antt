@@ -9,17 +9,18 @@ use native.Mathlib.Decide.{decLt}
 use lib.IntN.{ℤ}
 use lib.ListN.{length, getD, length-append, getElem?}
 use Rattle.meaning.specs.declared.Node.{Node}
-use Rattle.meaning.specs.declared.Node.the-variants.{Literal, Element, Monadic, Dyadic, Stop, Skip, Assignment, Input, Output, Seq, Par, If, While, Alt, Member, Choice, OptionRow, Guard, Other}
+use Rattle.meaning.specs.declared.Node.the-variants.{Literal, Element, Monadic, Dyadic, Stop, Skip, Assignment, Input, Output, Seq, Par, If, While, Alt, Block, Member, Choice, OptionRow, Guard, Other}
 use Rattle.meaning.specs.Basics.{ifElse}
 use Rattle.meaning.specs.Rows.{rowCount}
-use Rattle.meaning.specs.Declarations.{Channel, noChannel, sumBelow, elementsAt, hostChannelsAt, capacityAt, hasRole, channelAt, sinkAt}
+use Rattle.meaning.specs.Declarations.{Variable, Channel, noChannel, sumBelow, elementsAt, hostChannelsAt, capacityAt, hasRole, channelAt, sinkAt}
 use Rattle.meaning.specs.Nodes.{nodeAt}
-use Rattle.meaning.specs.Tree.{Expr, Action, stop, skip, sequence, parallel, assign, input, output, conditional, loop, alternation, Process, Content, contentOf, contentAt, actionOf, orStop}
+use Rattle.meaning.specs.Tree.{Expr, Action, stop, skip, sequence, parallel, assign, input, output, conditional, loop, alternation, block, Process, Content, contentOf, contentAt, actionOf, orStop}
 use Rattle.meaning.specs.Values.{Message}
-use Rattle.meaning.specs.State.{Store, State, program, processAt, Write, writeCell, writePlace, writeOutput, write, writeAll, Effect}
+use Rattle.meaning.specs.State.{Store, State, program, processAt, Write, writeCell, writePlace, writeOutput, write, writeAll, unsetAll, Effect}
 use Rattle.meaning.specs.Labels.{Label}
 use Rattle.meaning.specs.Readings.{Sheet}
 use Rattle.meaning.specs.Step.{Live, live, host-input, Allows, assignment, while-false, while-true, if-true, communication, host-read, host-write, alt-skip, alt-read, alt-communication, stopping}
+use Rattle.meaning.proofs.UnsetLaws.{places-unsetAll, outputs-unsetAll}
 use Rattle.agreement.specs.Coherence.{RowState}
 use Rattle.agreement.proofs.KnownStates.{set-keeps, ChangesOk}
 use Rattle.meaning.specs.ContentClaims.{higherContent}
@@ -40,6 +41,7 @@ module _ (rows : List ℤ) where
   Sink (conditional ts) = Unit {0}
   Sink (loop e b) = Unit {0}
   Sink (alternation bs) = Unit {0}
+  Sink (block v) = Unit {0}
 
   part-sink : (r : ℕ) (at : ℕ → Content) (k : Node) → Sink (actionOf (orStop (contentOf rows r at k .process)))
   part-sink r at (Literal x) = tt
@@ -56,6 +58,7 @@ module _ (rows : List ℤ) where
   part-sink r at (If a) = tt
   part-sink r at (While a b) = tt
   part-sink r at (Alt a) = tt
+  part-sink r at (Block a b) = tt
   part-sink r at (Member a b) = tt
   part-sink r at (Choice a b c) = tt
   part-sink r at (OptionRow a b c) = tt
@@ -125,6 +128,14 @@ module _ (rows : List ℤ) (sheet : Sheet) where
   pub writes-bounded : (ws : List Write) (x : Store) → WritesOk ws → Bounded x → Bounded (writeAll ws x)
   writes-bounded [] x h b = b
   writes-bounded (w ∷ ws) x h b = writes-bounded ws (write w x) (h .1) (write-bounded w x (h .0) b)
+
+  -- to unset cells keeps within them
+  pub unset-bounded : (vs : List Variable) (x : Store) → Bounded x → Bounded (unsetAll vs x)
+  unset-bounded vs x b =
+      record {
+        places-left = λ c. rw (places-unsetAll vs x) (b .places-left c);
+        room-kept = λ r h. rw (outputs-unsetAll vs x) (b .room-kept r h);
+      }
 
   -- what a step does
   abbrev pub EffectOk : Effect → Type 0

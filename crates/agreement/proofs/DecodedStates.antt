@@ -18,7 +18,7 @@ use Rattle.meaning.specs.Decode.{listedIn, decode}
 use Rattle.meaning.proofs.LentLaws.{lent-whole}
 use Rattle.agreement.specs.BufferClaims.{DecodedState, EqualBuffers}
 use Rattle.agreement.proofs.AsDeclared.{reached-as-declared}
-use Rattle.agreement.proofs.GivenLists.{left-given}
+use Rattle.agreement.proofs.WrittenLists.{left-written}
 use Rattle.agreement.proofs.HostOutputs.{output-count}
 use Rattle.agreement.proofs.MissingMarks.{decoded-cells}
 use Rattle.agreement.proofs.TableLimits.{limited}
@@ -57,7 +57,7 @@ decoded-state rows sheet s ok (l, o) b =
     ∙ decoded-cells (s .store .cells) in
     let places = lent-whole 0 maxHostChannels (hostChannels 1 rows) (s .store .places) (b .places) (D .places) (L .places) in
     let outputs = ext-getD [] (map list all) (s .store .outputs) (length-map all list ∙ below-length (hostChannels 2 rows) ∙ sym (D .outputs))
-    (λ i h. let k : i < hostChannels 2 rows = omega (arith, length-map all list, below-length (hostChannels 2 rows), h) in made-at list [] (hostChannels 2 rows) i k ∙ given i k) in
+    (λ i h. let k : i < hostChannels 2 rows = omega (arith, length-map all list, below-length (hostChannels 2 rows), h) in made-at list [] (hostChannels 2 rows) i k ∙ written i k) in
     λ i. record { states = states i; store = record { cells = cells i; places = places i; outputs = outputs i } }
   where
     all : List ℕ
@@ -66,8 +66,8 @@ decoded-state rows sheet s ok (l, o) b =
     list : ℕ → List Message
     list port = listedIn rows port (encode rows s b)
 
-    given : (port : ℕ) → port < hostChannels 2 rows → list port ≡ getD (s .store .outputs) port []
-    given port h = left-given rows ok sheet l s o b port (omega (arith, output-count rows, length-map (channels rows 2) (capacityAt rows), h)) .0
+    written : (port : ℕ) → port < hostChannels 2 rows → list port ≡ getD (s .store .outputs) port []
+    written port h = left-written rows ok sheet l s o b port (omega (arith, output-count rows, length-map (channels rows 2) (capacityAt rows), h)) .0
 
 pub equal-buffers : EqualBuffers
 equal-buffers rows sheet other s t ok r q b c e = sym (decoded-state rows sheet s ok r b) ∙ ap (decode rows) e ∙ decoded-state rows other t ok q c

@@ -1,16 +1,17 @@
 -- What the proofs about orders use of an accepted table: the shape of its whole process, and that the members of a PAR keep apart.
 use mathlib.Core.Path.{_≡_}
+use mathlib.Core.Logic.{_≢_}
 use mathlib.Core.Bool.{true}
 use mathlib.Core.Option.{Option, none, some}
 use mathlib.Core.List.{List, [], _∷_}
 use Prim.Native.Nat.{ℕ}
 use lib.ListN.{length}
-use Rattle.meaning.specs.Declarations.{Channel}
-use Rattle.meaning.specs.Tree.{IfChoice, AltOption, ChannelInput, Action, stop, skip, sequence, parallel, assign, input, output, conditional, loop, alternation, node, Processes, actionOf, rowOf}
-use Rattle.meaning.specs.Usage.{changes, uses, inputElements, outputElements}
+use Rattle.meaning.specs.Declarations.{Variable, Channel}
+use Rattle.meaning.specs.Tree.{IfChoice, AltOption, ChannelInput, Action, stop, skip, sequence, parallel, assign, input, output, conditional, loop, alternation, block, Process, node, Processes, empty, also, actionOf, rowOf, rowsBeneath}
+use Rattle.meaning.specs.Usage.{cellsOfVariable, changes, uses, inputElements, outputElements}
 use Rattle.meaning.specs.State.{Program, processAt, whole}
 use Rattle.agreement.proofs.Frame.{Off}
-use Rattle.agreement.proofs.Again.{Sound}
+use Rattle.agreement.proofs.Again.{Out, Sound}
 use Rattle.agreement.proofs.Commute.{Child}
 use Rattle.agreement.proofs.Reach.{Sub, Apart}
 use Rattle.agreement.proofs.Settled.{Plain}
@@ -24,7 +25,7 @@ abbrev pub OptionsIn : List AltOption → Processes → Type 0
 OptionsIn [] ms = Unit {0}
 OptionsIn (b ∷ l) ms = Child (b .process) ms × OptionsIn l ms
 
--- what a step of a process may start is one of its members
+-- what a step of a process may start is one of its members; a block has one process
 abbrev pub Starts : Action → Processes → Type 0
 Starts stop ms = Unit {0}
 Starts skip ms = Unit {0}
@@ -36,6 +37,7 @@ Starts (output c e f) ms = Unit {0}
 Starts (conditional ts) ms = ChoicesIn ts ms
 Starts (loop e b) ms = Child b ms
 Starts (alternation bs) ms = OptionsIn bs ms
+Starts (block v) ms = (q : Process) × (ms ≡ also q empty)
 
 -- a host channel has one element, which its number among the channels of its role tells
 abbrev pub HostAt : (ℕ → ℕ) → Channel → Type 0
@@ -61,6 +63,7 @@ HostsAt source sink (output c e f) = HostAt sink c
 HostsAt source sink (conditional ts) = Unit {0}
 HostsAt source sink (loop e b) = Unit {0}
 HostsAt source sink (alternation bs) = GuardsAt source bs
+HostsAt source sink (block v) = Unit {0}
 
 -- two actions that may stand in two members of a PAR
 pub record Apt (k j : Action) : Type 0 where
@@ -79,10 +82,15 @@ pub record Fit (P : Program) (n : ℕ) : Type 0 where
   pub plain : Plain (whole P)
   -- what stands at a row of the whole process is the process that the table has there
   pub placed : (k : Action) (r : ℕ) (ms : Processes) → Sub k r ms (whole P) → processAt P r ≡ node k r ms
-  -- what it may start is one of its members
+  -- what it may start is one of its members, and a block has one
   pub starts : (k : Action) (r : ℕ) (ms : Processes) → Sub k r ms (whole P) → Starts k ms
   -- the usage rules: rows of two members of a PAR touch nothing in common
   pub apart : (a b : ℕ) → Apart a b (whole P) → Apt (actionOf (processAt P a)) (actionOf (processAt P b))
+  -- an action that is not beneath a block uses none of its cells, and two blocks have none in common
+  pub local : (v : Variable) (q : ℕ) (ms : Processes) → Sub (block v) q ms (whole P) → (k : Action) (r : ℕ) (ns : Processes) → Sub k r ns (whole P)
+      → Out r (rowsBeneath ms) → Off (cellsOfVariable v) (uses k)
+  pub locals-apart : (v : Variable) (q : ℕ) (ms : Processes) → Sub (block v) q ms (whole P) → (w : Variable) (p : ℕ) (ns : Processes) → Sub (block w) p ns (whole P)
+      → q ≢ p → Off (cellsOfVariable v) (cellsOfVariable w)
   -- the elements of host channels
   pub source : ℕ → ℕ
   pub sink : ℕ → ℕ

@@ -35,13 +35,13 @@ pub record Sim (R : List ℕ) (rel : List ℕ → List ℕ → Type 0) : Type 0 
 pub row-in : (p : Process) → List·Memᴰ (rowOf p) (rowsIn p)
 row-in (node k r ms) = List·Memᴰ·head refl
 
-sub-left : {rel : List ℕ → List ℕ → Type 0} (R Q : List ℕ) → Sim (R ++ Q) rel → Sim R rel
+pub sub-left : {rel : List ℕ → List ℕ → Type 0} (R Q : List ℕ) → Sim (R ++ Q) rel → Sim R rel
 sub-left R Q S = record { look = λ x h. S .look x (Memᴰ·append-left Q h); put = λ x v h. S .put x v (Memᴰ·append-left Q h) }
 
-sub-right : {rel : List ℕ → List ℕ → Type 0} (R Q : List ℕ) → Sim (R ++ Q) rel → Sim Q rel
+pub sub-right : {rel : List ℕ → List ℕ → Type 0} (R Q : List ℕ) → Sim (R ++ Q) rel → Sim Q rel
 sub-right R Q S = record { look = λ x h. S .look x (Memᴰ·append-right R h); put = λ x v h. S .put x v (Memᴰ·append-right R h) }
 
-sub-tail : {rel : List ℕ → List ℕ → Type 0} (r : ℕ) (R : List ℕ) → Sim (r ∷ R) rel → Sim R rel
+pub sub-tail : {rel : List ℕ → List ℕ → Type 0} (r : ℕ) (R : List ℕ) → Sim (r ∷ R) rel → Sim R rel
 sub-tail r R S = record { look = λ x h. S .look x (List·Memᴰ·tail h); put = λ x v h. S .put x v (List·Memᴰ·tail h) }
 
 module _ {rel : List ℕ → List ℕ → Type 0} where
@@ -87,9 +87,6 @@ module _ {rel : List ℕ → List ℕ → Type 0} where
 -- f reads and writes the rowsIn of R alone
 pub record Local (R : List ℕ) (f : List ℕ → List ℕ) : Type 1 where
   pub keeps : (rel : List ℕ → List ℕ → Type 0) → Sim R rel → (s t : List ℕ) → rel s t → rel (f s) (f t)
-
-pub body-local : (p : Process) → Local (rowsIn p) (settleRunning p)
-body-local p = record { keeps = λ rel S. sim p S }
 
 pub walk-local : (ms : Processes) (m : Mode) → Local (rowsBeneath ms) (settleEach ms m)
 walk-local ms m = record { keeps = λ rel S. simM ms S m }

@@ -1,28 +1,36 @@
 -- A step leaves as it was what every other row at work would do; so two ready steps with no row in common leave one another ready, and commute.
 use mathlib.Core.Path.{_≡_, refl, sym, ap, _∙_}
 use mathlib.Core.Logic.{_≢_}
+use mathlib.Core.Bool.{false}
 use mathlib.Core.Option.{some}
 use mathlib.Core.List.{List, [], _∷_}
 use Prim.Native.Nat.{ℕ}
+use native.Mathlib.Omega.{arith}
 use Rattle.meaning.specs.Tree.{Action, Process, node, actionOf}
-use Rattle.meaning.specs.State.{State, Program, processAt, whole, Write, writeCell, writeAll, StateChange, Effect}
+use Rattle.meaning.specs.State.{Store, State, Program, processAt, whole, Write, writeCell, writeAll, StateChange, Effect, changed, unsetAll}
 use Rattle.meaning.specs.Labels.{Label}
 use Rattle.meaning.specs.Readings.{Sheet}
-use Rattle.meaning.specs.Settle.{settled}
+use Rattle.meaning.specs.Settle.{begun, settled}
+use Rattle.meaning.specs.Usage.{uses}
+use Rattle.meaning.specs.Declarations.{Variable}
+use Rattle.meaning.proofs.UnsetLaws.{unset-writes}
 use Rattle.meaning.specs.Intent.{openOffer, inputOffer, Intent, intent}
 use Rattle.meaning.specs.Ready.{effectOf, intentAt}
 use Rattle.meaning.specs.Step.{Step}
 pub use Rattle.agreement.specs.RowsOfSteps.{NoneOf}
 use Rattle.agreement.proofs.Commute.{own, At}
-use Rattle.agreement.proofs.Parts.{Part, Differ, Cross, leap, leap-stays, leap-comm}
+use Rattle.agreement.proofs.Parts.{Part, puts, Differ, Cross, leap, leap-stays, leap-comm}
+use Rattle.agreement.proofs.BegunParts.{begun-comm}
 use Rattle.agreement.proofs.Takeable.{DistinctOptions}
 use Rattle.agreement.proofs.Fit.{Apt, Fit}
-use Rattle.agreement.proofs.Near.{near}
+use Rattle.agreement.proofs.Near.{near, near-then}
 use Rattle.agreement.proofs.Proper.{AllOwned, offer-proper}
 use Rattle.agreement.proofs.Active.{RowOf, of-own, of-input, of-output, of-alt, of-alt-input, of-alt-output, offerAt-is, Active, acts-alone, passes-on, takes-open, takes-input, active, effect-same}
 use Rattle.agreement.proofs.Working.{acts, Inv, Works, works, works-at, works-proper, works-apart, frontier-does}
-use Rattle.agreement.proofs.Invariant.{same-state, partsOf, step-parts, settled-leaps, keeps-inv, effect-step, step-effect}
+use Rattle.agreement.proofs.Invariant.{same-state, partsOf, puts-changes, step-parts, settled-leaps, keeps-inv, effect-step, step-effect}
 use Rattle.agreement.proofs.Writes.{AllBy, near-writes, writes-comm}
+use Rattle.agreement.proofs.BlockChanges.{started}
+use Rattle.agreement.proofs.UnsetApart.{NoCellIn, no-cell-in, same-unset, near-unset, writes-off}
 
 -- two steps have no row in common
 abbrev pub RowsApart : Label → Label → Type 0
@@ -85,13 +93,38 @@ module _ (P : Program) (n : ℕ) (F : Fit P n) (sheet : Sheet) where
       let A = works P n F sheet s r i (ap acts h) in
       owned-by s _ r of-alt-input A (writeCell a z ∷ []) (offer-proper (F .source) (F .sink) (A .action) (A .listed) (inputOffer k q d a) os (works-proper P n F sheet s r A h) (offerAt-is j (inputOffer k q d a) os g .0) .3, tt)
 
-  store-of : (e : Effect) (s : State) → settled P e s .store ≡ writeAll (e .writes) (s .store)
+  -- the variables of the blocks that start after the changes of a step
+  abbrev begunBy : Effect → State → List Variable
+  begunBy e s = begun (whole P) false (changed e s .states)
+
+  store-of : (e : Effect) (s : State) → settled P e s .store ≡ unsetAll (begunBy e s) (writeAll (e .writes) (s .store))
   unfolding settled
   store-of e s = refl
+
+  -- the blocks that start, from the parts of a step, and of one that comes after another
+  begun-parts : (e : Effect) (s : State) → begunBy e s ≡ begun (whole P) false (puts (partsOf (e .changes)) (s .states))
+  begun-parts e s = ap (begun (whole P) false) (sym (puts-changes (e .changes) (s .states)))
+
+  begun-next : (e f : Effect) (s : State) → begunBy f (settled P e s) ≡ begun (whole P) false (puts (partsOf (f .changes)) (leap (whole P) n (F .sound) (partsOf (e .changes)) (s .states)))
+  begun-next e f s = begun-parts f (settled P e s) ∙ ap (λ (t : List ℕ). begun (whole P) false (puts (partsOf (f .changes)) t)) (settled-leaps P n F sheet e s)
 
   module _ (s : State) (i : Inv P n F sheet s) where
     actions-apart : (x y : Label) → RowsApart x y → (k j : Action) → Of s x k → Of s y j → Apt k j
     actions-apart x y d k j (r, h, (A, e)) (q, g, (B, f)) = rw (← e, ← f) (works-apart P n F sheet s r q i A B (d r q h g))
+
+    -- a row at work uses no cell of the blocks that start
+    begun-off : {x : Label} {e : Effect} → Active (intentAt P sheet s) x e → (r : ℕ) (C : Works P n F sheet s r) → NoCellIn (begunBy e s) (uses (C .action))
+    begun-off {e} A r C =
+        no-cell-in (begunBy e s) (uses (C .action)) (λ v m.
+        let (q, (ms, (h, idle, running))) = started P n F sheet s i A v m in
+        F .local v q ms h (C .action) r (C .listed) (C .sub) (λ y. omega (arith, idle r y, C .runs)))
+
+    -- so it would do the same with those unset
+    pub unset-does : {x : Label} {e : Effect} → Active (intentAt P sheet s) x e → (r : ℕ) (C : Works P n F sheet s r)
+        → intent sheet (C .action) r (unsetAll (begun (whole P) false (changed e s .states)) (s .store)) ≡ intent sheet (C .action) r (s .store)
+    unset-does {e} A r C =
+        sym (near (F .source) (F .sink) sheet (s .store) (unsetAll (begunBy e s) (s .store)) (C .action) r (F .hosts (C .action) r (C .listed) (C .sub))
+        (near-unset (F .source) (F .sink) (C .action) (begunBy e s) (s .store) (begun-off A r C)))
 
     -- a row at work that is none of the step's rows stays at work
     pub works-stays : {x : Label} {e : Effect} → Active (intentAt P sheet s) x e → (r : ℕ) → NoneOf x r → Works P n F sheet s r → At r r 2 (settled P e s .states) (whole P)
@@ -107,9 +140,22 @@ module _ (P : Program) (n : ℕ) (F : Fit P n) (sheet : Sheet) where
         let k = C .action in
         let t = settled P e s in
         let z : processAt P r ≡ node k r (C .listed) = F .placed k r (C .listed) (C .sub) in
-        let g = near (F .source) (F .sink) sheet (s .store) (writeAll (e .writes) (s .store)) k r (F .hosts k r (C .listed) (C .sub))
-        (near-writes (F .source) (F .sink) (Of s x) k (λ j (q, h, (B, f)). rw (← f) (works-apart P n F sheet s q r i B C (d q h))) (e .writes) (s .store) (writes-by s i A)) in
+        let w = writeAll (e .writes) (s .store) in
+        let g = near (F .source) (F .sink) sheet (s .store) (unsetAll (begunBy e s) w) k r (F .hosts k r (C .listed) (C .sub))
+        (near-then (F .source) (F .sink) k (s .store) w (unsetAll (begunBy e s) w)
+        (near-writes (F .source) (F .sink) (Of s x) k (λ j (q, h, (B, f)). rw (← f) (works-apart P n F sheet s q r i B C (d q h))) (e .writes) (s .store) (writes-by s i A))
+        (near-unset (F .source) (F .sink) k (begunBy e s) w (begun-off A r C))) in
         frontier-does P n F sheet t r r 2 (works-stays A r d C) ∙ ap (λ (p : Process). intent sheet (actionOf p) r (t .store)) z ∙ ap (intent sheet k r) (store-of e s) ∙ sym g ∙ sym (C .does)
+
+    -- the data after two steps: what both wrote, and unset what either unset
+    one-store : (x y : Label) (e f : Effect) → Active (intentAt P sheet s) x e → Active (intentAt P sheet s) y f → RowsApart x y
+        → settled P f (settled P e s) .store ≡ unsetAll (begunBy f (settled P e s)) (unsetAll (begunBy e s) (writeAll (f .writes) (writeAll (e .writes) (s .store))))
+    one-store x y e f A B d =
+        store-of f (settled P e s)
+        ∙ ap (λ (z : Store). unsetAll (begunBy f (settled P e s)) (writeAll (f .writes) z)) (store-of e s)
+        ∙ ap (unsetAll (begunBy f (settled P e s)))
+        (sym (unset-writes (begunBy e s) (f .writes) (writeAll (e .writes) (s .store))
+        (writes-off (F .source) (F .sink) (Of s y) (begunBy e s) (λ k (r, h, (C, q)). rw (← q) (begun-off A r C)) (f .writes) (writes-by s i B))))
 
     module _ (x y : Label) (e f : Effect) (qe : effectOf x (intentAt P sheet s) ≡ some e) (qf : effectOf y (intentAt P sheet s) ≡ some f) (d : RowsApart x y) where
       abbrev A : Active (intentAt P sheet s) x e
@@ -130,13 +176,18 @@ module _ (P : Program) (n : ℕ) (F : Fit P n) (sheet : Sheet) where
           let (ea, pa) = step-parts P n F sheet s i A in
           let (eb, pb) = step-parts P n F sheet s i B in
           let back : RowsApart y x = λ r q h g z. d q r g h (sym z) in
+          let there = cross-of x y d (e .changes) (f .changes) (made-by A) (made-by B) in
+          let again = cross-of y x back (f .changes) (e .changes) (made-by B) (made-by A) in
           same-state
           (settled-leaps P n F sheet f (settled P e s) ∙ ap (leap (whole P) n (F .sound) m) (settled-leaps P n F sheet e s)
-          ∙ leap-comm (whole P) n (F .sound) l m (s .states) (i .size) ea pa eb pb (cross-of x y d (e .changes) (f .changes) (made-by A) (made-by B)) (cross-of y x back (f .changes) (e .changes) (made-by B) (made-by A))
+          ∙ leap-comm (whole P) n (F .sound) l m (s .states) (i .size) ea pa eb pb there again
           ∙ sym (settled-leaps P n F sheet e (settled P f s) ∙ ap (leap (whole P) n (F .sound) l) (settled-leaps P n F sheet f s)))
-          (store-of f (settled P e s) ∙ ap (writeAll (f .writes)) (store-of e s)
-          ∙ writes-comm (F .source) (F .sink) (Of s x) (Of s y) (actions-apart x y d) (e .writes) (f .writes) (s .store) (writes-by s i A) (writes-by s i B)
-          ∙ sym (store-of e (settled P f s) ∙ ap (writeAll (e .writes)) (store-of f s)))
+          (one-store x y e f A B d
+          ∙ ap (λ (z : Store). unsetAll (begunBy f (settled P e s)) (unsetAll (begunBy e s) z))
+          (writes-comm (F .source) (F .sink) (Of s x) (Of s y) (actions-apart x y d) (e .writes) (f .writes) (s .store) (writes-by s i A) (writes-by s i B))
+          ∙ same-unset (begunBy f (settled P e s)) (begunBy e s) (begunBy e (settled P f s)) (begunBy f s) (writeAll (e .writes) (writeAll (f .writes) (s .store)))
+          (λ a. rw (begun-next e f s, begun-next f e s, begun-parts e s, begun-parts f s) (begun-comm (whole P) n (F .sound) l m (s .states) (i .size) ea pa eb pb there again a))
+          ∙ sym (one-store y x f e B A back))
 
     meet : (x y : Label) (t u : State) (e f : Effect) → effectOf x (intentAt P sheet s) ≡ some e → effectOf y (intentAt P sheet s) ≡ some f → t ≡ settled P e s → u ≡ settled P f s → RowsApart x y
         → (v : State) × Step P sheet t y v × Step P sheet u x v

@@ -21,7 +21,7 @@ member-within q (also p ms) (Among.among-later a) k r ps e = back (member-within
 -- what stands in a process that stands in another stands in that one
 module _ {a : Action} {r : ℕ} {ms : Processes} {k : Action} {i : ℕ} {ps : Processes} (m : SubM k i ps ms) where
   mutual
-    sub-under : (p : Process) → Sub a r ms p → Sub k i ps p
+    pub sub-under : (p : Process) → Sub a r ms p → Sub k i ps p
     sub-under (node k′ r′ qs) self = inside m
     sub-under (node k′ r′ qs) (inside h) = inside (subM-under qs h)
 
@@ -35,6 +35,20 @@ within-member p (node k i ps) a r ms h m = sub-under (member-within (node k i ps
 pub within-of : {whole q : Process} → Inside whole q → Within q whole
 within-of {whole} Inside.itself = within-itself whole
 within-of {whole} (Inside.beneath {a} {r} {ms} {q} i m) = within-member whole q a r ms (within-of i) m
+
+-- and what `Sub` says to stand in it, `Inside` does
+module _ {whole : Process} {k : Action} {r : ℕ} {ms : Processes} where
+  mutual
+    inside-in : (p : Process) → Inside whole p → Sub k r ms p → Inside whole (node k r ms)
+    inside-in (node k′ r′ ps) i self = i
+    inside-in (node k′ r′ ps) i (inside h) = inside-among ps (λ q m. Inside.beneath i m) h
+
+    inside-among : (ps : Processes) → ((q : Process) → Among q ps → Inside whole q) → SubM k r ms ps → Inside whole (node k r ms)
+    inside-among (also p ps) f (front h) = inside-in p (f p Among.among-first) h
+    inside-among (also p ps) f (back h) = inside-among ps (λ q m. f q (Among.among-later m)) h
+
+pub inside-of : {whole : Process} {k : Action} {r : ℕ} {ms : Processes} → Sub k r ms whole → Inside whole (node k r ms)
+inside-of {whole} h = inside-in whole Inside.itself h
 
 -- the rows beneath a process are rows of each process that it stands in
 module _ {k : Action} {r : ℕ} {ms : Processes} {x : ℕ} (m : List·Memᴰ x (r ∷ rowsBeneath ms)) where

@@ -8,8 +8,8 @@ use Prim.Native.Nat.{ℕ, zero, suc}
 use lib.ListN.{length, getD, set, length-set, length-map}
 use lib.Seq.{getD-set-other}
 use Rattle.meaning.specs.Tree.{Process, rowsIn}
-use Rattle.meaning.specs.Settle.{settle, start, settled}
-use Rattle.meaning.specs.State.{Store, State, Program, whole, StateChange, changeState, changeStates, Effect}
+use Rattle.meaning.specs.Settle.{settle, begun, start, settled}
+use Rattle.meaning.specs.State.{Store, State, Program, whole, StateChange, changeState, changeStates, writeAll, Effect, changed, unsetAll}
 use Rattle.meaning.specs.Labels.{Label}
 use Rattle.meaning.specs.Readings.{Sheet}
 use Rattle.meaning.specs.Intent.{openOffer, inputOffer}
@@ -73,6 +73,11 @@ module _ (P : Program) (n : ℕ) (F : Fit P n) (sheet : Sheet) where
   unfolding settled leap
   settled-leaps e s = ap (settle (whole P) false) (sym (puts-changes (e .changes) (s .states)))
 
+  -- the data that it leaves
+  pub settled-store : (e : Effect) (s : State) → settled P e s .store ≡ unsetAll (begun (whole P) false (changeStates (e .changes) (s .states))) (writeAll (e .writes) (s .store))
+  unfolding settled
+  settled-store e s = refl
+
   outside-puts : (y : ℕ) → Out y (rowsIn (whole P)) → (l : List Part) (s t : List ℕ) → Each (whole P) l t → getD (puts l s) y 0 ≡ getD s y 0
   outside-puts y o [] s t h = refl
   outside-puts y o (q ∷ l) s t h = outside-puts y o l (set s (q .x) (q .v)) t (h .1) ∙ getD-set-other s (q .x) y (q .v) 0 (λ e. o (Memᴰ·cast e (at-in (h .0))))
@@ -91,25 +96,24 @@ module _ (P : Program) (n : ℕ) (F : Fit P n) (sheet : Sheet) where
       }
 
   module _ (s : State) {x : Label} {e : Effect} (i : Inv P n F sheet s) (a : Active (intentAt P sheet s) x e) where
-    -- from the changes of a step the rules of settling lead to one state, where the walk goes
-    pub step-normal : NormalForm (whole P) (changeStates (e .changes) (s .states)) (settled P e s .states)
-    unfolding settled
-    step-normal =
+    -- the changes of a step keep a good state
+    pub changed-good : Good (changed e s .states) (whole P)
+    changed-good =
         let (each, pairs) = step-parts s i a in
-        let u = changeStates (e .changes) (s .states) in
-        let g : Good u (whole P)
-        = subst (λ (v : List ℕ). Good v (whole P)) (puts-changes (e .changes) (s .states)) (good-puts (whole P) n (F .sound) (partsOf (e .changes)) (s .states) (i .size) (i .good) each pairs) in
-        normal-form (whole P) n (F .sound) (F .plain) u (length-marks (e .changes) (s .states) ∙ i .size) g
+        subst (λ (v : List ℕ). Good v (whole P)) (puts-changes (e .changes) (s .states)) (good-puts (whole P) n (F .sound) (partsOf (e .changes)) (s .states) (i .size) (i .good) each pairs)
+
+    -- from them the rules of settling lead to one state, where the walk goes
+    pub step-normal : NormalForm (whole P) (changed e s) (settled P e s)
+    unfolding settled
+    step-normal = normal-form (whole P) n (F .sound) (F .plain) (changed e s) (length-marks (e .changes) (s .states) ∙ i .size) changed-good
 
     -- so that is what the step leaves
     pub leaves-settled : Leaves P s e (settled P e s)
-    unfolding settled
-    leaves-settled = record { settles = record { by-rules = step-normal .reached; final = step-normal .final }; stores = refl }
+    leaves-settled = record { by-rules = step-normal .reached; final = step-normal .final }
 
     -- and nothing else
     pub only-settled : (t : State) → Leaves P s e t → t ≡ settled P e s
-    unfolding settled
-    only-settled t h = same-state (step-normal .only (t .states) (h .settles .by-rules) (h .settles .final)) (h .stores)
+    only-settled t h = step-normal .only t (h .by-rules) (h .final)
 
   -- a step that the machine can take is one that a rule allows
   pub effect-step : (s : State) → Inv P n F sheet s → (x : Label) (e : Effect) → effectOf x (intentAt P sheet s) ≡ some e → Step P sheet s x (settled P e s)

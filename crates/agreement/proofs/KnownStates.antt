@@ -5,12 +5,12 @@ use mathlib.Core.List.{List, [], _∷_}
 use Prim.Native.Nat.{ℕ, zero, suc}
 use lib.ListN.{length, getD, set}
 use Rattle.meaning.specs.Tree.{Process, rowOf, rowsBeneath}
-use Rattle.meaning.specs.Settle.{settle}
-use Rattle.meaning.specs.SettlingRules.{Settles, skip-ends, seq-starts, par-starts, seq-ends, par-ends, if-ends, alt-ends, while-again, Settling, no-change, next-change}
-use Rattle.meaning.specs.State.{makeIdle, StateChange, changeState, changeStates}
+use Rattle.meaning.specs.Settle.{settle, begun}
+use Rattle.meaning.specs.SettlingRules.{Settles, skip-ends, seq-starts, par-starts, seq-ends, par-ends, if-ends, alt-ends, while-again, block-starts, block-ends, Settling, no-change, next-change}
+use Rattle.meaning.specs.State.{Store, State, makeIdle, unsetAll, StateChange, changeState, changeStates}
 use Rattle.agreement.specs.Coherence.{RowState}
 use Rattle.agreement.proofs.Again.{Sound}
-use Rattle.agreement.proofs.Settled.{Plain, settles}
+use Rattle.agreement.proofs.Settled.{Plain, stateWith, settles}
 
 abbrev pub Known : List ℕ → Type 0
 Known s = (x : ℕ) → RowState (getD s x 0)
@@ -40,19 +40,24 @@ changes-known [] s c h = h
 changes-known (m ∷ l) s c h = changes-known l (changeState m s) (c .1) (set-known s (m .at) (m .become) (c .0) h)
 
 module _ (whole : Process) where
-  rule-known : (s t : List ℕ) → Settles whole s t → Known s → Known t
-  rule-known s t (skip-ends {r} x) = set-known s r 2 RowState.ended
-  rule-known s t (seq-starts {q} x y z) = set-known s (rowOf q) 1 RowState.running
-  rule-known s t (par-starts {q} x y z) = set-known s (rowOf q) 1 RowState.running
-  rule-known s t (seq-ends {r} x y) = set-known s r 2 RowState.ended
-  rule-known s t (par-ends {r} x y) = set-known s r 2 RowState.ended
-  rule-known s t (if-ends {r} x y z) = set-known s r 2 RowState.ended
-  rule-known s t (alt-ends {r} x y z) = set-known s r 2 RowState.ended
-  rule-known s t (while-again {ms} x y z) = idle-known (rowsBeneath ms) s
+  rule-known : (s t : State) → Settles whole s t → Known (s .states) → Known (t .states)
+  rule-known s t (skip-ends {r} x) = set-known (s .states) r 2 RowState.ended
+  rule-known s t (seq-starts {q} x y z) = set-known (s .states) (rowOf q) 1 RowState.running
+  rule-known s t (par-starts {q} x y z) = set-known (s .states) (rowOf q) 1 RowState.running
+  rule-known s t (seq-ends {r} x y) = set-known (s .states) r 2 RowState.ended
+  rule-known s t (par-ends {r} x y) = set-known (s .states) r 2 RowState.ended
+  rule-known s t (if-ends {r} x y z) = set-known (s .states) r 2 RowState.ended
+  rule-known s t (alt-ends {r} x y z) = set-known (s .states) r 2 RowState.ended
+  rule-known s t (while-again {ms} x y z) = idle-known (rowsBeneath ms) (s .states)
+  rule-known s t (block-starts {q} x y z) = set-known (s .states) (rowOf q) 1 RowState.running
+  rule-known s t (block-ends {r} x y) = set-known (s .states) r 2 RowState.ended
 
-  settling-known : (s t : List ℕ) → Settling whole s t → Known s → Known t
+  -- settling by the rules keeps them so
+  settling-known : (s t : State) → Settling whole s t → Known (s .states) → Known (t .states)
   settling-known s t no-change h = h
   settling-known s t (next-change {t = m} k j) h = settling-known m t j (rule-known s m k h)
 
   pub settle-known : (n : ℕ) → Sound whole n → Plain whole → (s : List ℕ) → length s ≡ n → Known s → Known (settle whole false s)
-  settle-known n d p s l h = settling-known s (settle whole false s) (settles whole n d p s l) h
+  settle-known n d p s l h =
+      let x : Store = record { cells = []; places = []; outputs = [] } in
+      settling-known (stateWith s x) (stateWith (settle whole false s) (unsetAll (begun whole false s) x)) (settles whole n d p s l x) h

@@ -1,3 +1,4 @@
+pub mod ActionRows
 pub mod Again
 pub mod Allowed
 pub mod Commute
@@ -5,6 +6,8 @@ pub mod Descent
 pub mod Frame
 pub mod Options
 pub mod Parts
+pub mod Begun
+pub mod BegunParts
 pub mod Good
 pub mod Reach
 pub mod Reached
@@ -18,6 +21,11 @@ pub mod OptionRows
 pub mod Footprint
 pub mod Near
 pub mod Proper
+pub mod SettlingData
+pub mod BlocksStarted
+pub mod BlocksListed
+pub mod BlockChanges
+pub mod BlockCells
 pub mod MissingSteps
 pub mod MissingStops
 pub mod MissingValues
@@ -38,13 +46,17 @@ pub mod TableReferences
 pub mod TableRows
 pub mod TableStarts
 pub mod TableUsage
+pub mod TableWhole
 pub mod TableApart
+pub mod TableBlocks
 pub mod TableHosts
 pub mod TableFit
+pub mod BegunAround
 pub mod NormalForm
 pub mod ChangesLeft
 pub mod Separate
 pub mod Writes
+pub mod UnsetApart
 pub mod Freedom
 pub mod WithoutAlt
 pub mod TableOptions
@@ -79,6 +91,7 @@ pub mod KnownStates
 pub mod DataKept
 pub mod OrdersSettle
 pub mod OrdersCoherent
+pub mod TreeBeneath
 pub mod TreeExact
 pub mod TreeOnce
 pub mod TreeIdle
@@ -95,7 +108,7 @@ pub mod WhileReset
 pub mod RefusalPlaces
 pub mod AsDeclared
 pub mod HostOutputs
-pub mod GivenLists
+pub mod WrittenLists
 pub mod TableLimits
 pub mod BuffersHold
 pub mod BuffersExact

@@ -1,4 +1,4 @@
--- An absence is passed on: what an output of an unset element does, and who gave each message of a host output list. It holds of every table.
+-- An absence is passed on: what an output of an unset element does, and who wrote each message of a host output list. It holds of every table.
 use mathlib.Core.Path.{_≡_, refl, sym, ap, subst, subst₂, _∙_}
 use mathlib.Core.Logic.{_⊎_, inl, inr}
 use mathlib.Core.Bool.{true, false, true≢false}
@@ -11,9 +11,9 @@ use lib.ListN.{length, getD, getElem?, set, replicate}
 use Rattle.meaning.specs.declared.Index.{Index}
 use Rattle.meaning.specs.declared.Index.the-variants.{At, Fails}
 use Rattle.meaning.specs.Declarations.{Channel}
-use Rattle.meaning.specs.Tree.{Expr, Action, stop, skip, sequence, parallel, assign, input, output, conditional, loop, alternation, actionOf}
+use Rattle.meaning.specs.Tree.{Expr, Action, stop, skip, sequence, parallel, assign, input, output, conditional, loop, alternation, block, actionOf}
 use Rattle.meaning.specs.Values.{Message, index, Sent, gives, lacking}
-use Rattle.meaning.specs.State.{Store, State, Program, program, writeAll, Effect}
+use Rattle.meaning.specs.State.{State, Program, program, writeAll, Effect}
 use Rattle.meaning.specs.Labels.{Label, own}
 use Rattle.meaning.specs.Readings.{Sheet}
 use Rattle.meaning.specs.Settle.{settled}
@@ -21,8 +21,9 @@ use Rattle.meaning.specs.Step.{Passes, Lacks, output-subscript, output-value, I
 use Rattle.meaning.specs.Order.{Begins, Order, halt, next-step, OrderOf}
 use Rattle.meaning.proofs.PassedLaws.{passes-passed}
 use Rattle.agreement.specs.RowsOfSteps.{RowOf, of-own, of-input, of-output, of-alt, of-alt-input, of-alt-output}
-use Rattle.agreement.specs.MissingClaims.{cellAt, listAt, TakesAbsent, input-passed, option-passed, GivesHost, by-host-write, stopEffect, GivenOnly, PassesOn, AbsencePassed, GivenInOrder}
-use Rattle.agreement.proofs.MissingSteps.{stored-or-same, absent-unsets}
+use Rattle.agreement.specs.MissingClaims.{cellAt, listAt, TakesAbsent, input-passed, option-passed, WritesHost, by-host-write, stopEffect, WrittenOnly, PassesOn, AbsencePassed, WrittenInOrder}
+use Rattle.agreement.proofs.SettlingData.{stored-or-same, settling-outputs}
+use Rattle.agreement.proofs.MissingSteps.{absent-unsets}
 use Rattle.agreement.proofs.Steps.{allowed-step}
 use Rattle.agreement.proofs.Separate.{table-inv}
 use Rattle.agreement.proofs.TableFit.{fit}
@@ -31,34 +32,34 @@ use Rattle.agreement.proofs.TableFit.{fit}
 
 -- the lists after a step: each as it was, but for one to which it gives a message
 module _ (P : Program) (sheet : Sheet) (s : State) (x : Label) where
-  abbrev Given : ℕ → List Message → Type 0
-  Given p l = (l ≡ listAt s p) ⊎ ((m : Message) × GivesHost P sheet s x p m × (l ≡ listAt s p ++ (m ∷ [])))
+  abbrev Written : ℕ → List Message → Type 0
+  Written p l = (l ≡ listAt s p) ⊎ ((m : Message) × WritesHost P sheet s x p m × (l ≡ listAt s p ++ (m ∷ [])))
 
-  given : (q p : ℕ) (m : Message) → GivesHost P sheet s x q m → Given p (getD (set (s .store .outputs) q (listAt s q ++ (m ∷ []))) p [])
-  given q p m g = go (stored-or-same [] (listAt s q ++ (m ∷ [])) (s .store .outputs) q p)
+  written : (q p : ℕ) (m : Message) → WritesHost P sheet s x q m → Written p (getD (set (s .store .outputs) q (listAt s q ++ (m ∷ []))) p [])
+  written q p m g = go (stored-or-same [] (listAt s q ++ (m ∷ [])) (s .store .outputs) q p)
     where
-      go : let l = getD (set (s .store .outputs) q (listAt s q ++ (m ∷ []))) p [] in (l ≡ listAt s p) ⊎ ((q ≡ p) × (l ≡ listAt s q ++ (m ∷ []))) → Given p l
+      go : let l = getD (set (s .store .outputs) q (listAt s q ++ (m ∷ []))) p [] in (l ≡ listAt s p) ⊎ ((q ≡ p) × (l ≡ listAt s q ++ (m ∷ []))) → Written p l
       go (inl e) = inl e
-      go (inr (e, h)) = inr (m, subst (λ (k : ℕ). GivesHost P sheet s x k m) e g, h ∙ ap (λ (k : ℕ). listAt s k ++ (m ∷ [])) e)
+      go (inr (e, h)) = inr (m, subst (λ (k : ℕ). WritesHost P sheet s x k m) e g, h ∙ ap (λ (k : ℕ). listAt s k ++ (m ∷ [])) e)
 
 -- so the writes of a step leave them
-lists-only : (P : Program) (sheet : Sheet) (s : State) (x : Label) (e : Effect) → Allows P sheet s x e → (p : ℕ) → Given P sheet s x p (getD (writeAll (e .writes) (s .store) .outputs) p [])
+lists-only : (P : Program) (sheet : Sheet) (s : State) (x : Label) (e : Effect) → Allows P sheet s x e → (p : ℕ) → Written P sheet s x p (getD (writeAll (e .writes) (s .store) .outputs) p [])
 lists-only P sheet s x e (assignment g p q) k = inl refl
 lists-only P sheet s x e (while-false g h) k = inl refl
 lists-only P sheet s x e (while-true g h) k = inl refl
 lists-only P sheet s x e (if-true g h) k = inl refl
 lists-only P sheet s x e (communication g j h w) k = inl refl
 lists-only P sheet s x e (host-read g h) k = inl refl
-lists-only P sheet s x e (host-write {c} {m = z} g h p q o m) k = rw (← o) (given P sheet s x (c .number) k z (by-host-write g h p q (rw o m)))
+lists-only P sheet s x e (host-write {c} {m = z} g h p q o m) k = rw (← o) (written P sheet s x (c .number) k z (by-host-write g h p q (rw o m)))
 lists-only P sheet s x e (alt-skip g c m h q) k = inl refl
 lists-only P sheet s x e (alt-read g c m h q j) k = inl refl
 lists-only P sheet s x e (alt-communication g c m j h q w y) k = inl refl
 lists-only P sheet s x e (stopping g h) k = inl refl
 
 -- and the step
-pub given-only : GivenOnly
-given-only P sheet s x t h p =
-    subst (λ (y : Store). Given P sheet s x p (getD (y .outputs) p [])) (sym (h .leaves .stores)) (lists-only P sheet s x (h .does) (h .allowed) p)
+pub written-only : WrittenOnly
+written-only P sheet s x t h p =
+    subst (λ (y : List (List Message)). Written P sheet s x p (getD y p [])) (sym (settling-outputs P (h .leaves .by-rules))) (lists-only P sheet s x (h .does) (h .allowed) p)
 
 -- an element of a list with one more at its end
 before-or-last : {A : Type 0} (l : List A) (n : A) (i : ℕ) (m : A) → getElem? (l ++ (n ∷ [])) i ≡ some m → (getElem? l i ≡ some m) ⊎ ((n ≡ m) × (length l ≡ i))
@@ -75,42 +76,42 @@ module _ (rows : List ℤ) (sheet : Sheet) (p i : ℕ) (m : Message) where
   -- the step of an order that gave the message, with the steps before and after it
   abbrev GivenIn : State → List Label → Type 0
   GivenIn s l = (before : List Label) × ((x : Label) × ((later : List Label) × ((u : State)
-      × ((l ≡ before ++ (x ∷ later)) × Order (program rows) sheet s before u × GivesHost (program rows) sheet u x p m × (length (listAt u p) ≡ i)))))
+      × ((l ≡ before ++ (x ∷ later)) × Order (program rows) sheet s before u × WritesHost (program rows) sheet u x p m × (length (listAt u p) ≡ i)))))
 
-  given-in : {s t : State} {l : List Label} → Order (program rows) sheet s l t → getElem? (listAt t p) i ≡ some m → (getElem? (listAt s p) i ≡ some m) ⊎ GivenIn s l
-  given-in halt e = inl e
-  given-in {s} (next-step {t} {x} {l} h o) e = go (given-in o e)
+  written-in : {s t : State} {l : List Label} → Order (program rows) sheet s l t → getElem? (listAt t p) i ≡ some m → (getElem? (listAt s p) i ≡ some m) ⊎ GivenIn s l
+  written-in halt e = inl e
+  written-in {s} (next-step {t} {x} {l} h o) e = go (written-in o e)
     where
-      last : (n : Message) → GivesHost (program rows) sheet s x p n → (getElem? (listAt s p) i ≡ some m) ⊎ ((n ≡ m) × (length (listAt s p) ≡ i))
+      last : (n : Message) → WritesHost (program rows) sheet s x p n → (getElem? (listAt s p) i ≡ some m) ⊎ ((n ≡ m) × (length (listAt s p) ≡ i))
           → (getElem? (listAt s p) i ≡ some m) ⊎ GivenIn s (x ∷ l)
       last n g (inl q) = inl q
-      last n g (inr (q, k)) = inr ([], (x, (l, (s, (refl, halt, subst (λ (y : Message). GivesHost (program rows) sheet s x p y) q g, k)))))
+      last n g (inr (q, k)) = inr ([], (x, (l, (s, (refl, halt, subst (λ (y : Message). WritesHost (program rows) sheet s x p y) q g, k)))))
 
-      first : getElem? (listAt t p) i ≡ some m → (listAt t p ≡ listAt s p) ⊎ ((n : Message) × GivesHost (program rows) sheet s x p n × (listAt t p ≡ listAt s p ++ (n ∷ [])))
+      first : getElem? (listAt t p) i ≡ some m → (listAt t p ≡ listAt s p) ⊎ ((n : Message) × WritesHost (program rows) sheet s x p n × (listAt t p ≡ listAt s p ++ (n ∷ [])))
           → (getElem? (listAt s p) i ≡ some m) ⊎ GivenIn s (x ∷ l)
       first q (inl k) = inl (ap (λ (y : List Message). getElem? y i) (sym k) ∙ q)
       first q (inr (n, g, k)) = last n g (before-or-last (listAt s p) n i m (ap (λ (y : List Message). getElem? y i) (sym k) ∙ q))
 
       go : (getElem? (listAt t p) i ≡ some m) ⊎ GivenIn t l → (getElem? (listAt s p) i ≡ some m) ⊎ GivenIn s (x ∷ l)
-      go (inl q) = first q (given-only (program rows) sheet s x t h p)
+      go (inl q) = first q (written-only (program rows) sheet s x t h p)
       go (inr (before, (y, (later, (u, (q, k, d, n)))))) = inr (x ∷ before, (y, (later, (u, (ap (λ (z : List Label). x ∷ z) q, next-step h k, d, n)))))
 
 -- in the beginning every list is empty
 begins-empty : (P : Program) (s : State) → Begins P s → (p : ℕ) → listAt s p ≡ []
-begins-empty P s b p = ap (λ (l : List (List Message)). getD l p []) (b .unwritten) ∙ go (P .outputs) p
+begins-empty P s b p = ap (λ (l : List (List Message)). getD l p []) (settling-outputs P (b .by-rules)) ∙ go (P .outputs) p
   where
     go : (n p : ℕ) → _≡_ {A = List Message} (getD (replicate n []) p []) []
     go zero p = refl
     go (suc n) zero = refl
     go (suc n) (suc p) = go n p
 
--- a message of a list after an order was given by one of its steps, when the list held the messages before it
-pub given-in-order : GivenInOrder
-given-in-order rows sheet l s o p i m e = go (given-in rows sheet p i m (o .order) e)
+-- a message of a list after an order was written by one of its steps, when the list held the messages before it
+pub written-in-order : WrittenInOrder
+written-in-order rows sheet l s o p i m e = go (written-in rows sheet p i m (o .order) e)
   where
     go : (getElem? (listAt (o .beginning) p) i ≡ some m) ⊎ GivenIn rows sheet p i m (o .beginning) l
         → (before : List Label) × ((x : Label) × ((later : List Label) × ((u : State)
-        × ((l ≡ before ++ (x ∷ later)) × OrderOf rows sheet before u × GivesHost (program rows) sheet u x p m × (length (listAt u p) ≡ i)))))
+        × ((l ≡ before ++ (x ∷ later)) × OrderOf rows sheet before u × WritesHost (program rows) sheet u x p m × (length (listAt u p) ≡ i)))))
     go (inl q) = absurd (Option·none-ne-some m (sym (ap (λ (y : List Message). getElem? y i) (begins-empty (program rows) (o .beginning) (o .begins) p)) ∙ q))
     go (inr (before, (x, (later, (u, (q, k, d, n)))))) = (before, (x, (later, (u, (q, record { beginning = o .beginning; begins = o .begins; order = k }, d, n)))))
 
@@ -128,6 +129,7 @@ isOutput (output c e f) = 1
 isOutput (conditional ts) = 0
 isOutput (loop e b) = 0
 isOutput (alternation bs) = 0
+isOutput (block v) = 0
 
 abbrev isAt : Index → ℕ
 isAt (At i) = 1
@@ -149,7 +151,7 @@ module _ (rows : List ℤ) (sheet : Sheet) (s : State) (r d : ℕ) (c : Channel)
   -- a step of the row: the absence to a cell, or to the end of a list with room
   data HandsOn (x : Label) : Type 0 where
     to-a-cell : {a : ℕ} → c .host ≡ false → TakesAbsent P sheet s x a → HandsOn x
-    to-a-list : c .host ≡ true → GivesHost P sheet s x (c .number) none → length (listAt s (c .number)) < c .capacity → HandsOn x
+    to-a-list : c .host ≡ true → WritesHost P sheet s x (c .number) none → length (listAt s (c .number)) < c .capacity → HandsOn x
 
   not-output : {A : Type 0} (a : Action) → isOutput a ≡ 0 → Live P s r a → A
   not-output a n g = let z = ap isOutput (one-action P s r a (output c e f) g running) in absurd (omega arith)
@@ -185,7 +187,7 @@ module _ (rows : List ℤ) (sheet : Sheet) (s : State) (r d : ℕ) (c : Channel)
       let n = same-channel b i g l in (
         refl,
         to-a-list (ap (λ (y : Channel). y .host) (sym n) ∙ h)
-            (subst₂ (λ (y : Channel) (v : Message). GivesHost P sheet s (own r) (y .number) v) n (absence g z (same-expression b i g l) q) (by-host-write l h p q (rw o m)))
+            (subst₂ (λ (y : Channel) (v : Message). WritesHost P sheet s (own r) (y .number) v) n (absence g z (same-expression b i g l) q) (by-host-write l h p q (rw o m)))
             (subst (λ (y : Channel). length (listAt s (y .number)) < y .capacity) n (rw o m)),
       )
   hands-on x t (alt-skip {bs} l q m h p) of-alt = not-output (alternation bs) refl l
@@ -217,7 +219,7 @@ module _ (rows : List ℤ) (sheet : Sheet) (s : State) (r d : ℕ) (c : Channel)
       cell n x t h (to-a-cell {a} k g) = (a, g, absent-unsets rows sheet s x a g .2 t h)
       cell n x t h (to-a-list k g m) = absurd (true≢false (sym k ∙ n))
 
-      list : c .host ≡ true → (x : Label) → HandsOn x → GivesHost P sheet s x (c .number) none
+      list : c .host ≡ true → (x : Label) → HandsOn x → WritesHost P sheet s x (c .number) none
       list n x (to-a-cell k g) = absurd (true≢false (sym n ∙ k))
       list n x (to-a-list k g m) = g
 

@@ -1,43 +1,26 @@
--- Missing stays missing, step by step: a cell changes only by what a step hands to it, and only an absence that it takes unsets one. It holds of every table.
+-- Missing stays missing, step by step: a cell changes only by what a step hands to it, and only an absence that it takes
+-- unsets one, or settling, if it is a cell of a block. It holds of every table.
 use mathlib.Core.Path.{_≡_, refl, sym, ap, subst, _∙_}
 use mathlib.Core.Logic.{_⊎_, inl, inr}
 use mathlib.Core.Option.{none, some, Option·none-ne-some, Option·some-injective}
 use mathlib.Core.List.{List, [], _∷_, _++_}
-use Prim.Native.Nat.{ℕ, zero, suc}
+use Prim.Native.Nat.{ℕ}
 use lib.IntN.{ℤ}
-use lib.ListN.{getD, set, replicate}
-use lib.Seq.{getD-set-same}
+use lib.ListN.{getD, set}
 use Rattle.meaning.specs.Values.{Message}
-use Rattle.meaning.specs.State.{Store, State, Program, program, writeAll, Effect}
+use Rattle.meaning.specs.State.{State, Program, program, writeAll, Effect, changed}
 use Rattle.meaning.specs.Labels.{Label}
 use Rattle.meaning.specs.Readings.{Sheet}
 use Rattle.meaning.specs.Settle.{settled}
 use Rattle.meaning.specs.Step.{HostInput, InnerOutput, Allows, Step, assignment, while-false, while-true, if-true, communication, host-read, host-write, alt-skip, alt-read, alt-communication, stopping}
-use Rattle.meaning.specs.Order.{Begins, Order, halt, next-step, OrderOf}
-use Rattle.agreement.specs.MissingClaims.{cellAt, Delivers, by-assignment, by-communication, by-reading, by-option-reading, by-option-communication, TakesAbsent, input-absent, input-passed, option-absent, option-passed, SetOnly, SetByNumber, OnlyAbsentUnsets, DeliveredHolds, AbsentUnsets, SetInOrder}
+use Rattle.meaning.specs.Order.{rootStarted, Begins, Order, halt, next-step, OrderOf}
+use Rattle.meaning.proofs.UnsetLaws.{cell-set-same, all-unset}
+use Rattle.agreement.specs.MissingClaims.{cellAt, LocalCell, Delivers, by-assignment, by-communication, by-reading, by-option-reading, by-option-communication, TakesAbsent, input-absent, input-passed, option-absent, option-passed, SetOnly, SetByNumber, OnlyAbsentUnsets, AbsentUnsets, SetInOrder}
+use Rattle.agreement.proofs.SettlingData.{stored-or-same, settling-cells}
 use Rattle.agreement.proofs.Takeable.{takeable}
 use Rattle.agreement.proofs.Steps.{distinct-options, allowed-step}
 use Rattle.agreement.proofs.Separate.{table-inv}
 use Rattle.agreement.proofs.TableFit.{fit}
-
--- a store into one place changes that place or none, and past the end none
-module _ {A : Type 0} (d m : A) where
-  pub stored-or-same : (l : List A) (b a : ℕ) → (getD (set l b m) a d ≡ getD l a d) ⊎ ((b ≡ a) × (getD (set l b m) a d ≡ m))
-  stored-or-same [] b a = inl refl
-  stored-or-same (x ∷ l) zero zero = inr (refl, refl)
-  stored-or-same (x ∷ l) zero (suc a) = inl refl
-  stored-or-same (x ∷ l) (suc b) zero = inl refl
-  stored-or-same (x ∷ l) (suc b) (suc a) = go (stored-or-same l b a)
-    where
-      go : (getD (set l b m) a d ≡ getD l a d) ⊎ ((b ≡ a) × (getD (set l b m) a d ≡ m)) → (getD (set l b m) a d ≡ getD l a d) ⊎ ((suc b ≡ suc a) × (getD (set l b m) a d ≡ m))
-      go (inl e) = inl e
-      go (inr (e, h)) = inr (ap suc e, h)
-
--- an absence, stored, leaves none, past the end too
-none-stored : (l : List Message) (a : ℕ) → getD (set l a none) a none ≡ none
-none-stored [] a = refl
-none-stored (x ∷ l) zero = refl
-none-stored (x ∷ l) (suc a) = none-stored l a
 
 module _ (P : Program) (sheet : Sheet) (s : State) (x : Label) where
   -- the message m handed to cell b, seen at cell a
@@ -51,7 +34,7 @@ module _ (P : Program) (sheet : Sheet) (s : State) (x : Label) where
       go (inr (e, h)) = inr (m, subst (λ (c : ℕ). Delivers P sheet s x c m) e d, h)
 
 -- the writes of a step leave every cell as it was, but for one to which it hands a message
-writes-only : (P : Program) (sheet : Sheet) (s : State) (x : Label) (e : Effect) → Allows P sheet s x e → (a : ℕ)
+pub writes-only : (P : Program) (sheet : Sheet) (s : State) (x : Label) (e : Effect) → Allows P sheet s x e → (a : ℕ)
     → let c = getD (writeAll (e .writes) (s .store) .cells) a none in (c ≡ cellAt s a) ⊎ ((m : Message) × Delivers P sheet s x a m × (c ≡ m))
 writes-only P sheet s x e (assignment {r} {a = b} {z} g p q) a = handed P sheet s x b a (some z) (by-assignment g p q)
 writes-only P sheet s x e (while-false g h) a = inl refl
@@ -65,35 +48,44 @@ writes-only P sheet s x e (alt-read {a = b} {v} g c m h q k) a = handed P sheet 
 writes-only P sheet s x e (alt-communication {a = b} {m = z} g c m k h q w y) a = handed P sheet s x b a z (by-option-communication g c m k h q w y)
 writes-only P sheet s x e (stopping g h) a = inl refl
 
--- so does the step
+-- so does the step, but for cells of blocks, which settling may unset
 pub set-only : SetOnly
-set-only P sheet s x t h a =
-    subst (λ (y : Store). (getD (y .cells) a none ≡ cellAt s a) ⊎ ((m : Message) × Delivers P sheet s x a m × (getD (y .cells) a none ≡ m))) (sym (h .leaves .stores))
-    (writes-only P sheet s x (h .does) (h .allowed) a)
+set-only P sheet s x t h a = go (settling-cells P (h .leaves .by-rules) a) (writes-only P sheet s x (h .does) (h .allowed) a)
+  where
+    go : (cellAt t a ≡ cellAt (changed (h .does) s) a) ⊎ (LocalCell P a × (cellAt t a ≡ none))
+        → let c = cellAt (changed (h .does) s) a in (c ≡ cellAt s a) ⊎ ((m : Message) × Delivers P sheet s x a m × (c ≡ m))
+        → (cellAt t a ≡ cellAt s a) ⊎ ((m : Message) × Delivers P sheet s x a m × (cellAt t a ≡ m)) ⊎ (LocalCell P a × (cellAt t a ≡ none))
+    go (inr k) w = inr (inr k)
+    go (inl k) (inl e) = inl (k ∙ e)
+    go (inl k) (inr (m, d, e)) = inr (inl (m, d, k ∙ e))
 
 -- a cell that holds a number after a step held it before, or was handed it
 pub set-by-number : SetByNumber
 set-by-number P sheet s x t h a z e = go (set-only P sheet s x t h a)
   where
-    go : (cellAt t a ≡ cellAt s a) ⊎ ((m : Message) × Delivers P sheet s x a m × (cellAt t a ≡ m)) → (cellAt s a ≡ some z) ⊎ Delivers P sheet s x a (some z)
+    go : (cellAt t a ≡ cellAt s a) ⊎ ((m : Message) × Delivers P sheet s x a m × (cellAt t a ≡ m)) ⊎ (LocalCell P a × (cellAt t a ≡ none))
+        → (cellAt s a ≡ some z) ⊎ Delivers P sheet s x a (some z)
     go (inl q) = inl (sym q ∙ e)
-    go (inr (m, d, q)) = inr (subst (λ (n : Message). Delivers P sheet s x a n) (sym q ∙ e) d)
+    go (inr (inl (m, d, q))) = inr (subst (λ (n : Message). Delivers P sheet s x a n) (sym q ∙ e) d)
+    go (inr (inr (k, q))) = absurd (Option·none-ne-some z (sym q ∙ e))
 
 -- what hands over no number takes an absence: an assignment has a number
-absent-delivery : (P : Program) (sheet : Sheet) (s : State) (x : Label) (a : ℕ) (m : Message) → Delivers P sheet s x a m → m ≡ none → TakesAbsent P sheet s x a
+pub absent-delivery : (P : Program) (sheet : Sheet) (s : State) (x : Label) (a : ℕ) (m : Message) → Delivers P sheet s x a m → m ≡ none → TakesAbsent P sheet s x a
 absent-delivery P sheet s x a m (by-assignment {z} g p q) e = absurd (Option·none-ne-some z (sym e))
 absent-delivery P sheet s x a m (by-communication {d} {c} {e = w} {f} g k h o) e = input-passed g k h (subst (λ (v : Message). InnerOutput (s .store) c w f d v) e o)
 absent-delivery P sheet s x a m (by-reading {n} {i} g h) e = input-absent g (subst (λ (v : Message). HostInput sheet (s .store) i a v n) e h)
 absent-delivery P sheet s x a m (by-option-reading {n} {i} g c b h q k) e = option-absent g c b h q (subst (λ (v : Message). HostInput sheet (s .store) i a v n) e k)
 absent-delivery P sheet s x a m (by-option-communication {d} {c = l} {e = w} {f} g c b k h q i o) e = option-passed g c b k h q i (subst (λ (v : Message). InnerOutput (s .store) l w f d v) e o)
 
--- a cell that is unset after a step was unset before, or the step took an absence for it
+-- a cell that is unset after a step was unset before, or the step took an absence for it, or it is a cell of a block
 pub only-absent-unsets : OnlyAbsentUnsets
 only-absent-unsets P sheet s x t h a e = go (set-only P sheet s x t h a)
   where
-    go : (cellAt t a ≡ cellAt s a) ⊎ ((m : Message) × Delivers P sheet s x a m × (cellAt t a ≡ m)) → (cellAt s a ≡ none) ⊎ TakesAbsent P sheet s x a
+    go : (cellAt t a ≡ cellAt s a) ⊎ ((m : Message) × Delivers P sheet s x a m × (cellAt t a ≡ m)) ⊎ (LocalCell P a × (cellAt t a ≡ none))
+        → (cellAt s a ≡ none) ⊎ TakesAbsent P sheet s x a ⊎ LocalCell P a
     go (inl q) = inl (sym q ∙ e)
-    go (inr (m, d, q)) = inr (absent-delivery P sheet s x a m d (sym q ∙ e))
+    go (inr (inl (m, d, q))) = inr (inl (absent-delivery P sheet s x a m d (sym q ∙ e)))
+    go (inr (inr (k, q))) = inr (inr k)
 
 module _ (rows : List ℤ) (sheet : Sheet) (s : State) where
   -- a label's step has one effect
@@ -116,15 +108,10 @@ module _ (rows : List ℤ) (sheet : Sheet) (s : State) where
   delivery-of-absent x a (option-absent g c b h q k) = by-option-reading g c b h q k
   delivery-of-absent x a (option-passed g c b k h q i o) = by-option-communication g c b k h q i o
 
-  stored-at : (x : Label) (a : ℕ) (m : Message) (t : State) → Step (program rows) sheet s x t → Delivers (program rows) sheet s x a m → t .store .cells ≡ set (s .store .cells) a m
-  stored-at x a m t h d =
-      let (e, k, q) = stores x a m d in
-      ap (λ (y : Store). y .cells) (h .leaves .stores) ∙ ap (λ (f : Effect). writeAll (f .writes) (s .store) .cells) (one-effect x (h .does) e (h .allowed) k) ∙ q
-
--- a step that hands a message to a cell leaves that message in it
-pub delivered-holds : DeliveredHolds
-delivered-holds rows sheet s x t h a m d l =
-    ap (λ (c : List Message). getD c a none) (stored-at rows sheet s x a m t h d) ∙ getD-set-same (s .store .cells) a m none l
+  -- before the state settles the cell holds the message
+  pub stored-at : (x : Label) (a : ℕ) (m : Message) (e : Effect) → Allows (program rows) sheet s x e → Delivers (program rows) sheet s x a m
+      → changed e s .store .cells ≡ set (s .store .cells) a m
+  stored-at x a m e k d = let (f, j, q) = stores x a m d in ap (λ (g : Effect). changed g s .store .cells) (one-effect x e f k j) ∙ q
 
 -- an input of an absence takes place and leaves its target unset
 pub absent-unsets : AbsentUnsets
@@ -133,17 +120,23 @@ absent-unsets rows sheet s x a r =
     let (e, h, q) = stores rows sheet s x a none d in (
       (e, h),
       λ ok (l, o). (settled (program rows) e s, allowed-step rows sheet (fit rows ok) s (table-inv rows sheet (fit rows ok) l s o) x e h),
-      λ t h. ap (λ (c : List Message). getD c a none) (stored-at rows sheet s x a none t h d) ∙ none-stored (s .store .cells) a,
+      λ t h. unset-left t h (ap (λ (c : List Message). getD c a none) (stored-at rows sheet s x a none (h .does) (h .allowed) d) ∙ cell-set-same (s .store .cells) a),
     )
+  where
+    unset-left : (t : State) (h : Step (program rows) sheet s x t) → cellAt (changed (h .does) s) a ≡ none → cellAt t a ≡ none
+    unset-left t h e = go (settling-cells (program rows) (h .leaves .by-rules) a)
+      where
+        go : (cellAt t a ≡ cellAt (changed (h .does) s) a) ⊎ (LocalCell (program rows) a × (cellAt t a ≡ none)) → cellAt t a ≡ none
+        go (inl k) = k ∙ e
+        go (inr k) = k .1
 
 -- in the beginning every cell is unset
-begins-unset : (P : Program) (s : State) → Begins P s → (a : ℕ) → cellAt s a ≡ none
-begins-unset P s b a = ap (λ (c : List Message). getD c a none) (b .unset) ∙ go (P .cells) a
+pub begins-unset : (P : Program) (s : State) → Begins P s → (a : ℕ) → cellAt s a ≡ none
+begins-unset P s b a = go (settling-cells P (b .by-rules) a)
   where
-    go : (n a : ℕ) → _≡_ {A = Message} (getD (replicate n none) a none) none
-    go zero a = refl
-    go (suc n) zero = refl
-    go (suc n) (suc a) = go n a
+    go : (cellAt s a ≡ cellAt (rootStarted P) a) ⊎ (LocalCell P a × (cellAt s a ≡ none)) → cellAt s a ≡ none
+    go (inl k) = k ∙ all-unset (P .cells) a
+    go (inr k) = k .1
 
 module _ (rows : List ℤ) (sheet : Sheet) (a : ℕ) (z : ℤ) where
   -- the step of an order that handed the number to the cell, with the steps before and after it

@@ -10,7 +10,7 @@ use Rattle.meaning.specs.declared.Index.{Index}
 use Rattle.meaning.specs.declared.Index.the-variants.{At, Fails}
 use Rattle.meaning.specs.Basics.{ifElse}
 use Rattle.meaning.specs.Declarations.{Channel}
-use Rattle.meaning.specs.Tree.{Expr, literal, element, monadic, given, dyadic, noExpr, ChannelInput, IfChoice, AltOption, Action, stop, skip, sequence, parallel, assign, input, output, conditional, loop, alternation}
+use Rattle.meaning.specs.Tree.{Expr, literal, element, monadic, given, dyadic, noExpr, ChannelInput, IfChoice, AltOption, Action, stop, skip, sequence, parallel, assign, input, output, conditional, loop, alternation, block}
 use Rattle.meaning.specs.Values.{Message, index, Sent, gives, lacking, cellSent, valueSent, passed}
 use Rattle.meaning.specs.State.{Store}
 use Rattle.meaning.specs.Intent.{hostRead, fromElement, hostWrite, outputsTo, inputResultOf, outputting, inputResult, inputResultIf, tests, optionsResult, intent}
@@ -145,3 +145,4 @@ module _ (source sink : ℕ → ℕ) where
     near (alternation bs) r H g =
         let u = agree-left (standsInGuards bs) (ofGuards usesBy bs) (x .cells) (y .cells) (g .cell) in
         rw (looks-near bs H u (agree-right (standsInGuards bs) (ofGuards usesBy bs) (x .cells) (y .cells) (g .cell)) (g .place))
+    near (block v) r H g = refl

@@ -7,14 +7,15 @@ use Prim.Native.Nat.{ℕ, zero, suc}
 use native.Mathlib.Omega.{arith}
 use lib.ListN.{length, getD, set, length-set}
 use lib.Seq.{getD-set-other, getD-set-same}
-use Rattle.meaning.specs.Tree.{Action, skip, sequence, parallel, conditional, loop, alternation, Process, node, Processes, empty, also, rowOf, rowsIn, rowsBeneath}
-use Rattle.meaning.specs.State.{stateOf, makeIdle, anyOf}
+use Rattle.meaning.specs.Tree.{Action, skip, sequence, parallel, conditional, loop, alternation, block, Process, node, Processes, empty, also, rowOf, rowsIn, rowsBeneath}
+use Rattle.meaning.specs.State.{Store, State, stateOf, makeIdle, anyOf}
 use Rattle.meaning.specs.Settle.{statesOf, Mode, inTurn, together, byStep, mode, starts, nextMode, isEnded, isIdleOrEnded, allOf, complete, endsWhenClosed, settleRunning, settleEach, settle}
-use Rattle.meaning.specs.SettlingRules.{Among, All, Next, Settles, skip-ends, seq-starts, par-starts, seq-ends, par-ends, if-ends, alt-ends, while-again}
-use Rattle.agreement.proofs.Frame.{body-shape, walk-also, row-in, walk-local, see-local, zeros-local, Off, length-local, off-look}
+use Rattle.meaning.specs.SettlingRules.{Among, All, Next, Settles, skip-ends, seq-starts, par-starts, seq-ends, par-ends, if-ends, alt-ends, while-again, block-starts, block-ends, Final}
+use Rattle.agreement.proofs.Frame.{body-shape, walk-also, row-in, walk-local, see-local, Off, length-local, off-look}
 use Rattle.agreement.proofs.Again.{Sound, SoundM, sound-row, Idle, see-run, see-idle, see-start, see-over, zeros-idle, loop-never}
 use Rattle.agreement.proofs.Reach.{Good, GoodM, idle, over, run, each, past, now, pass, pick, not-running, Agree, states-agree, goodM-agree, goodM-idle, goodM-quiet, done-over, good-start, good-walk, goodM-head, Sub, SubM, self, inside, front, back, sub-in, subM-in}
-use Rattle.agreement.proofs.Settled.{Plain, PlainA, PlainM}
+use Rattle.agreement.proofs.Begun.{not-idle}
+use Rattle.agreement.proofs.Settled.{Plain, PlainA, PlainM, stateWith}
 use Rattle.agreement.proofs.Inside.{within-of, sub-rows, among-row, next-among, next-agree}
 
 -- no rule applies to a running process whose members are walked by a mode
@@ -41,27 +42,15 @@ module _ (s t : List ℕ) where
       still-agree (mode k) ms (λ y q. g y (sub-rows (List·Memᴰ·tail q) p u)) (h k r ms u (sym (g r (sub-in p u)) ∙ e))
 
 -- a process that may be started is not idle once it has settled
-pub ran : (p : Process) (n : ℕ) → Sound p n → (s : List ℕ) → length s ≡ n → stateOf s p ≡ 1 → stateOf (settleRunning p s) p ≢ 0
-ran (node k r ms) n d s l e = go (complete (mode k) (statesOf ms w)) (endsWhenClosed k) refl refl
-  where
-    w : List ℕ
-    w = settleEach ms (mode k) s
-
-    e1 : getD w r 0 ≡ 1
-    e1 = off-look (walk-local ms (mode k)) s r (d .1) ∙ e
-
-    go : (c x : Bool) → complete (mode k) (statesOf ms w) ≡ c → endsWhenClosed k ≡ x → stateOf (settleRunning (node k r ms) s) (node k r ms) ≢ 0
-    go false x ec ex = rw (body-shape k r ms s false x ec ex) (λ z. absurd (omega (arith, e1)))
-    go true true ec ex = rw (body-shape k r ms s true true ec ex)
-        (λ z. absurd (omega (arith, getD-set-same w r 2 0 (rw (length-local (walk-local ms (mode k)) s, l) (d .0)))))
-    go true false ec ex = rw (body-shape k r ms s true false ec ex) (λ z. absurd (omega (arith, off-look (zeros-local (rowsBeneath ms)) w r (d .1), e1)))
-
 started : (p : Process) (n : ℕ) → Sound p n → (s : List ℕ) → length s ≡ n → stateOf (settle p true s) p ≢ 0
 started p n d s l = go (stateOf s p) refl
   where
+    ran : (u : List ℕ) → length u ≡ n → stateOf u p ≡ 1 → stateOf (settleRunning p u) p ≢ 0
+    ran u l e = let (j, q) = not-idle p n d u l e in λ z. absurd (omega arith)
+
     go : (j : ℕ) → stateOf s p ≡ j → stateOf (settle p true s) p ≢ 0
-    go zero e = rw (see-start p s e) (ran p n d (set s (rowOf p) 1) (length-set s (rowOf p) 1 ∙ l) (getD-set-same s (rowOf p) 1 0 (rw l (sound-row p n d))))
-    go (suc zero) e = rw (see-run p true s e) (ran p n d s l e)
+    go zero e = rw (see-start p s e) (ran (set s (rowOf p) 1) (length-set s (rowOf p) 1 ∙ l) (getD-set-same s (rowOf p) 1 0 (rw l (sound-row p n d))))
+    go (suc zero) e = rw (see-run p true s e) (ran s l e)
     go (suc (suc j)) e = rw (see-over p true s j e) (λ z. absurd (omega arith))
 
 module _ (n : ℕ) where
@@ -217,10 +206,10 @@ module _ {k : Action} {r : ℕ} {ms : Processes} where
     plainM-at (also p ps) (front u) h = plain-at p u (h .0)
     plainM-at (also p ps) (back u) h = plainM-at ps u (h .1)
 
-rested-final : (whole : Process) → Plain whole → (s : List ℕ) → Rested s whole → (t : List ℕ) → ¬ Settles whole s t
+rested-final : (whole : Process) → Plain whole → (s : State) → Rested (s .states) whole → (t : State) → ¬ Settles whole s t
 rested-final whole h s g t (skip-ends {r} {ms} (i, e)) =
     let u = within-of i in
-    true≢false (sym (ap (λ (q : Processes). allOf isEnded (statesOf q s)) (skip-empty ms (plain-at whole u h))) ∙ g skip r ms u e .0)
+    true≢false (sym (ap (λ (q : Processes). allOf isEnded (statesOf q (s .states))) (skip-empty ms (plain-at whole u h))) ∙ g skip r ms u e .0)
 rested-final whole h s g t (seq-starts {r} {ms} {q} (i, e) x z) = g sequence r ms (within-of i) e .1 q x z
 rested-final whole h s g t (par-starts {r} {ms} {q} (i, e) x z) = g parallel r ms (within-of i) e .1 q x z
 rested-final whole h s g t (seq-ends {r} {ms} (i, e) x) = true≢false (sym (ended-closes x) ∙ g sequence r ms (within-of i) e .0)
@@ -228,7 +217,9 @@ rested-final whole h s g t (par-ends {r} {ms} (i, e) x) = true≢false (sym (end
 rested-final whole h s g t (if-ends {ts} {r} {ms} {q} (i, e) x z) = g (conditional ts) r ms (within-of i) e q x z
 rested-final whole h s g t (alt-ends {bs} {r} {ms} {q} (i, e) x z) = g (alternation bs) r ms (within-of i) e q x z
 rested-final whole h s g t (while-again {e = c} {b} {r} {ms} {q} (i, e) x z) = g (loop c b) r ms (within-of i) e q x z
+rested-final whole h s g t (block-starts {v} {r} {ms} {q} (i, e) x z) = g (block v) r ms (within-of i) e .1 q x z
+rested-final whole h s g t (block-ends {v} {r} {ms} (i, e) x) = true≢false (sym (ended-closes x) ∙ g (block v) r ms (within-of i) e .0)
 
 -- to settle a good state leaves no rule that applies
-pub no-rule-left : (whole : Process) (n : ℕ) → Sound whole n → Plain whole → (s : List ℕ) → length s ≡ n → Good s whole → (b : Bool) → (t : List ℕ) → ¬ Settles whole (settle whole b s) t
-no-rule-left whole n d h s l g b = rested-final whole h (settle whole b s) (rested n whole d b s l g)
+pub no-rule-left : (whole : Process) (n : ℕ) → Sound whole n → Plain whole → (s : List ℕ) → length s ≡ n → Good s whole → (b : Bool) (x : Store) → Final whole (stateWith (settle whole b s) x)
+no-rule-left whole n d h s l g b x = rested-final whole h (stateWith (settle whole b s) x) (rested n whole d b s l g)

@@ -1,12 +1,13 @@
--- The statements about orders are not empty: PAR of x := 1 and y := 2 has two orders to rest; WHILE 1 SKIP never comes to rest.
+-- The statements about orders are not empty: PAR of x := 1 and y := 2 has two orders to rest, so has a PAR of two IFs with a block in each; WHILE 1 SKIP never comes to rest.
 use mathlib.Core.Path.{_≡_, refl, sym, ap, subst, _∙_}
 use mathlib.Core.Bool.{false≢true}
 use mathlib.Core.Option.{none}
 use mathlib.Core.List.{List, [], _∷_, List·Memᴰ, List·Memᴰ·head, List·Memᴰ·tail, List·Memᴰ·not-nil, List·Memᴰ·eq-of-singleton}
-use Prim.Native.Nat.{ℕ, zero, suc}
+use Prim.Native.Nat.{ℕ, zero, suc, _<_}
 use native.Mathlib.Omega.{arith}
 use lib.IntN.{ℤ, pos, negsuc}
 use lib.ListN.{length}
+use Rattle.meaning.specs.Basics.{lowest}
 use Rattle.meaning.specs.Rows.{rowCount, kindAt}
 use Rattle.meaning.specs.State.{State, program}
 use Rattle.meaning.specs.Labels.{Label, own, orderRow}
@@ -22,7 +23,7 @@ use Rattle.meaning.specs.Answers.{check}
 use Rattle.meaning.proofs.ComputesAnswers.{computesAnswers}
 use Rattle.meaning.proofs.NoFault.{lowest-none}
 use Rattle.agreement.specs.Statements.{NoAlt}
-use Rattle.agreement.specs.NotEmptyClaims.{LongOrder, TwoOrders, NeverRests}
+use Rattle.agreement.specs.NotEmptyClaims.{LongOrder, TwoOrders, TwoOrdersOfBlocks, NeverRests}
 use Rattle.agreement.proofs.Steps.{ready-allowed, allowed-ready}
 use Rattle.agreement.proofs.Reached.{order-more}
 use Rattle.agreement.proofs.Fit.{Fit}
@@ -52,6 +53,44 @@ module _ (rows : List ℤ) (ok : check rows ≡ none) (sheet : Sheet) where
   rests : (l : List Label) (s : State) → OrderOf rows sheet l s → ready (program rows) sheet s ≡ [] → RestOf rows sheet s
   rests l s o e x t h = List·Memᴰ·not-nil (subst (λ (k : List Label). List·Memᴰ x k) e (allowed-ready rows sheet F s (table-inv rows sheet F l s o) x t h .0))
 
+-- ---- two steps of rows by themselves
+
+-- the row of an order's first step
+firstRow : List Label → ℕ
+firstRow [] = 0
+firstRow (x ∷ l) = orderRow x
+
+module _ (rows : List ℤ) where
+  -- no row is an ALT, by one test
+  no-alt : lowest (λ q. eqb (kindAt rows q) 34) (rowCount rows) ≡ none → NoAlt rows
+  no-alt k r h e = false≢true (sym (lowest-none (λ q. eqb (kindAt rows q) 34) (rowCount rows) k r h) ∙ eq-eqb (kindAt rows r) 34 e)
+
+  abbrev atStart : State
+  atStart = start (program rows)
+
+  -- the state after a step of row r by itself
+  abbrev afterOwn : ℕ → State → State
+  afterOwn r s = after (program rows) (readings rows emptySheet) (own r) s
+
+  abbrev readyIn : State → List Label
+  readyIn s = ready (program rows) (readings rows emptySheet) s
+
+  -- an order of the steps of rows r and q
+  two-steps : check rows ≡ none → (r q : ℕ) (l m : List Label) → readyIn atStart ≡ l → List·Memᴰ (own r) l → readyIn (afterOwn r atStart) ≡ m → List·Memᴰ (own q) m
+      → readyIn (afterOwn q (afterOwn r atStart)) ≡ [] → LongOrder rows emptySheet
+  two-steps ok r q l m e h d g z =
+      let sheet = readings rows emptySheet in
+      let none : OrderOf rows sheet [] atStart = from-start rows ok sheet [] atStart halt in
+      let one : OrderOf rows sheet (own r ∷ []) (afterOwn r atStart) = order-more rows sheet none (ready-step rows ok sheet [] atStart none (own r) l e h) in
+      let o : OrderOf rows sheet (own r ∷ own q ∷ []) (afterOwn q (afterOwn r atStart)) = order-more rows sheet one (ready-step rows ok sheet (own r ∷ []) (afterOwn r atStart) one (own q) m d g) in
+      record {
+        labels = own r ∷ own q ∷ [];
+        end = afterOwn q (afterOwn r atStart);
+        long = omega arith;
+        order = o;
+        rest = rests rows ok sheet (own r ∷ own q ∷ []) (afterOwn q (afterOwn r atStart)) o z;
+      }
+
 -- ---- PAR of x := 1 and y := 2
 
 abbrev parRows : List ℤ
@@ -68,62 +107,29 @@ par-sheet : sheetFault parRows emptySheet ≡ none
 unfolding computesAnswers
 par-sheet = refl
 
--- no row is an ALT
 par-without-alt : NoAlt parRows
 unfolding computesAnswers
-par-without-alt r h e = false≢true (sym (lowest-none (λ q. eqb (kindAt parRows q) 34) (rowCount parRows) refl r h) ∙ eq-eqb (kindAt parRows r) 34 e)
+par-without-alt = no-alt parRows refl
 
-abbrev parStart : State
-parStart = start (program parRows)
-
--- the state after a step of row r by itself
-abbrev parAfter : ℕ → State → State
-parAfter r s = after (program parRows) (readings parRows emptySheet) (own r) s
-
-abbrev parReady : State → List Label
-parReady s = ready (program parRows) (readings parRows emptySheet) s
-
-both-ready : parReady parStart ≡ own 4 ∷ own 8 ∷ []
+both-ready : readyIn parRows (atStart parRows) ≡ own 4 ∷ own 8 ∷ []
 unfolding computesAnswers
 both-ready = refl
 
-second-left : parReady (parAfter 4 parStart) ≡ own 8 ∷ []
+second-left : readyIn parRows (afterOwn parRows 4 (atStart parRows)) ≡ own 8 ∷ []
 unfolding computesAnswers
 second-left = refl
 
-first-left : parReady (parAfter 8 parStart) ≡ own 4 ∷ []
+first-left : readyIn parRows (afterOwn parRows 8 (atStart parRows)) ≡ own 4 ∷ []
 unfolding computesAnswers
 first-left = refl
 
-none-left : parReady (parAfter 8 (parAfter 4 parStart)) ≡ []
+none-left : readyIn parRows (afterOwn parRows 8 (afterOwn parRows 4 (atStart parRows))) ≡ []
 unfolding computesAnswers
 none-left = refl
 
-none-left-too : parReady (parAfter 4 (parAfter 8 parStart)) ≡ []
+none-left-too : readyIn parRows (afterOwn parRows 4 (afterOwn parRows 8 (atStart parRows))) ≡ []
 unfolding computesAnswers
 none-left-too = refl
-
--- an order of the steps of rows r and q
-two-steps : (r q : ℕ) (l m : List Label) → parReady parStart ≡ l → List·Memᴰ (own r) l → parReady (parAfter r parStart) ≡ m → List·Memᴰ (own q) m → parReady (parAfter q (parAfter r parStart)) ≡ []
-    → LongOrder parRows emptySheet
-two-steps r q l m e h d g z =
-    let sheet = readings parRows emptySheet in
-    let none : OrderOf parRows sheet [] parStart = from-start parRows par-accepted sheet [] parStart halt in
-    let one : OrderOf parRows sheet (own r ∷ []) (parAfter r parStart) = order-more parRows sheet none (ready-step parRows par-accepted sheet [] parStart none (own r) l e h) in
-    let o : OrderOf parRows sheet (own r ∷ own q ∷ []) (parAfter q (parAfter r parStart)) =
-    order-more parRows sheet one (ready-step parRows par-accepted sheet (own r ∷ []) (parAfter r parStart) one (own q) m d g) in
-    record {
-      labels = own r ∷ own q ∷ [];
-      end = parAfter q (parAfter r parStart);
-      long = omega arith;
-      order = o;
-      rest = rests parRows par-accepted sheet (own r ∷ own q ∷ []) (parAfter q (parAfter r parStart)) o z;
-    }
-
--- the row of an order's first step
-firstRow : List Label → ℕ
-firstRow [] = 0
-firstRow (x ∷ l) = orderRow x
 
 -- an accepted table and sheet with two different orders of length 2 that both come to rest
 pub two-orders : TwoOrders
@@ -135,10 +141,74 @@ two-orders =
       table-accepted = par-accepted;
       sheet-accepted = par-sheet;
       without-alt = par-without-alt;
-      one = two-steps 4 8 _ _ both-ready (List·Memᴰ·head refl) second-left (List·Memᴰ·head refl) none-left;
-      two = two-steps 8 4 _ _ both-ready (List·Memᴰ·tail (List·Memᴰ·head refl)) first-left (List·Memᴰ·head refl) none-left-too;
+      one = two-steps parRows par-accepted 4 8 _ _ both-ready (List·Memᴰ·head refl) second-left (List·Memᴰ·head refl) none-left;
+      two = two-steps parRows par-accepted 8 4 _ _ both-ready (List·Memᴰ·tail (List·Memᴰ·head refl)) first-left (List·Memᴰ·head refl) none-left-too;
       differ = λ e. let h : _≡_ {A = ℕ} 4 8 = ap firstRow e in omega arith;
     }
+
+-- ---- PAR of two IFs, each with one choice, that starts a block: the block's SKIP ends at once
+
+abbrev blockRows : List ℤ
+blockRows =
+    pos 1 ∷ pos 1 ∷ pos 0 ∷ pos 0 ∷ pos 1 ∷ pos 1 ∷ pos 0 ∷ pos 0 ∷ pos 31 ∷ pos 3 ∷ pos 0 ∷ pos 0
+    ∷ pos 40 ∷ pos 4 ∷ pos 9 ∷ pos 0 ∷ pos 32 ∷ pos 5 ∷ pos 0 ∷ pos 0 ∷ pos 41 ∷ pos 6 ∷ negsuc 0 ∷ pos 8
+    ∷ pos 35 ∷ pos 0 ∷ pos 7 ∷ pos 0 ∷ pos 21 ∷ pos 0 ∷ pos 0 ∷ pos 0 ∷ pos 10 ∷ pos 1 ∷ pos 0 ∷ pos 0
+    ∷ pos 40 ∷ pos 10 ∷ negsuc 0 ∷ pos 0 ∷ pos 32 ∷ pos 11 ∷ pos 0 ∷ pos 0 ∷ pos 41 ∷ pos 12 ∷ negsuc 0 ∷ pos 14
+    ∷ pos 35 ∷ pos 1 ∷ pos 13 ∷ pos 0 ∷ pos 21 ∷ pos 0 ∷ pos 0 ∷ pos 0 ∷ pos 10 ∷ pos 1 ∷ pos 0 ∷ pos 0 ∷ []
+
+block-accepted : check blockRows ≡ none
+unfolding computesAnswers
+block-accepted = refl
+
+block-sheet : sheetFault blockRows emptySheet ≡ none
+unfolding computesAnswers
+block-sheet = refl
+
+block-without-alt : NoAlt blockRows
+unfolding computesAnswers
+block-without-alt = no-alt blockRows refl
+
+blocks-ready : readyIn blockRows (atStart blockRows) ≡ own 4 ∷ own 10 ∷ []
+unfolding computesAnswers
+blocks-ready = refl
+
+second-block-left : readyIn blockRows (afterOwn blockRows 4 (atStart blockRows)) ≡ own 10 ∷ []
+unfolding computesAnswers
+second-block-left = refl
+
+first-block-left : readyIn blockRows (afterOwn blockRows 10 (atStart blockRows)) ≡ own 4 ∷ []
+unfolding computesAnswers
+first-block-left = refl
+
+no-block-left : readyIn blockRows (afterOwn blockRows 10 (afterOwn blockRows 4 (atStart blockRows))) ≡ []
+unfolding computesAnswers
+no-block-left = refl
+
+no-block-left-too : readyIn blockRows (afterOwn blockRows 4 (afterOwn blockRows 10 (atStart blockRows))) ≡ []
+unfolding computesAnswers
+no-block-left-too = refl
+
+-- row 6 is a block
+block-is : (6 < rowCount blockRows) × (kindAt blockRows 6 ≡ 35)
+unfolding computesAnswers
+block-is = (omega arith, refl)
+
+-- an accepted table with blocks and two different orders, each of whose steps starts a block
+pub two-orders-of-blocks : TwoOrdersOfBlocks
+unfolding two-steps firstRow
+two-orders-of-blocks = (
+  record {
+    rows = blockRows;
+    sheet = emptySheet;
+    table-accepted = block-accepted;
+    sheet-accepted = block-sheet;
+    without-alt = block-without-alt;
+    one = two-steps blockRows block-accepted 4 10 _ _ blocks-ready (List·Memᴰ·head refl) second-block-left (List·Memᴰ·head refl) no-block-left;
+    two = two-steps blockRows block-accepted 10 4 _ _ blocks-ready (List·Memᴰ·tail (List·Memᴰ·head refl)) first-block-left (List·Memᴰ·head refl) no-block-left-too;
+    differ = λ e. let h : _≡_ {A = ℕ} 4 10 = ap firstRow e in omega arith;
+  },
+  (6, block-is .0, block-is .1),
+)
 
 -- ---- WHILE 1 SKIP
 

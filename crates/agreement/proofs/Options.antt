@@ -13,13 +13,13 @@ use borrow.Author.Tests.{ltb-true}
 use Rattle.meaning.specs.declared.Value.{Value}
 use Rattle.meaning.specs.declared.Value.the-variants.{Number, Missing}
 use Rattle.meaning.specs.declared.Node.{Node}
-use Rattle.meaning.specs.declared.Node.the-variants.{Literal, Element, Monadic, Dyadic, Stop, Skip, Assignment, Input, Output, Seq, Par, If, While, Alt, Member, Choice, OptionRow, Guard, Other}
+use Rattle.meaning.specs.declared.Node.the-variants.{Literal, Element, Monadic, Dyadic, Stop, Skip, Assignment, Input, Output, Seq, Par, If, While, Alt, Block, Member, Choice, OptionRow, Guard, Other}
 use Rattle.meaning.specs.Basics.{ifElse}
 use Rattle.meaning.specs.Rows.{rowCount}
 use Rattle.meaning.specs.Nodes.{nodeAt}
 use Rattle.meaning.specs.HigherRows.{lastRows, atRow}
 use Rattle.meaning.proofs.HigherRows.{atRow-at, atRow-past}
-use Rattle.meaning.specs.Tree.{AltOption, Action, stop, skip, sequence, parallel, assign, input, output, conditional, loop, alternation, Process, Content, noContent, contentOf, contents, orStop, actionOf}
+use Rattle.meaning.specs.Tree.{AltOption, Action, stop, skip, sequence, parallel, assign, input, output, conditional, loop, alternation, block, Process, Content, noContent, contentOf, contents, orStop, actionOf}
 use Rattle.meaning.specs.Values.{isTrue, value}
 use Rattle.meaning.specs.State.{Store, program, processAt}
 use Rattle.meaning.specs.Readings.{Sheet}
@@ -58,6 +58,7 @@ ActionOk n (output c e f) = Unit {0}
 ActionOk n (conditional ts) = Unit {0}
 ActionOk n (loop e b) = Unit {0}
 ActionOk n (alternation bs) = Rising n 0 bs
+ActionOk n (block v) = Unit {0}
 
 abbrev ProcessOk : ℕ → Option Process → Type 0
 ProcessOk n none = Unit {0}
@@ -83,6 +84,7 @@ module _ (rows : List ℤ) where
   part-ok r at l h (If a) = (tt, tt)
   part-ok r at l h (While a b) = (tt, tt)
   part-ok r at l h (Alt a) = (tt, lower (rowCount rows) 0 (suc r) (at a .options) (omega arith) (h a))
+  part-ok r at l h (Block a b) = (tt, tt)
   part-ok r at l h (Member a b) = (tt, tt)
   part-ok r at l h (Choice a b c) = (tt, tt)
   part-ok r at l h (OptionRow a b c) = ((omega arith, l, h b), tt)

@@ -12,9 +12,9 @@ use Rattle.meaning.specs.Rows.{rowCount}
 use Rattle.meaning.specs.Declarations.{sinkAt}
 use Rattle.meaning.specs.Tree.{Process, node, Processes, empty, also, rowOf, rowsIn, rowsBeneath}
 use Rattle.meaning.specs.Values.{Message}
-use Rattle.meaning.specs.Settle.{start, settled}
+use Rattle.meaning.specs.Settle.{begun, start, settled}
 use Rattle.meaning.specs.SettlingRules.{Among, All, Inside}
-use Rattle.meaning.specs.State.{State, stateOf, anyOf, Program, program, whole, changeStates}
+use Rattle.meaning.specs.State.{State, stateOf, anyOf, Program, program, whole, changeStates, writeAll}
 use Rattle.meaning.specs.Labels.{Label}
 use Rattle.meaning.specs.Readings.{Sheet}
 use Rattle.meaning.specs.Step.{Step}
@@ -29,7 +29,7 @@ use Rattle.agreement.proofs.Invariant.{length-marks, step-effect, step-
 use Rattle.agreement.proofs.TableFit.{fit}
 use Rattle.agreement.proofs.KnownStates.{Known, set-known, changes-known, settle-known}
 use Rattle.agreement.proofs.CoherentRows.{coherent-rows}
-use Rattle.agreement.proofs.DataKept.{Bounded, writes-bounded, step-ok}
+use Rattle.agreement.proofs.DataKept.{Bounded, writes-bounded, unset-bounded, step-ok}
 use Rattle.agreement.proofs.Beginning.{resting-idle, started-length, start-is, begins-start}
 use Rattle.agreement.proofs.OrdersSettle.{whole-row}
 
@@ -57,7 +57,7 @@ module _ (rows : List ℤ) (ok : check rows ≡ none) (sheet : Sheet) where
   start-known : Known (start P .states)
   start-known =
       subst Known (sym (start-is P n F))
-      (settle-known (whole P) n (F .sound) (F .plain) (rootStarted P) (started-length P n F)
+      (settle-known (whole P) n (F .sound) (F .plain) (rootStarted P .states) (started-length P n F)
       (set-known (map (λ (p : Process). 0) (P .processes)) (P .root) 1 RowState.running (λ x. subst RowState (sym (resting-idle P n F x)) RowState.idle)))
 
   start-bounded : Bounded rows sheet (start P .store)
@@ -77,7 +77,8 @@ module _ (rows : List ℤ) (ok : check rows ≡ none) (sheet : Sheet) where
         inv = step-inv P n F sheet (distinct-options rows sheet) s x t (k .inv) h;
         known = subst (λ (u : State). Known (u .states)) (sym z)
             (settle-known (whole P) n (F .sound) (F .plain) (changeStates (e .changes) (s .states)) (length-marks (e .changes) (s .states) ∙ k .inv .size) (changes-known (e .changes) (s .states) c (k .known)));
-        bounded = subst (λ (u : State). Bounded rows sheet (u .store)) (sym z) (writes-bounded rows sheet (e .writes) (s .store) w (k .bounded));
+        bounded = subst (λ (u : State). Bounded rows sheet (u .store)) (sym z)
+            (unset-bounded rows sheet (begun (whole P) false (changeStates (e .changes) (s .states))) (writeAll (e .writes) (s .store)) (writes-bounded rows sheet (e .writes) (s .store) w (k .bounded)));
       }
 
   order-kept : {s t : State} {l : List Label} → Kept s → Order P sheet s l t → Kept t

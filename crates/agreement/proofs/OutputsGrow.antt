@@ -7,11 +7,12 @@ use native.Mathlib.Decide.{ℕ-discrete, decLt}
 use lib.ListN.{length, getD, set}
 use lib.Seq.{set-out, getD-set-same, getD-set-other}
 use Rattle.meaning.specs.Values.{Message}
-use Rattle.meaning.specs.State.{Store, State, Program, writeAll, Effect}
+use Rattle.meaning.specs.State.{State, Program, writeAll, Effect}
 use Rattle.meaning.specs.Labels.{Label}
 use Rattle.meaning.specs.Readings.{Sheet}
 use Rattle.meaning.specs.Step.{Allows, Step, assignment, while-false, while-true, if-true, communication, host-read, host-write, alt-skip, alt-read, alt-communication, stopping}
 use Rattle.meaning.specs.Order.{Order, halt, next-step}
+use Rattle.agreement.proofs.SettlingData.{settling-outputs}
 
 -- the lists of one state begin with those of another
 abbrev pub Grows : List (List Message) → List (List Message) → Type 0
@@ -44,7 +45,7 @@ module _ (P : Program) (sheet : Sheet) where
   effect-grows s x e (stopping g h) = same-lists (s .store .outputs)
 
   pub step-grows : (s : State) (x : Label) (t : State) → Step P sheet s x t → Grows (s .store .outputs) (t .store .outputs)
-  step-grows s x t h = subst (λ (y : Store). Grows (s .store .outputs) (y .outputs)) (sym (h .leaves .stores)) (effect-grows s x (h .does) (h .allowed))
+  step-grows s x t h = subst (Grows (s .store .outputs)) (sym (settling-outputs P (h .leaves .by-rules))) (effect-grows s x (h .does) (h .allowed))
 
   grows-on : (l m k : List (List Message)) → Grows l m → Grows m k → Grows l k
   grows-on l m k g h c = let (a, e) = g c in let (b, f) = h c in (a ++ b, f ∙ ap (λ (z : List Message). z ++ b) e ∙ append-assoc (getD l c []) a b)

@@ -47,19 +47,19 @@ module _ (p : Process) where
   Each (q ∷ l) s = Now q s × Each l s
 
   module _ (n : ℕ) (d : Sound p n) where
-    each-put : (q : Part) (l : List Part) (s : List ℕ) → Now q s → Each l s → Differ q l → Each l (put q s)
+    pub each-put : (q : Part) (l : List Part) (s : List ℕ) → Now q s → Each l s → Differ q l → Each l (put q s)
     each-put q [] s h hs ne = tt
     each-put q (z ∷ l) s h hs ne = (other (q .b) (q .x) (q .v) (z .b) (z .x) (z .v) n s (ne .0) p d h (hs .0) .0, each-put q l s h (hs .1) (ne .1))
 
-    each-see : (c : Bool) (l : List Part) (s : List ℕ) → Each l s → Each l (settle p c s)
+    pub each-see : (c : Bool) (l : List Part) (s : List ℕ) → Each l s → Each l (settle p c s)
     each-see c [] s hs = tt
     each-see c (q ∷ l) s hs = (rw (see-run p c s (at-run (hs .0))) (persist (q .b) (q .x) (q .v) n p d s (hs .0)), each-see c l s (hs .1))
 
-    length-puts : (l : List Part) (s : List ℕ) → length (puts l s) ≡ length s
+    pub length-puts : (l : List Part) (s : List ℕ) → length (puts l s) ≡ length s
     length-puts [] s = refl
     length-puts (q ∷ l) s = length-puts l (put q s) ∙ length-set s (q .x) (q .v)
 
-    absorbs : (c : Bool) (l : List Part) (s : List ℕ) → length s ≡ n → Each l s → Pairwise l → settle p c (puts l (settle p c s)) ≡ settle p c (puts l s)
+    pub absorbs : (c : Bool) (l : List Part) (s : List ℕ) → length s ≡ n → Each l s → Pairwise l → settle p c (puts l (settle p c s)) ≡ settle p c (puts l s)
     absorbs c [] s e hs pw = see-again p n (again p n d) (sound-row p n d) (sameB {b = c}) s e
     absorbs c (q ∷ l) s e hs pw =
         let u = put q (settle p c s) in
@@ -71,7 +71,7 @@ module _ (p : Process) where
         ∙ ap (λ (z : List ℕ). settle p c (puts l z)) (absorb (q .b) (q .x) (q .v) n p d s e (hs .0) c)
         ∙ absorbs c l u′ eu′ (each-put q l s (hs .0) (hs .1) (pw .0)) (pw .1)
 
-    each-puts : (m l : List Part) (s : List ℕ) → Each m s → Pairwise m → Each l s → Cross m l → Each l (puts m s)
+    pub each-puts : (m l : List Part) (s : List ℕ) → Each m s → Pairwise m → Each l s → Cross m l → Each l (puts m s)
     each-puts [] l s hm pw hl cr = hl
     each-puts (q ∷ m) l s hm pw hl cr = each-puts m l (put q s) (each-put q m s (hm .0) (hm .1) (pw .0)) (pw .1) (each-put q l s (hm .0) hl (cr .0)) (cr .1)
 
@@ -82,7 +82,7 @@ module _ (p : Process) where
         ∙ put-puts q l (put z s) (other (z .b) (z .x) (z .v) (q .b) (q .x) (q .v) n s (λ e. ne .0 (sym e)) p d (hs .0) h .0)
         (each-put z l s (hs .0) (hs .1) (pw .0)) (ne .1) (pw .1)
 
-    puts-comm : (m l : List Part) (s : List ℕ) → Each m s → Pairwise m → Each l s → Pairwise l → Cross m l → puts l (puts m s) ≡ puts m (puts l s)
+    pub puts-comm : (m l : List Part) (s : List ℕ) → Each m s → Pairwise m → Each l s → Pairwise l → Cross m l → puts l (puts m s) ≡ puts m (puts l s)
     puts-comm [] l s hm pm hl pl cr = refl
     puts-comm (q ∷ m) l s hm pm hl pl cr =
         puts-comm m l (put q s) (each-put q m s (hm .0) (hm .1) (pm .0)) (pm .1) (each-put q l s (hm .0) hl (cr .0)) pl (cr .1)

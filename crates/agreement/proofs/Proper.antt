@@ -13,7 +13,7 @@ use Rattle.meaning.specs.declared.Index.{Index}
 use Rattle.meaning.specs.declared.Index.the-variants.{At, Fails}
 use Rattle.meaning.specs.Basics.{ifElse}
 use Rattle.meaning.specs.Declarations.{Channel}
-use Rattle.meaning.specs.Tree.{ChannelInput, IfChoice, AltOption, Action, stop, skip, sequence, parallel, assign, input, output, conditional, loop, alternation, Processes}
+use Rattle.meaning.specs.Tree.{ChannelInput, IfChoice, AltOption, Action, stop, skip, sequence, parallel, assign, input, output, conditional, loop, alternation, block, Processes}
 use Rattle.meaning.specs.Values.{Message, isTrue, value, index, Sent, gives, lacking, passed}
 use Rattle.meaning.specs.State.{Store, Write, writeCell, writePlace, writeOutput}
 use Rattle.meaning.specs.Intent.{Offer, openOffer, inputOffer, Intent, waits, moves, inputsFrom, outputsTo, selects, assigning, testing, choosing, hostWrite, outputting, InputResult, lacks, notYet, reads, fromElement, hostRead, inputResultOf, inputting, OptionsResult, fails, offers, adding, opening, guarding, selecting, inputResult, inputResultIf, tests, optionsResult, intent}
@@ -204,3 +204,4 @@ module _ (source sink : ℕ → ℕ) where
   proper sheet x r ms (loop e b) H S = while-proper (loop e b) ms r b (value (x .cells) e) S
   proper sheet x r ms (alternation bs) H S =
       select-proper (alternation bs) ms r (optionsResult sheet bs x) (looks-proper (alternation bs) ms sheet x bs H S (λ j m. m) (λ e m. m) (λ a m. m))
+  proper sheet x r ms (block v) H S = tt

@@ -1,18 +1,18 @@
--- Every refusal is one of the paper's eleven, with a place where the paper has it.
+-- Every refusal is one of the papers' twelve, with a place where the paper has it.
 use mathlib.Core.Path.{_≡_, refl, sym, ap, subst, _∙_}
-use mathlib.Core.Logic.{_≢_, _⊎_, inl, inr}
+use mathlib.Core.Logic.{_≢_, _⊎_, inl, inr, ⊎-elim}
 use mathlib.Core.Bool.{Bool, true, false, not, _&&_, _||_, false≢true}
 use mathlib.Core.List.{List}
 use mathlib.Core.Option.{Option, none, some, Option·map, Option·some-injective, Option·none-ne-some}
 use Prim.Native.Nat.{ℕ, _+_, _≤_, _<_, min}
-use native.Mathlib.Decide.{decLt}
+use native.Mathlib.Decide.{ℕ-discrete, decLt}
 use native.Mathlib.Omega.{arith}
 use lib.IntN.{ℤ}
 use lib.ListN.{length}
 use lib.Dec.{T, leb, ltb, eqb}
 use borrow.Author.Tests.{eqb-true, leb-false}
 use Rattle.meaning.specs.declared.Node.{Node}
-use Rattle.meaning.specs.declared.Node.the-variants.{Literal, Element, Monadic, Dyadic, Stop, Skip, Assignment, Input, Output, Seq, Par, If, While, Alt, Member, Choice, OptionRow, Guard, Other}
+use Rattle.meaning.specs.declared.Node.the-variants.{Literal, Element, Monadic, Dyadic, Stop, Skip, Assignment, Input, Output, Seq, Par, If, While, Alt, Block, Member, Choice, OptionRow, Guard, Other}
 use Rattle.meaning.specs.declared.Answer.the-variants.{Refused}
 use Rattle.meaning.specs.Limits.{maxRows, maxSheet, maxBudget}
 use Rattle.meaning.specs.Basics.{ifElse, isSome, lowest, Lowest}
@@ -23,6 +23,7 @@ use Rattle.meaning.specs.Stages.{bufferFault, budgetFault}
 use Rattle.meaning.specs.TableBytes.{bytesFault, rowsOf, lineAt, overlong, malformed, oneTooMany, refusalAt}
 use Rattle.meaning.specs.Declarations.{declarations, channels}
 use Rattle.meaning.specs.Nodes.{nodeAt}
+use Rattle.meaning.specs.Faults.{WellBlocked}
 use Rattle.meaning.specs.Sheet.{valuesOf, sheetLineWrong, sheetFault, readings}
 use Rattle.meaning.specs.Buffers.{Buffers, tooShort}
 use Rattle.meaning.specs.Run.{run}
@@ -32,8 +33,8 @@ use Rattle.meaning.proofs.LowestLaws.{lowest-is}
 use Rattle.meaning.proofs.NoFault.{or-false}
 use Rattle.meaning.proofs.AnswerLaws.{check-bytes, result-stages, result-of-bytes, reply-stages, reply-to-bytes}
 use Rattle.agreement.specs.VerdictClaims as Verdict
-use Rattle.agreement.specs.VerdictClaims.{not-whole, not-formed, not-placed, over-limit, clash}
-use Rattle.agreement.specs.RefusalClaims.{TableRefusal, malformed-line, rows-not-whole, wrong-form, wrong-place, passing-declaration, clashing-par, OneOfEleven, short-buffer, of-table, wrong-line, budget-above, RowsRefused, BytesRefused, RowsCallRefused, BytesCallRefused, NumbersKnown}
+use Rattle.agreement.specs.VerdictClaims.{not-whole, not-formed, not-placed, over-limit, not-blocked, clash}
+use Rattle.agreement.specs.RefusalClaims.{TableRefusal, malformed-line, rows-not-whole, wrong-form, wrong-place, passing-declaration, wrong-block, clashing-par, CallRefusal, short-buffer, of-table, wrong-line, budget-above, RowsRefused, BytesRefused, RowsCallRefused, BytesCallRefused, NumbersKnown}
 use Rattle.agreement.proofs.TableStarts.{leading-le}
 use Rattle.agreement.proofs.UsageFirst.{member-par}
 use Rattle.agreement.proofs.VerdictExact.{refusal-least}
@@ -99,12 +100,12 @@ sheet-line long cs ls L e = go (decLt 130 L)
         absurd (omega arith)
     go (no h) = omega arith
 
-sheet-place : (rows : List ℤ) (sheet : List ℕ) (f : Refusal) → sheetFault rows sheet ≡ some f → OneOfEleven rows (f .0) (f .1) × (f .0 ≢ 2)
+sheet-place : (rows : List ℤ) (sheet : List ℕ) (f : Refusal) → sheetFault rows sheet ≡ some f → CallRefusal rows (f .0) (f .1) × (f .0 ≢ 2)
 unfolding sheetFault
 sheet-place rows sheet f e =
     let long = ltb maxSheet (length sheet) in
     let (L, at, is) = mapped (λ i. (10, i)) (lowest (sheetLineWrong long (channels rows 1) (lines sheet)) (2 + length (lines sheet))) f e in
-    subst (λ (g : Refusal). OneOfEleven rows (g .0) (g .1) × (g .0 ≢ 2)) is (wrong-line (sheet-line long (channels rows 1) (lines sheet) L at), λ k. omega arith)
+    subst (λ (g : Refusal). CallRefusal rows (g .0) (g .1) × (g .0 ≢ 2)) is (wrong-line (sheet-line long (channels rows 1) (lines sheet) L at), λ k. omega arith)
 
 -- A PAR -----------------------------------------------------------------------------------------------------------------------------
 
@@ -123,6 +124,7 @@ isPar (Seq a) = false
 isPar (If a) = false
 isPar (While a b) = false
 isPar (Alt a) = false
+isPar (Block a b) = false
 isPar (Member a b) = false
 isPar (Choice a b c) = false
 isPar (OptionRow a b c) = false
@@ -158,11 +160,12 @@ module _ (rows : List ℤ) (r : ℕ) where
       (other (eqb k 32) _ _ refl
       (other (eqb k 33) _ _ refl
       (other (eqb k 34) _ _ refl
+      (other (eqb k 35) _ _ refl
       (other (eqb k 40) _ _ refl
       (other (eqb k 41) _ _ refl
       (other (eqb k 42) _ _ refl
       (other (eqb k 43) _ _ refl
-      refl)))))))))))))))))
+      refl))))))))))))))))))
 
   -- only a row of kind 31 is a PAR
   par-kind : (a : ℕ) → nodeAt rows r ≡ Par a → kindAt rows r ≡ 31
@@ -191,13 +194,25 @@ few-declarations : (rows : List ℤ) → declarations rows ≤ rowCount rows
 unfolding declarations
 few-declarations rows = let h = leading-le rows (rowCount rows) 0 in omega arith
 
+-- a row that is no block and names no variable is no fault of blocks
+blocked-kind : (rows : List ℤ) (r : ℕ) → ¬ WellBlocked rows r → (kindAt rows r ≡ 35) ⊎ ((kindAt rows r ≡ 11) ⊎ (kindAt rows r ≡ 22))
+unfolding WellBlocked
+blocked-kind rows r h = go (ℕ-discrete (kindAt rows r) 35) (ℕ-discrete (kindAt rows r) 11) (ℕ-discrete (kindAt rows r) 22)
+  where
+    go : Dec (kindAt rows r ≡ 35) → Dec (kindAt rows r ≡ 11) → Dec (kindAt rows r ≡ 22) → (kindAt rows r ≡ 35) ⊎ ((kindAt rows r ≡ 11) ⊎ (kindAt rows r ≡ 22))
+    go (yes e) d f = inl e
+    go (no n) (yes e) f = inr (inl e)
+    go (no n) (no m) (yes e) = inr (inr e)
+    go (no n) (no m) (no o) = absurd (h (λ e. absurd (n e), λ v i. absurd (⊎-elim m o (i .0))))
+
 -- the verdict on rows
 table-place : (rows : List ℤ) {number place : ℕ} → Verdict.RefusedWith rows number place → TableRefusal rows number place × (number ≢ 2)
 table-place rows (not-whole h) = (rows-not-whole {count = min (rowCount rows) maxRows} (omega arith), λ e. omega arith)
 table-place rows (not-formed w l) = (wrong-form (l .0, w .1), λ e. omega arith)
 table-place rows (not-placed {r} w f l) = let k = l .0 in (wrong-place {r = r} (omega arith) (w .1), λ e. omega arith)
 table-place rows (over-limit {r} w f t l) = (passing-declaration {r = r} (l .0) ((let k = l .0 in let m = few-declarations rows in omega arith), w .1), λ e. omega arith)
-table-place rows (clash w f t l c) =
+table-place rows (not-blocked {r} w f t l k) = (wrong-block (blocked-kind rows r (k .1)) (k .0, w .1), λ e. omega arith)
+table-place rows (clash w f t l b c) =
     let (low, high, par, row) = clash-par rows (c .0 .1) in
     (clashing-par low high par (row, w .1), λ e. omega arith)
 
@@ -230,35 +245,35 @@ at-once : (t : Bool) (g f : Refusal) → ifElse t (some g) none ≡ some f → g
 at-once true g f e = Option·some-injective g f e
 at-once false g f e = absurd (Option·none-ne-some f e)
 
-buffer-place : (rows : List ℤ) (b : Buffers) (f : Refusal) → bufferFault b ≡ some f → OneOfEleven rows (f .0) (f .1) × (f .0 ≢ 2)
+buffer-place : (rows : List ℤ) (b : Buffers) (f : Refusal) → bufferFault b ≡ some f → CallRefusal rows (f .0) (f .1) × (f .0 ≢ 2)
 unfolding bufferFault
-buffer-place rows b f e = subst (λ (g : Refusal). OneOfEleven rows (g .0) (g .1) × (g .0 ≢ 2)) (at-once (tooShort b) (1, 0) f e) (short-buffer, λ k. omega arith)
+buffer-place rows b f e = subst (λ (g : Refusal). CallRefusal rows (g .0) (g .1) × (g .0 ≢ 2)) (at-once (tooShort b) (1, 0) f e) (short-buffer, λ k. omega arith)
 
-budget-place : (rows : List ℤ) (budget : ℕ) (f : Refusal) → budgetFault maxBudget budget ≡ some f → OneOfEleven rows (f .0) (f .1) × (f .0 ≢ 2)
+budget-place : (rows : List ℤ) (budget : ℕ) (f : Refusal) → budgetFault maxBudget budget ≡ some f → CallRefusal rows (f .0) (f .1) × (f .0 ≢ 2)
 unfolding budgetFault
-budget-place rows budget f e = subst (λ (g : Refusal). OneOfEleven rows (g .0) (g .1) × (g .0 ≢ 2)) (at-once (ltb maxBudget budget) (11, 0) f e) (budget-above, λ k. omega arith)
+budget-place rows budget f e = subst (λ (g : Refusal). CallRefusal rows (g .0) (g .1) × (g .0 ≢ 2)) (at-once (ltb maxBudget budget) (11, 0) f e) (budget-above, λ k. omega arith)
 
-result-place : (t : Task) (f : Refusal) → result t ≡ refused f → OneOfEleven (t .rows) (f .0) (f .1) × (f .0 ≢ 2)
+result-place : (t : Task) (f : Refusal) → result t ≡ refused f → CallRefusal (t .rows) (f .0) (f .1) × (f .0 ≢ 2)
 result-place t f e = table (of-unless (check (t .rows)) _ f (sym (result-stages t) ∙ e))
   where
-    budget : (budgetFault maxBudget (t .budget) ≡ some f) ⊎ (ran (run (t .rows) (readings (t .rows) (t .sheet)) (t .choices) (t .budget)) ≡ refused f) → OneOfEleven (t .rows) (f .0) (f .1) × (f .0 ≢ 2)
+    budget : (budgetFault maxBudget (t .budget) ≡ some f) ⊎ (ran (run (t .rows) (readings (t .rows) (t .sheet)) (t .choices) (t .budget)) ≡ refused f) → CallRefusal (t .rows) (f .0) (f .1) × (f .0 ≢ 2)
     budget (inl h) = budget-place (t .rows) (t .budget) f h
     budget (inr h) = let z : _≡_ {A = ℕ} 0 1 = cc in absurd (omega arith)
 
     sheet : (sheetFault (t .rows) (t .sheet) ≡ some f) ⊎ (unless (budgetFault maxBudget (t .budget)) (ran (run (t .rows) (readings (t .rows) (t .sheet)) (t .choices) (t .budget))) ≡ refused f)
-        → OneOfEleven (t .rows) (f .0) (f .1) × (f .0 ≢ 2)
+        → CallRefusal (t .rows) (f .0) (f .1) × (f .0 ≢ 2)
     sheet (inl h) = sheet-place (t .rows) (t .sheet) f h
     sheet (inr h) = budget (of-unless (budgetFault maxBudget (t .budget)) _ f h)
 
     table : (check (t .rows) ≡ some f) ⊎ (unless (sheetFault (t .rows) (t .sheet)) (unless (budgetFault maxBudget (t .budget)) (ran (run (t .rows) (readings (t .rows) (t .sheet)) (t .choices) (t .budget)))) ≡ refused f)
-        → OneOfEleven (t .rows) (f .0) (f .1) × (f .0 ≢ 2)
+        → CallRefusal (t .rows) (f .0) (f .1) × (f .0 ≢ 2)
     table (inl h) = let (k, n) = rows-refused (t .rows) (f .0) (f .1) h in (of-table k, n)
     table (inr h) = sheet (of-unless (sheetFault (t .rows) (t .sheet)) _ f h)
 
 pub rows-call-refused : RowsCallRefused
 rows-call-refused t b number place e = go (of-unless (bufferFault b) (result t) (number, place) (refused-answer (t .rows) b (unless (bufferFault b) (result t)) number place (ap (λ (r : Reply). r .answer) (sym (reply-stages t b)) ∙ e)))
   where
-    go : (bufferFault b ≡ some (number, place)) ⊎ (result t ≡ refused (number, place)) → OneOfEleven (t .rows) number place × (number ≢ 2)
+    go : (bufferFault b ≡ some (number, place)) ⊎ (result t ≡ refused (number, place)) → CallRefusal (t .rows) number place × (number ≢ 2)
     go (inl h) = buffer-place (t .rows) b (number, place) h
     go (inr h) = result-place t (number, place) h
 
@@ -267,29 +282,30 @@ bytes-call-refused table sheet choices budget b number place e =
     buffers (of-unless (bufferFault b) (resultOfBytes table sheet choices budget) (number, place)
     (refused-answer (rowsOf table) b (unless (bufferFault b) (resultOfBytes table sheet choices budget)) number place (ap (λ (r : Reply). r .answer) (sym (reply-to-bytes table sheet choices budget b)) ∙ e)))
   where
-    bytes : (bytesFault table ≡ some (number, place)) ⊎ (result (record { rows = rowsOf table; sheet = sheet; choices = choices; budget = budget }) ≡ refused (number, place)) → OneOfEleven (rowsOf table) number place
+    bytes : (bytesFault table ≡ some (number, place)) ⊎ (result (record { rows = rowsOf table; sheet = sheet; choices = choices; budget = budget }) ≡ refused (number, place)) → CallRefusal (rowsOf table) number place
     bytes (inl h) = of-table (bytes-place table (number, place) h)
     bytes (inr h) = result-place (record { rows = rowsOf table; sheet = sheet; choices = choices; budget = budget }) (number, place) h .0
 
-    buffers : (bufferFault b ≡ some (number, place)) ⊎ (resultOfBytes table sheet choices budget ≡ refused (number, place)) → OneOfEleven (rowsOf table) number place
+    buffers : (bufferFault b ≡ some (number, place)) ⊎ (resultOfBytes table sheet choices budget ≡ refused (number, place)) → CallRefusal (rowsOf table) number place
     buffers (inl h) = buffer-place (rowsOf table) b (number, place) h .0
     buffers (inr h) = bytes (of-unless (bytesFault table) _ (number, place) (sym (result-of-bytes table sheet choices budget) ∙ h))
 
 -- Numbers and places ----------------------------------------------------------------------------------------------------------------
 
-pub table-known : {rows : List ℤ} {number place : ℕ} → TableRefusal rows number place → (2 ≤ number) × (number ≤ 9) × (place ≤ 1026)
-table-known (malformed-line h) = (omega arith, omega arith, omega arith)
-table-known (rows-not-whole h) = (omega arith, omega arith, omega arith)
-table-known (wrong-form (h, w)) = (omega arith, omega arith, omega arith)
-table-known (wrong-place h w) = (omega arith, omega arith, omega arith)
-table-known (passing-declaration d (h, w)) = (omega arith, omega arith, omega arith)
-table-known (clashing-par low high par (h, w)) = (omega arith, omega arith, omega arith)
+pub table-known : {rows : List ℤ} {number place : ℕ} → TableRefusal rows number place → (2 ≤ number) × ((number ≤ 9) ⊎ (number ≡ 14)) × (place ≤ 1026)
+table-known (malformed-line h) = (omega arith, inl (omega arith), omega arith)
+table-known (rows-not-whole h) = (omega arith, inl (omega arith), omega arith)
+table-known (wrong-form (h, w)) = (omega arith, inl (omega arith), omega arith)
+table-known (wrong-place h w) = (omega arith, inl (omega arith), omega arith)
+table-known (passing-declaration d (h, w)) = (omega arith, inl (omega arith), omega arith)
+table-known (wrong-block k (h, w)) = (omega arith, inr refl, omega arith)
+table-known (clashing-par low high par (h, w)) = (omega arith, inl (omega arith), omega arith)
 
 pub numbers-known : NumbersKnown
 numbers-known rows number place h = go h
   where
-    go : {number place : ℕ} → OneOfEleven rows number place → (1 ≤ number) × (number ≤ 11) × (place ≤ 1026)
-    go short-buffer = (omega arith, omega arith, omega arith)
-    go (of-table t) = let (a, b, c) = table-known t in (omega arith, omega arith, c)
-    go (wrong-line h) = (omega arith, omega arith, omega arith)
-    go budget-above = (omega arith, omega arith, omega arith)
+    go : {number place : ℕ} → CallRefusal rows number place → (1 ≤ number) × ((number ≤ 11) ⊎ (number ≡ 14)) × (place ≤ 1026)
+    go short-buffer = (omega arith, inl (omega arith), omega arith)
+    go (of-table t) = let (a, b, c) = table-known t in (omega arith, ⊎-elim (λ l. inl (omega arith)) inr b, c)
+    go (wrong-line h) = (omega arith, inl (omega arith), omega arith)
+    go budget-above = (omega arith, inl (omega arith), omega arith)

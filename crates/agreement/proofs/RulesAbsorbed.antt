@@ -53,7 +53,7 @@ module _ (k : Action) (r : ℕ) (ms : Processes) (f : List ℕ → List ℕ) (F 
   first-only p ps u o y q = off-look F s y (λ c. o y (sub-rows c p u) q)
 
   -- whatever the process stands in is running
-  runs-around : (p : Process) → Sub k r ms p → Good s p → stateOf s p ≡ 1
+  pub runs-around : (p : Process) → Sub k r ms p → Good s p → stateOf s p ≡ 1
   runs-around (node k′ r′ ps) self g = e
   runs-around (node k′ r′ ps) (inside u) (idle i) = absurd (omega (arith, i r (List·Memᴰ·tail (subM-in ps u))))
   runs-around (node k′ r′ ps) (inside u) (over i e′ q h o) = absurd (not-running (getD s r 0) (q r (subM-in ps u)) e)

@@ -16,7 +16,7 @@ use Rattle.meaning.specs.declared.Index.the-variants.{At, Fails}
 use Rattle.meaning.specs.Basics.{ifElse}
 use Rattle.meaning.specs.Rows.{rowCount}
 use Rattle.meaning.specs.Declarations.{Channel}
-use Rattle.meaning.specs.Tree.{IfChoice, AltOption, Action, stop, skip, sequence, parallel, assign, input, output, conditional, loop, alternation, actionOf}
+use Rattle.meaning.specs.Tree.{IfChoice, AltOption, Action, stop, skip, sequence, parallel, assign, input, output, conditional, loop, alternation, block, actionOf}
 use Rattle.meaning.specs.Values.{Message, isTrue, value, index, Sent, gives, lacking, passed}
 use Rattle.meaning.specs.State.{Store, State, Program, program, processAt, Effect}
 use Rattle.meaning.specs.Labels.{Label}
@@ -91,6 +91,7 @@ module _ (n : ℕ) where
     want-ok r (conditional ts) h = tests-ok r ts
     want-ok r (loop e b) h = while-ok r b (value (x .cells) e)
     want-ok r (alternation bs) h = select-ok sheet x r (optionsResult sheet bs x) (looks-ok sheet x n 0 bs h)
+    want-ok r (block v) h = tt
 
 -- rising options are each another
 apart : (P : Program) (sheet : Sheet) (s : State) (n lo : ℕ) (l : List AltOption) → Rising n lo l → Takeable.Distinct P sheet s l

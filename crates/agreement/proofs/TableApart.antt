@@ -3,7 +3,7 @@ use mathlib.Core.Path.{_≡_, refl, sym, ap, subst}
 use mathlib.Core.Logic.{_⊎_, inl, inr}
 use mathlib.Core.List.{List, List·Memᴰ, List·Memᴰ·head, List·Memᴰ·tail, Memᴰ·append-left, Memᴰ·append-right, List·Memᴰ·append-cases, List·Memᴰ·not-nil}
 use Prim.Native.Nat.{ℕ}
-use Rattle.meaning.specs.Tree.{Action, stop, skip, sequence, parallel, assign, input, output, conditional, loop, alternation, Process, node, Processes, empty, also, rowsIn, rowsBeneath}
+use Rattle.meaning.specs.Tree.{Action, stop, skip, sequence, parallel, assign, input, output, conditional, loop, alternation, block, Process, node, Processes, empty, also, rowsIn, rowsBeneath}
 use Rattle.meaning.specs.Settle.{Mode, inTurn, together, byStep, mode}
 use Rattle.meaning.specs.Usage.{gather, gatherAll, changes, uses, inputElements, outputElements, Pair, pairsWith, pairs}
 use Rattle.agreement.proofs.Reach.{Sub, SubM, self, inside, front, back, Apart, ApartM, within, in-first, in-later, ab, ba}
@@ -99,6 +99,7 @@ is-parallel (output c e f) h = absurd h
 is-parallel (conditional ts) h = absurd h
 is-parallel (loop e b) h = absurd h
 is-parallel (alternation bs) h = absurd h
+is-parallel (block v) h = absurd h
 
 -- a PAR with a pair of components that part two rows
 module _ (a b : ℕ) where

@@ -2,7 +2,7 @@
 use mathlib.Core.Path.{_≡_, refl, sym, ap, subst, _∙_}
 use mathlib.Core.Logic.{_⊎_, inl, inr}
 use mathlib.Core.Bool.{Bool, true, false, _&&_, _||_, false≢true}
-use mathlib.Core.Option.{Option, none, some, Option·some-injective}
+use mathlib.Core.Option.{Option, none, some}
 use mathlib.Core.List.{List}
 use Prim.Native.Nat.{ℕ, zero, suc, _+_, _<_, _≤_}
 use native.Mathlib.Omega.{arith}
@@ -11,13 +11,14 @@ use lib.IntN.{ℤ, pos}
 use lib.Dec.{T, ltb, eqb}
 use borrow.Author.Tests.{ltb-true, eqb-true, eq-eqb}
 use Rattle.meaning.specs.declared.Node.{Node}
-use Rattle.meaning.specs.declared.Node.the-variants.{Literal, Element, Monadic, Dyadic, Stop, Skip, Assignment, Input, Output, Seq, Par, If, While, Alt, Member, Choice, OptionRow, Guard, Other}
+use Rattle.meaning.specs.declared.Node.the-variants.{Literal, Element, Monadic, Dyadic, Stop, Skip, Assignment, Input, Output, Seq, Par, If, While, Alt, Block, Member, Choice, OptionRow, Guard, Other}
 use Rattle.meaning.specs.Rows.{rowCount, naturalOf, fieldAt, naturalAt, kindAt}
 use Rattle.meaning.specs.Basics.{ifElse, lowest, Lowest}
 use Rattle.meaning.specs.Declarations.{declarations, Channel, noChannel, sumBelow, isChannel, hasRole, elementsAt, hostChannelsAt, capacityAt, channelAt, sourceAt, sinkAt}
-use Rattle.meaning.specs.Kinds.{Shape, shape, elements, capacity, fromTo, shapeOf, shapeIn, shapes}
+use Rattle.meaning.specs.Kinds.{shape, elements, capacity, fromTo, shapeOf, shapeIn, shapes}
 use Rattle.meaning.specs.Nodes.{nodeAt}
-use Rattle.meaning.specs.Faults.{MayHold, WellFormed}
+use Rattle.meaning.specs.Faults.{MayHold}
+use Rattle.meaning.proofs.FaultLaws.{holds-a}
 use Rattle.meaning.specs.Tree.{Action, Process, node, Processes, Content, contentOf, contentAt, actionOf}
 use Rattle.meaning.proofs.AnswerLaws.{RightRows}
 use Rattle.meaning.proofs.LowestLaws.{lowest-is}
@@ -87,11 +88,8 @@ module _ (role : ℕ) (rows : List ℤ) where
 
   module _ (A : RightRows rows) (ne : role ≡ 0 → ⊥) where
     holds-elements : (a : ℕ) → a < rowCount rows → kindAt rows a ≡ 2 → MayHold rows a elements (fieldAt rows a 1)
-    unfolding WellFormed shapeOf shapeIn shapes
-    holds-elements a l k =
-        let w = A .1 a l .1 in
-        let e : shapeOf (kindAt rows a) ≡ some (shape 2 elements (fromTo 0 2) capacity) = rw k in
-        subst (λ (s : Shape). MayHold rows a (s .a) (fieldAt rows a 1)) (Option·some-injective (w .0) (shape 2 elements (fromTo 0 2) capacity) (sym (w .1) ∙ e)) (w .2)
+    unfolding shapeOf shapeIn shapes
+    holds-elements a l k = holds-a rows a (shape 2 elements (fromTo 0 2) capacity) (A .1 a l) (ap shapeOf k)
 
     -- a host channel has one element
     one-element : (a : ℕ) → hasRole role rows a ≡ true → elementsAt rows a ≡ 1
@@ -162,6 +160,7 @@ module _ (rows : List ℤ) (A : RightRows rows) where
   part-ok r at h (If a) = (tt, tt, tt)
   part-ok r at h (While a b) = (tt, tt, tt)
   part-ok r at h (Alt a) = (tt, tt, h a .1)
+  part-ok r at h (Block a b) = (tt, tt, tt)
   part-ok r at h (Member a b) = (tt, tt, tt)
   part-ok r at h (Choice a b c) = (tt, tt, tt)
   part-ok r at h (OptionRow a b c) = (tt, (h c .0, h b .1), tt)

@@ -28,7 +28,7 @@ whole-sum f limit (suc n) h = h n (omega arith)
 pub limited : (rows : List ℤ) → check rows ≡ none → Limited rows
 unfolding WithinLimits totalCells hostChannels
 limited rows ok =
-    let (whole, _, _, each, _) = verdict-exact rows .0 ok in
+    let (whole, _, _, each, _, _) = verdict-exact rows .0 ok in
     record {
       states = whole .1;
       cells = whole-sum (cellsAt rows) maxCells (declarations rows) (λ r h. each r h .0);

@@ -6,7 +6,7 @@ use mathlib.Core.List.{List, [], _∷_, List·Memᴰ, List·Memᴰ·head, List·
 use Prim.Native.Nat.{ℕ, _<_}
 use lib.IntN.{ℤ}
 use Rattle.meaning.specs.declared.Node.{Node}
-use Rattle.meaning.specs.declared.Node.the-variants.{Literal, Element, Monadic, Dyadic, Stop, Skip, Assignment, Input, Output, Seq, Par, If, While, Alt, Member, Choice, OptionRow, Guard, Other}
+use Rattle.meaning.specs.declared.Node.the-variants.{Literal, Element, Monadic, Dyadic, Stop, Skip, Assignment, Input, Output, Seq, Par, If, While, Alt, Block, Member, Choice, OptionRow, Guard, Other}
 use Rattle.meaning.specs.Rows.{rowCount}
 use Rattle.meaning.specs.Nodes.{nodeAt}
 use Rattle.meaning.specs.References.{of-a, of-b, Refers}
@@ -83,6 +83,7 @@ module _ (rows : List ℤ) (A : RightRows rows) where
     part-ok (If a) e f = nothing r
     part-ok (While a b) e f = nothing r
     part-ok (Alt a) e f = (λ j m. absurd (List·Memᴰ·not-nil m), λ j. of-alt a j f (at a) (known a))
+    part-ok (Block a b) e f = nothing r
     part-ok (Member a b) e f = nothing r
     part-ok (Choice a b c) e f = nothing r
     part-ok (OptionRow a b c) e f = (of-option a b c e f, λ j m. absurd (List·Memᴰ·not-nil m))

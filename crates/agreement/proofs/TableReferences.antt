@@ -12,7 +12,7 @@ use lib.ListN.{length}
 use lib.Dec.{eqb, leb}
 use borrow.Author.Tests.{eqb-true, leb-true}
 use Rattle.meaning.specs.declared.Node.{Node}
-use Rattle.meaning.specs.declared.Node.the-variants.{Literal, Element, Monadic, Dyadic, Stop, Skip, Assignment, Input, Output, Seq, Par, If, While, Alt, Member, Choice, OptionRow, Guard, Other}
+use Rattle.meaning.specs.declared.Node.the-variants.{Literal, Element, Monadic, Dyadic, Stop, Skip, Assignment, Input, Output, Seq, Par, If, While, Alt, Block, Member, Choice, OptionRow, Guard, Other}
 use Rattle.meaning.specs.Basics.{ifElse}
 use Rattle.meaning.specs.Refusals.{Refusal}
 use Rattle.meaning.specs.Rows.{rowCount, naturalOf, kindAt}
@@ -32,6 +32,9 @@ members-shape k m = shape k (link (m ∷ [])) unused unused
 
 abbrev pub while-shape : Shape
 while-shape = shape 33 expression process unused
+
+abbrev pub block-shape : Shape
+block-shape = shape 35 variable process unused
 
 abbrev pub member-shape : Shape
 member-shape = shape 40 process (link (40 ∷ [])) unused
@@ -90,6 +93,7 @@ module _ (rows : List ℤ) where
   Fields r (If a) = Shaped r 32 (members-shape 32 41) × Holding r of-a a
   Fields r (While a b) = Shaped r 33 while-shape × Holding r of-b b
   Fields r (Alt a) = Shaped r 34 (members-shape 34 42) × Holding r of-a a
+  Fields r (Block a b) = Shaped r 35 block-shape × Holding r of-b b
   Fields r (Member a b) = Shaped r 40 member-shape × Holding r of-a a × Holding r of-b b
   Fields r (Choice a b c) = Shaped r 41 choice-shape × Holding r of-a a × Holding r of-b b
   Fields r (OptionRow a b c) = Shaped r 42 option-shape × Holding r of-a a × Holding r of-b b
@@ -114,11 +118,12 @@ module _ (rows : List ℤ) where
       (if-else (Fields r) (eqb k 32) (λ e. ((eqb-true k 32 e, omega arith, refl), refl))
       (if-else (Fields r) (eqb k 33) (λ e. ((eqb-true k 33 e, omega arith, refl), refl))
       (if-else (Fields r) (eqb k 34) (λ e. ((eqb-true k 34 e, omega arith, refl), refl))
+      (if-else (Fields r) (eqb k 35) (λ e. ((eqb-true k 35 e, omega arith, refl), refl))
       (if-else (Fields r) (eqb k 40) (λ e. ((eqb-true k 40 e, omega arith, refl), refl, refl))
       (if-else (Fields r) (eqb k 41) (λ e. ((eqb-true k 41 e, omega arith, refl), refl, refl))
       (if-else (Fields r) (eqb k 42) (λ e. ((eqb-true k 42 e, omega arith, refl), refl, refl))
       (if-else (Fields r) (eqb k 43) (λ e. tt)
-      tt)))))))))))))))))
+      tt))))))))))))))))))
 
   undeclared : (r : ℕ) → 2 < kindAt rows r → declarations rows ≤ r
   undeclared r g = go (decLt r (declarations rows))

@@ -8,11 +8,11 @@ use Prim.Native.Nat.{ℕ, _<_}
 use native.Mathlib.Omega.{arith}
 use lib.IntN.{ℤ}
 use Rattle.meaning.specs.declared.Node.{Node}
-use Rattle.meaning.specs.declared.Node.the-variants.{Literal, Element, Monadic, Dyadic, Stop, Skip, Assignment, Input, Output, Seq, Par, If, While, Alt, Member, Choice, OptionRow, Guard, Other}
+use Rattle.meaning.specs.declared.Node.the-variants.{Literal, Element, Monadic, Dyadic, Stop, Skip, Assignment, Input, Output, Seq, Par, If, While, Alt, Block, Member, Choice, OptionRow, Guard, Other}
 use Rattle.meaning.specs.Rows.{rowCount, kindAt}
 use Rattle.meaning.specs.Kinds.{Shape}
 use Rattle.meaning.specs.References.{Column, of-a, of-b, fieldOf, Refers}
-use Rattle.meaning.specs.Tree.{Action, stop, skip, sequence, parallel, assign, input, output, conditional, loop, alternation, Process, node, Processes, empty, Content, noContent, andProcess, inputOf, contentOf, contentAt, rowsIn, rowsBeneath}
+use Rattle.meaning.specs.Tree.{Action, stop, skip, sequence, parallel, assign, input, output, conditional, loop, alternation, block, Process, node, Processes, empty, Content, noContent, andProcess, inputOf, contentOf, contentAt, rowsIn, rowsBeneath}
 use Rattle.meaning.specs.Declarations.{variableAt, sinkAt}
 use Rattle.meaning.specs.Nodes.{nodeAt}
 use Rattle.meaning.proofs.AnswerLaws.{RightRows}
@@ -21,7 +21,7 @@ use Rattle.agreement.proofs.Frame.{Off}
 use Rattle.agreement.proofs.Again.{Out, Sound, SoundM}
 use Rattle.meaning.specs.ContentClaims.{higherContent}
 use Rattle.agreement.proofs.TableTree.{Known, every-row}
-use Rattle.agreement.proofs.TableReferences.{members-shape, while-shape, member-shape, choice-shape, option-shape, Leading, unguarded, Shaped, Holding, Fields, fields-are, refers-to, refers-up, once, Desc, self, desc-le, desc-from, parted}
+use Rattle.agreement.proofs.TableReferences.{members-shape, while-shape, block-shape, member-shape, choice-shape, option-shape, Leading, unguarded, Shaped, Holding, Fields, fields-are, refers-to, refers-up, once, Desc, self, desc-le, desc-from, parted}
 
 abbrev pub rowsOf : Option Process → List ℕ
 rowsOf none = []
@@ -131,6 +131,7 @@ module _ (rows : List ℤ) (A : RightRows rows) where
     part-ok (If a) f = group r (conditional (at a .tests)) of-a (at a .listed) l (members-by 32 (members-shape 32 41) of-a a (f .0) tt refl (f .1))
     part-ok (While a b) f = group r (loop (at a .expr) b) of-b (andProcess (at b .process) empty) l (single r of-b (at b .process) (process-by 33 while-shape of-b b (f .0) tt refl (f .1)))
     part-ok (Alt a) f = group r (alternation (at a .options)) of-a (at a .listed) l (members-by 34 (members-shape 34 42) of-a a (f .0) tt refl (f .1))
+    part-ok (Block a b) f = group r (block (variableAt rows a)) of-b (andProcess (at b .process) empty) l (single r of-b (at b .process) (process-by 35 block-shape of-b b (f .0) tt refl (f .1)))
     part-ok (Member a b) f = linked r (at a .process) (at b .listed) (process-by 40 member-shape of-a a (f .0) tt refl (f .1)) (members-by 40 member-shape of-b b (f .0) tt refl (f .2))
     part-ok (Choice a b c) f = linked r (at a .process) (at b .listed) (process-by 41 choice-shape of-a a (f .0) tt refl (f .1)) (members-by 41 choice-shape of-b b (f .0) tt refl (f .2))
     part-ok (OptionRow a b c) f = linked r (at a .process) (at b .listed) (process-by 42 option-shape of-a a (f .0) tt refl (f .1)) (members-by 42 option-shape of-b b (f .0) tt refl (f .2))

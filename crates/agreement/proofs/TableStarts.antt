@@ -10,7 +10,7 @@ use native.Mathlib.Decide.{decLt}
 use lib.IntN.{ℤ}
 use borrow.Author.Tests.{lt-ltb}
 use Rattle.meaning.specs.declared.Node.{Node}
-use Rattle.meaning.specs.declared.Node.the-variants.{Literal, Element, Monadic, Dyadic, Stop, Skip, Assignment, Input, Output, Seq, Par, If, While, Alt, Member, Choice, OptionRow, Guard, Other}
+use Rattle.meaning.specs.declared.Node.the-variants.{Literal, Element, Monadic, Dyadic, Stop, Skip, Assignment, Input, Output, Seq, Par, If, While, Alt, Block, Member, Choice, OptionRow, Guard, Other}
 use Rattle.meaning.specs.Basics.{ifElse}
 use Rattle.meaning.specs.Rows.{rowCount, naturalOf, naturalAt, kindAt}
 use Rattle.meaning.specs.Kinds.{Field, reference, Shape, processes}
@@ -25,7 +25,7 @@ use Rattle.agreement.proofs.Commute.{Child, eldest, younger}
 use Rattle.agreement.proofs.Fit.{ChoicesIn, OptionsIn, Starts}
 use Rattle.meaning.specs.ContentClaims.{higherContent}
 use Rattle.agreement.proofs.TableTree.{part-at, Known, every-row}
-use Rattle.agreement.proofs.TableReferences.{while-shape, choice-shape, option-shape, Shaped, Holding, Fields, fields-are, placed-at, leads-at}
+use Rattle.agreement.proofs.TableReferences.{while-shape, block-shape, choice-shape, option-shape, Shaped, Holding, Fields, fields-are, placed-at, leads-at}
 
 all-in : (P : ℕ → Type 0) (ks : List ℕ) → Each P ks → (k : ℕ) → List·Memᴰ k ks → P k
 all-in P (j ∷ ks) (each-more h f) k (List·Memᴰ·head e) = subst P (sym e) h
@@ -44,7 +44,7 @@ module _ (rows : List ℤ) where
     there : (N : Node) (k : Action) (ms : Processes) → nodeAt rows b ≡ N → contentOf rows b (higherContent rows b) N .process ≡ some (node k b ms) → IsProcess b
     there N k ms e h = (k, ms, ap (λ (q : Content). q .process) (part-at rows b l ∙ ap (contentOf rows b (higherContent rows b)) e) ∙ h)
 
-    -- a row of one of the kinds 20 to 34 is a process
+    -- a row of one of the kinds 20 to 35 is a process
     pub is-process : List·Memᴰ (kindAt rows b) processes → IsProcess b
     unfolding nodeAt
     is-process m =
@@ -62,7 +62,8 @@ module _ (rows : List ℤ) where
         (each-more {x = 32} (λ e. there (If x) _ _ (rw e) refl)
         (each-more {x = 33} (λ e. there (While x y) _ _ (rw e) refl)
         (each-more {x = 34} (λ e. there (Alt x) _ _ (rw e) refl)
-        each-none)))))))))) (kindAt rows b) m refl
+        (each-more {x = 35} (λ e. there (Block x y) _ _ (rw e) refl)
+        each-none))))))))))) (kindAt rows b) m refl
 
   pub leading-le : (k r : ℕ) → leading rows k r ≤ r + k
   unfolding leading
@@ -123,11 +124,15 @@ module _ (rows : List ℤ) (A : RightRows rows) where
     abbrev at : ℕ → Content
     at = higherContent rows r
 
+    -- a field refers to a process at a higher row
+    at-field : (k b : ℕ) (s : Shape) (p : Column) → Shaped rows r k s → fieldOf s p ≡ reference processes → Holding rows r p b → (q : Process) × (at b .process ≡ some q) × (rowOf q ≡ b)
+    at-field k b s p h f e =
+        let (g, m, (j, ps, i)) = field-process r k b s p l h f e in
+        (node j b ps, ap (λ (t : Bool). ifElse t (contentAt rows b) noContent .process) (lt-ltb r b g) ∙ i, refl)
+
     -- the process that a field refers to comes first among the members
     comes-first : (k b : ℕ) (s : Shape) (p : Column) (ms : Processes) → Shaped rows r k s → fieldOf s p ≡ reference processes → Holding rows r p b → Child b (andProcess (at b .process) ms)
-    comes-first k b s p ms h f e =
-        let (g, m, (j, ps, i)) = field-process r k b s p l h f e in
-        child-first (at b .process) ms b (node j b ps) (ap (λ (t : Bool). ifElse t (contentAt rows b) noContent .process) (lt-ltb r b g) ∙ i) refl
+    comes-first k b s p ms h f e = let (q, g, i) = at-field k b s p h f e in child-first (at b .process) ms b q g i
 
     part-ok : (k : Node) → Fields rows r k → StartsOk r (contentOf rows r at k)
     part-ok (Literal x) f = (tt, tt, tt)
@@ -144,6 +149,7 @@ module _ (rows : List ℤ) (A : RightRows rows) where
     part-ok (If a) f = (tt, tt, known a .0)
     part-ok (While a b) f = (tt, tt, comes-first 33 b while-shape of-b empty (f .0) refl (f .1))
     part-ok (Alt a) f = (tt, tt, known a .1)
+    part-ok (Block a b) f = (tt, tt, let (q, e, i) = at-field 35 b block-shape of-b (f .0) refl (f .1) in (q, ap (λ (o : Option Process). andProcess o empty) e))
     part-ok (Member a b) f = (tt, tt, tt)
     part-ok (Choice a b c) f = ((comes-first 41 a choice-shape of-a (at b .listed) (f .0) refl (f .1), choices-later (at a .process) (at b .listed) (at b .tests) (known b .0)), tt, tt)
     part-ok (OptionRow a b c) f = (tt, (comes-first 42 a option-shape of-a (at b .listed) (f .0) refl (f .1), options-later (at a .process) (at b .listed) (at b .options) (known b .1)), tt)

@@ -12,10 +12,10 @@ use lib.ListN.{List·getD-map}
 use lib.Dec.{ltb}
 use borrow.Author.Tests.{ltb-true}
 use Rattle.meaning.specs.declared.Node.{Node}
-use Rattle.meaning.specs.declared.Node.the-variants.{Literal, Element, Monadic, Dyadic, Stop, Skip, Assignment, Input, Output, Seq, Par, If, While, Alt, Member, Choice, OptionRow, Guard, Other}
+use Rattle.meaning.specs.declared.Node.the-variants.{Literal, Element, Monadic, Dyadic, Stop, Skip, Assignment, Input, Output, Seq, Par, If, While, Alt, Block, Member, Choice, OptionRow, Guard, Other}
 use Rattle.meaning.specs.Basics.{ifElse}
 use Rattle.meaning.specs.Rows.{rowCount}
-use Rattle.meaning.specs.Tree.{Action, stop, skip, sequence, parallel, assign, input, output, conditional, loop, alternation, Process, node, Processes, empty, also, Content, noContent, andProcess, inputOf, contentOf, contentAt, contents, orStop, rowOf, processesIn}
+use Rattle.meaning.specs.Tree.{Action, stop, skip, sequence, parallel, assign, input, output, conditional, loop, alternation, block, Process, node, Processes, empty, also, Content, noContent, andProcess, inputOf, contentOf, contentAt, contents, orStop, rowOf, processesIn}
 use Rattle.meaning.specs.ContentClaims.{higherContent}
 use Rattle.meaning.specs.Declarations.{variableAt, sinkAt}
 use Rattle.meaning.specs.Nodes.{nodeAt}
@@ -128,6 +128,7 @@ module _ (rows : List ℤ) where
     part-ok (If a) e = (at-one (conditional (at a .tests)) (at a .listed) (contentOf rows r at (If a)) e refl tt (h a .1), none-in)
     part-ok (While a b) e = (at-one (loop (at a .expr) b) (andProcess (at b .process) empty) (contentOf rows r at (While a b)) e refl tt (and-member (at b .process) empty (h b .0) none-in), none-in)
     part-ok (Alt a) e = (at-one (alternation (at a .options)) (at a .listed) (contentOf rows r at (Alt a)) e refl tt (h a .1), none-in)
+    part-ok (Block a b) e = (at-one (block (variableAt rows a)) (andProcess (at b .process) empty) (contentOf rows r at (Block a b)) e refl tt (and-member (at b .process) empty (h b .0) none-in), none-in)
     part-ok (Member a b) e = (nothing, and-member (at a .process) (at b .listed) (h a .0) (h b .1))
     part-ok (Choice a b c) e = (nothing, and-member (at a .process) (at b .listed) (h a .0) (h b .1))
     part-ok (OptionRow a b c) e = (nothing, and-member (at a .process) (at b .listed) (h a .0) (h b .1))

@@ -9,7 +9,7 @@ use native.Mathlib.Decide.{decLt}
 use native.Mathlib.Omega.{arith}
 use lib.IntN.{ℤ, pos}
 use Rattle.meaning.specs.Rows.{naturalOf, rowCount, fieldAt, naturalAt, kindAt}
-use Rattle.meaning.specs.Basics.{anyPasses, among}
+use Rattle.meaning.specs.Basics.{anyPasses}
 use Rattle.meaning.specs.Kinds.{Shape, shapes, shapeOf, expressions, processes}
 use Rattle.meaning.specs.Nodes.{nodeAt}
 use Rattle.meaning.specs.References.{Column, of-a, of-b, of-c, fieldOf, numberOf, IsTarget, RefersBy, Refers}
@@ -18,8 +18,7 @@ use Rattle.meaning.specs.Tree.{Process, Processes, empty, Content, andProcess, 
 use Rattle.meaning.proofs.AnswerLaws.{RightRows}
 use Rattle.meaning.proofs.KindLaws.{none-left, and-then, by-shape}
 use Rattle.meaning.proofs.PartLaws.{part-unfolds}
-use Rattle.meaning.proofs.Decides.{Decides, holding, failing}
-use Rattle.meaning.proofs.ReferenceCounts.{decides-among}
+use Rattle.meaning.proofs.UnsetLaws.{among-mem}
 use Rattle.agreement.specs.TreeClaims.{IsProcess}
 use Rattle.agreement.proofs.TableReferences.{unguarded, few-rows, refers-up, Desc, self, down}
 use Rattle.agreement.proofs.TableRows.{rowsOf}
@@ -39,13 +38,6 @@ first-in x (some p) ms m = Memᴰ·append-left (rowsBeneath ms) m
 later-in : (x : ℕ) (o : Option Process) (ms : Processes) → List·Memᴰ x (rowsBeneath ms) → List·Memᴰ x (rowsBeneath (andProcess o ms))
 later-in x none ms m = m
 later-in x (some p) ms m = Memᴰ·append-right (rowsIn p) m
-
-is-among : (k : ℕ) (ks : List ℕ) → among k ks ≡ true → List·Memᴰ k ks
-is-among k ks e = go (decides-among k ks) e
-  where
-    go : {t : _} → Decides (List·Memᴰ k ks) t → t ≡ true → List·Memᴰ k ks
-    go (holding m) e = m
-    go (failing f) e = absurd (false≢true e)
 
 module _ (rows : List ℤ) (A : RightRows rows) where
   each-fits : (r : ℕ) → r < rowCount rows → Fits rows r (nodeAt rows r)
@@ -74,21 +66,22 @@ module _ (rows : List ℤ) (A : RightRows rows) where
           (and-then (other 11)
           (and-then (other 12)
           (and-then (other 13)
-          (and-then (λ h. is-among 20 processes refl)
-          (and-then (λ h. is-among 21 processes refl)
-          (and-then (λ h. is-among 22 processes refl)
-          (and-then (λ h. is-among 23 processes refl)
-          (and-then (λ h. is-among 24 processes refl)
-          (and-then (λ h. is-among 30 processes refl)
-          (and-then (λ h. is-among 31 processes refl)
-          (and-then (λ h. is-among 32 processes refl)
-          (and-then (λ h. is-among 33 processes refl)
-          (and-then (λ h. is-among 34 processes refl)
+          (and-then (λ h. among-mem 20 processes refl)
+          (and-then (λ h. among-mem 21 processes refl)
+          (and-then (λ h. among-mem 22 processes refl)
+          (and-then (λ h. among-mem 23 processes refl)
+          (and-then (λ h. among-mem 24 processes refl)
+          (and-then (λ h. among-mem 30 processes refl)
+          (and-then (λ h. among-mem 31 processes refl)
+          (and-then (λ h. among-mem 32 processes refl)
+          (and-then (λ h. among-mem 33 processes refl)
+          (and-then (λ h. among-mem 34 processes refl)
+          (and-then (λ h. among-mem 35 processes refl)
           (and-then (other 40)
           (and-then (other 41)
           (and-then (other 42)
           (and-then (other 43)
-          none-left))))))))))))))))))))
+          none-left)))))))))))))))))))))
 
       go : Dec (r < rowCount rows) → (r < rowCount rows) × IsProcess rows r
       go (no l) = absurd (Option·none-ne-some p (sym (ap (λ (x : Content). x .process) (part-unfolds rows r .1 (omega arith))) ∙ e))
@@ -116,7 +109,7 @@ module _ (rows : List ℤ) (A : RightRows rows) where
     pub of-process : c < rowCount rows → IsProcess rows c → In x (contentAt rows c) → List·Memᴰ x (rowsOf (contentAt rows c .process))
     of-process l m =
         by-kind (λ y. In x y → List·Memᴰ x (rowsOf (y .process))) c processes l m
-        (alone, (alone, (alone, (alone, (alone, (alone, (alone, (alone, (alone, (alone, tt))))))))))
+        (alone, (alone, (alone, (alone, (alone, (alone, (alone, (alone, (alone, (alone, (alone, tt)))))))))))
 
     linked : {l : List ℕ} → List·Memᴰ x [] ⊎ List·Memᴰ x l → List·Memᴰ x l
     linked = ⊎-elim (λ m. absurd (List·Memᴰ·not-nil m)) (λ m. m)
@@ -174,11 +167,12 @@ module _ (rows : List ℤ) (A : RightRows rows) where
         (and-then (λ h u i. inl (List·Memᴰ·tail (members-up za (h .0) (of-choices (h .1) i))), never, never)
         (and-then (λ h u i. absurd (of-expression (h .1) i), λ h u i. inl (List·Memᴰ·tail (first-in x (b .process) empty (process-up zb (h .0) (of-process (h .1 .1) (h .1 .2) i)))), never)
         (and-then (λ h u i. inl (List·Memᴰ·tail (members-up za (h .0) (of-options (h .1) i))), never, never)
+        (and-then (never, λ h u i. inl (List·Memᴰ·tail (first-in x (b .process) empty (process-up zb (h .0) (of-process (h .1 .1) (h .1 .2) i)))), never)
         (and-then (λ h u i. inr (first-in x (a .process) (b .listed) (process-up za (h .0) (of-process (h .1 .1) (h .1 .2) i))), λ h u i. inr (later-in x (a .process) (b .listed) (members-up zb (h .0) (of-members (h .1) i))), never)
         (and-then (λ h u i. inr (first-in x (a .process) (b .listed) (process-up za (h .0) (of-process (h .1 .1) (h .1 .2) i))), λ h u i. inr (later-in x (a .process) (b .listed) (members-up zb (h .0) (of-choices (h .1) i))), λ h u i. absurd (of-expression (h .1) i))
         (and-then (λ h u i. inr (first-in x (a .process) (b .listed) (process-up za (h .0) (of-process (h .1 .1) (h .1 .2) i))), λ h u i. inr (later-in x (a .process) (b .listed) (members-up zb (h .0) (of-options (h .1) i))), λ h u i. absurd (false≢true u))
         (and-then (λ h u i. absurd (of-expression (h .1) i), λ h u i. absurd (false≢true u), never)
-        none-left))))))))))))))))))))
+        none-left)))))))))))))))))))))
 
     up : (p : Column) → Refers rows q p c → unguarded (kindAt rows q) p ≡ true → In x (contentAt rows c) → In x (contentAt rows q)
     unfolding Refers

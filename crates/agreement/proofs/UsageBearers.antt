@@ -5,7 +5,7 @@ use mathlib.Core.List.{List, [], _∷_, List·Memᴰ, List·Memᴰ·eq-of-single
 use Prim.Native.Nat.{ℕ, _<_}
 use lib.IntN.{ℤ}
 use Rattle.meaning.specs.declared.Node.{Node}
-use Rattle.meaning.specs.declared.Node.the-variants.{Literal, Element, Monadic, Dyadic, Stop, Skip, Assignment, Input, Output, Seq, Par, If, While, Alt, Member, Choice, OptionRow, Guard, Other}
+use Rattle.meaning.specs.declared.Node.the-variants.{Literal, Element, Monadic, Dyadic, Stop, Skip, Assignment, Input, Output, Seq, Par, If, While, Alt, Block, Member, Choice, OptionRow, Guard, Other}
 use Rattle.meaning.specs.Rows.{rowCount, naturalAt}
 use Rattle.meaning.specs.Declarations.{cellsAt, elementsAt, variableAt, sourceAt, sinkAt}
 use Rattle.meaning.specs.Nodes.{nodeAt}
@@ -56,6 +56,7 @@ module _ (rows : List ℤ) where
   bearer M r (If a) e f h = absurd h
   bearer M r (While a b) e f h = absurd h
   bearer M r (Alt a) e f h = absurd h
+  bearer M r (Block a b) e f h = absurd h
   bearer M r (Member a b) e f h = absurd h
   bearer M r (Choice a b c) e f h = absurd h
   bearer M r (OptionRow a b c) e f h = absurd h

@@ -10,7 +10,7 @@ use native.Mathlib.Omega.{arith}
 use lib.IntN.{ℤ}
 use lib.ListN.{length, getD}
 use Rattle.meaning.specs.declared.Node.{Node}
-use Rattle.meaning.specs.declared.Node.the-variants.{Literal, Element, Monadic, Dyadic, Stop, Skip, Assignment, Input, Output, Seq, Par, If, While, Alt, Member, Choice, OptionRow, Guard, Other}
+use Rattle.meaning.specs.declared.Node.the-variants.{Literal, Element, Monadic, Dyadic, Stop, Skip, Assignment, Input, Output, Seq, Par, If, While, Alt, Block, Member, Choice, OptionRow, Guard, Other}
 use Rattle.meaning.specs.Basics.{ifElse}
 use Rattle.meaning.specs.Rows.{rowCount, naturalAt}
 use Rattle.meaning.specs.Nodes.{nodeAt}
@@ -74,6 +74,7 @@ parOf (Par a) = some a
 parOf (If a) = none
 parOf (While a b) = none
 parOf (Alt a) = none
+parOf (Block a b) = none
 parOf (Member a b) = none
 parOf (Choice a b c) = none
 parOf (OptionRow a b c) = none
@@ -102,6 +103,7 @@ module _ (rows : List ℤ) where
   looks k r (If a) = no-par refl refl
   looks k r (While a b) = no-par refl refl
   looks k r (Alt a) = no-par refl refl
+  looks k r (Block a b) = no-par refl refl
   looks k r (Member a b) = no-par refl refl
   looks k r (Choice a b c) = no-par refl refl
   looks k r (OptionRow a b c) = no-par refl refl

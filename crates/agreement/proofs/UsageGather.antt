@@ -4,7 +4,7 @@ use mathlib.Core.List.{List, [], _∷_, _++_, List·Memᴰ, List·Memᴰ·not-ni
 use mathlib.Core.Option.{Option, none, some}
 use Prim.Native.Nat.{ℕ}
 use Rattle.meaning.specs.Declarations.{Variable}
-use Rattle.meaning.specs.Tree.{Expr, literal, element, monadic, given, dyadic, noExpr, ChannelInput, IfChoice, AltOption, Action, stop, skip, sequence, parallel, assign, input, output, conditional, loop, alternation, Process, node, Processes, empty, also}
+use Rattle.meaning.specs.Tree.{Expr, literal, element, monadic, given, dyadic, noExpr, ChannelInput, IfChoice, AltOption, Action, stop, skip, sequence, parallel, assign, input, output, conditional, loop, alternation, block, Process, node, Processes, empty, also}
 use Rattle.meaning.specs.Usage.{countsFor, standsIn, standsInChoices, changesBy, usesBy, inputsBy, ofGuard, ofGuards, standsInGuards, changes, uses, inputElements, outputElements, gather, gatherAll}
 use Rattle.agreement.proofs.UsageTree.{Mark, InExpr, InReceive, InChoices, InInput, InOptions, InAction, InProcess, InMembers}
 
@@ -166,6 +166,7 @@ module _ (n : ℕ) where
   changes-is (conditional ts) = none-in (quiet-choices markChanges (λ v e h. h) ts)
   changes-is (loop e b) = none-in (quiet-expr markChanges (λ v e h. h) e)
   changes-is (alternation bs) = guards-are markChanges (λ v e h. h) changesBy (λ i. (λ h. h, λ h. h)) bs
+  changes-is (block v) = none-in (λ h. h)
 
   pub gathers-changes : (p : Process) → List·Memᴰ n (gather p changes) ↔ InProcess markChanges p
   gathers-changes = gather-is markChanges changes changes-is
@@ -182,6 +183,7 @@ module _ (n : ℕ) where
   inputs-is (conditional ts) = none-in (quiet-choices markInputs (λ v e h. h) ts)
   inputs-is (loop e b) = none-in (quiet-expr markInputs (λ v e h. h) e)
   inputs-is (alternation bs) = guards-are markInputs (λ v e h. h) inputsBy (λ i. (λ h. h, λ h. h)) bs
+  inputs-is (block v) = none-in (λ h. h)
 
   pub gathers-inputs : (p : Process) → List·Memᴰ n (gather p inputElements) ↔ InProcess markInputs p
   gathers-inputs = gather-is markInputs inputElements inputs-is
@@ -198,6 +200,7 @@ module _ (n : ℕ) where
   outputs-is (conditional ts) = none-in (quiet-choices markOutputs (λ v e h. h) ts)
   outputs-is (loop e b) = none-in (quiet-expr markOutputs (λ v e h. h) e)
   outputs-is (alternation bs) = none-in (quiet-options markOutputs (λ v e h. h) (λ i h. h) bs)
+  outputs-is (block v) = none-in (λ h. h)
 
   pub gathers-outputs : (p : Process) → List·Memᴰ n (gather p outputElements) ↔ InProcess markOutputs p
   gathers-outputs = gather-is markOutputs outputElements outputs-is
@@ -233,7 +236,7 @@ module _ (n : ℕ) where
       e : List·Memᴰ n (usesBy i) ↔ (List·Memᴰ n (changesBy i) ⊎ (InExpr markUses (i .subscript) ⊎ InExpr markUses (i .target .subscript)))
       e = both (changesBy i) (standsIn (i .subscript) ++ standsIn (i .target .subscript)) (λ h. h, λ h. h) (two-stand (i .subscript) (i .target .subscript))
 
-  uses-is : (a : Action) → List·Memᴰ n (uses a) ↔ InAction markUses a
+  pub uses-is : (a : Action) → List·Memᴰ n (uses a) ↔ InAction markUses a
   uses-is stop = none-in (λ h. h)
   uses-is skip = none-in (λ h. h)
   uses-is sequence = none-in (λ h. h)
@@ -247,6 +250,7 @@ module _ (n : ℕ) where
     λ h. ⊎-elim (λ i. booleans-in markUses bs (stands-in-guards bs .0 i)) (guards-to markUses usesBy uses-by bs) (split (standsInGuards bs) (ofGuards usesBy bs) h),
     λ h. ⊎-elim (λ i. left (standsInGuards bs) (ofGuards usesBy bs) (stands-in-guards bs .1 i)) (right (standsInGuards bs) (ofGuards usesBy bs)) (guards-from markUses usesBy uses-by bs h),
   )
+  uses-is (block v) = none-in (λ h. h)
 
   pub gathers-uses : (p : Process) → List·Memᴰ n (gather p uses) ↔ InProcess markUses p
   gathers-uses = gather-is markUses uses uses-is

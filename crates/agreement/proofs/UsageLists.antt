@@ -4,7 +4,7 @@ use mathlib.Core.Logic.{⊎-elim}
 use mathlib.Core.List.{List, [], _∷_, List·Memᴰ, List·Memᴰ·head, List·Memᴰ·tail, List·Memᴰ·not-nil, List·Memᴰ·cases-cons}
 use Prim.Native.Nat.{ℕ}
 use Rattle.meaning.specs.declared.Node.{Node}
-use Rattle.meaning.specs.declared.Node.the-variants.{Literal, Element, Monadic, Dyadic, Stop, Skip, Assignment, Input, Output, Seq, Par, If, While, Alt, Member, Choice, OptionRow, Guard, Other}
+use Rattle.meaning.specs.declared.Node.the-variants.{Literal, Element, Monadic, Dyadic, Stop, Skip, Assignment, Input, Output, Seq, Par, If, While, Alt, Block, Member, Choice, OptionRow, Guard, Other}
 
 -- the fields of a row that are references; a name is none
 abbrev pub references : Node → List ℕ
@@ -22,6 +22,7 @@ references (Par a) = a ∷ []
 references (If a) = a ∷ []
 references (While a b) = a ∷ b ∷ []
 references (Alt a) = a ∷ []
+references (Block a b) = b ∷ []
 references (Member a b) = a ∷ b ∷ []
 references (Choice a b c) = a ∷ b ∷ c ∷ []
 references (OptionRow a b c) = a ∷ b ∷ c ∷ []

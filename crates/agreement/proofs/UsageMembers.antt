@@ -8,7 +8,7 @@ use native.Mathlib.Decide.{decLt}
 use native.Mathlib.Omega.{arith}
 use lib.IntN.{ℤ}
 use Rattle.meaning.specs.declared.Node.{Node}
-use Rattle.meaning.specs.declared.Node.the-variants.{Literal, Element, Monadic, Dyadic, Stop, Skip, Assignment, Input, Output, Seq, Par, If, While, Alt, Member, Choice, OptionRow, Guard, Other}
+use Rattle.meaning.specs.declared.Node.the-variants.{Literal, Element, Monadic, Dyadic, Stop, Skip, Assignment, Input, Output, Seq, Par, If, While, Alt, Block, Member, Choice, OptionRow, Guard, Other}
 use Rattle.meaning.specs.Rows.{rowCount, naturalAt, kindAt}
 use Rattle.meaning.specs.Kinds.{processes}
 use Rattle.meaning.specs.Nodes.{nodeAt}
@@ -38,6 +38,7 @@ memberOf (Par a) = (0, 0)
 memberOf (If a) = (0, 0)
 memberOf (While a b) = (0, 0)
 memberOf (Alt a) = (0, 0)
+memberOf (Block a b) = (0, 0)
 memberOf (Member a b) = (a, b)
 memberOf (Choice a b c) = (0, 0)
 memberOf (OptionRow a b c) = (0, 0)
@@ -60,7 +61,7 @@ module _ (rows : List ℤ) where
     pub process-at : (p : ℕ) → p < rowCount rows → List·Memᴰ (kindAt rows p) processes → (x : Process) × IsProcess rows p x
     process-at p l m =
         let h = part-by-kind rows (λ y. (x : Process) × (y .process ≡ some x)) p l (fits p l) processes m
-        ((_, refl), ((_, refl), ((_, refl), ((_, refl), ((_, refl), ((_, refl), ((_, refl), ((_, refl), ((_, refl), ((_, refl), tt)))))))))) in
+        ((_, refl), ((_, refl), ((_, refl), ((_, refl), ((_, refl), ((_, refl), ((_, refl), ((_, refl), ((_, refl), ((_, refl), ((_, refl), tt))))))))))) in
         (h .0, (l, m, h .1))
 
     pub chain-at : (k m : ℕ) → rowCount rows ≤ m + k → (m < rowCount rows → List·Memᴰ (kindAt rows m) (40 ∷ [])) → Chain m (contentAt rows m .listed)

@@ -41,7 +41,7 @@ module _ (rows : List ℤ) where
       from h (inr g) = absurd (let l = h .1 .1 in omega arith)
 
   -- the cells of a variable
-  variable-first : (v : ℕ) → (variableAt rows v .first ≡ sumBelow (cellsAt rows) v) ⊎ (cellsAt rows v ≡ 0)
+  pub variable-first : (v : ℕ) → (variableAt rows v .first ≡ sumBelow (cellsAt rows) v) ⊎ (cellsAt rows v ≡ 0)
   unfolding variableAt cellsAt
   variable-first v = go (isVariable rows v)
     where
@@ -49,7 +49,7 @@ module _ (rows : List ℤ) where
       go true = inl refl
       go false = inr refl
 
-  variable-size : (v : ℕ) → variableAt rows v .size ≡ cellsAt rows v
+  pub variable-size : (v : ℕ) → variableAt rows v .size ≡ cellsAt rows v
   unfolding variableAt cellsAt
   variable-size v = go (isVariable rows v)
     where

@@ -11,7 +11,7 @@ use native.Mathlib.Omega.{arith}
 use lib.IntN.{ℤ, pos, negsuc, pos-ne-negsuc}
 use lib.Dec.{ltb, eqb}
 use Rattle.meaning.specs.declared.Node.{Node}
-use Rattle.meaning.specs.declared.Node.the-variants.{Literal, Element, Monadic, Dyadic, Stop, Skip, Assignment, Input, Output, Seq, Par, If, While, Alt, Member, Choice, OptionRow, Guard, Other}
+use Rattle.meaning.specs.declared.Node.the-variants.{Literal, Element, Monadic, Dyadic, Stop, Skip, Assignment, Input, Output, Seq, Par, If, While, Alt, Block, Member, Choice, OptionRow, Guard, Other}
 use Rattle.meaning.specs.Basics.{ifElse}
 use Rattle.meaning.specs.Rows.{rowCount, fieldAt, naturalAt, kindAt}
 use Rattle.meaning.specs.Kinds.{expressions}
@@ -50,7 +50,7 @@ module _ (size : ℕ → ℕ) where
 
 -- Numbers that count for a subscript ----------------------------------------------------------------------------------------------
 
-range-to : (n first size : ℕ) → List·Memᴰ n (numbersFrom first size) → (i : ℕ) × (n ≡ first + i) × (i < size)
+pub range-to : (n first size : ℕ) → List·Memᴰ n (numbersFrom first size) → (i : ℕ) × (n ≡ first + i) × (i < size)
 unfolding numbersFrom
 range-to n first zero m = absurd (List·Memᴰ·not-nil m)
 range-to n first (suc size) m = ⊎-elim (λ e. (0, omega arith, omega arith)) (λ i. let h = range-to n (suc first) size i in (suc (h .0), omega (arith, h .1), omega (arith, h .2))) (List·Memᴰ·cases-cons m)
@@ -77,6 +77,7 @@ literalOf (Par a) = none
 literalOf (If a) = none
 literalOf (While a b) = none
 literalOf (Alt a) = none
+literalOf (Block a b) = none
 literalOf (Member a b) = none
 literalOf (Choice a b c) = none
 literalOf (OptionRow a b c) = none

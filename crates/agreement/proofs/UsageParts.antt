@@ -8,12 +8,12 @@ use Prim.Native.Nat.{ℕ, _<_}
 use lib.IntN.{ℤ}
 use borrow.Author.Tests.{lt-ltb}
 use Rattle.meaning.specs.declared.Node.{Node}
-use Rattle.meaning.specs.declared.Node.the-variants.{Literal, Element, Monadic, Dyadic, Stop, Skip, Assignment, Input, Output, Seq, Par, If, While, Alt, Member, Choice, OptionRow, Guard, Other}
+use Rattle.meaning.specs.declared.Node.the-variants.{Literal, Element, Monadic, Dyadic, Stop, Skip, Assignment, Input, Output, Seq, Par, If, While, Alt, Block, Member, Choice, OptionRow, Guard, Other}
 use Rattle.meaning.specs.Basics.{ifElse}
 use Rattle.meaning.specs.Rows.{rowCount, fieldAt, naturalAt, kindAt}
 use Rattle.meaning.specs.Declarations.{variableAt, sourceAt, sinkAt}
 use Rattle.meaning.specs.Nodes.{nodeAt}
-use Rattle.meaning.specs.Tree.{dyadic, sequence, parallel, assign, input, output, conditional, loop, alternation, node, empty, ChannelInput, Content, noContent, andProcess, ofExpr, ofElement, ofProcess, ofGuarded, ofGuardRow, ofLink, operation, contentOf, contentAt}
+use Rattle.meaning.specs.Tree.{dyadic, sequence, parallel, assign, input, output, conditional, loop, alternation, block, node, empty, ChannelInput, Content, noContent, andProcess, ofExpr, ofElement, ofProcess, ofGuarded, ofGuardRow, ofLink, operation, contentOf, contentAt}
 use Rattle.meaning.specs.ContentClaims.{higherContent}
 use Rattle.meaning.proofs.PartLaws.{part-unfolds}
 use Rattle.agreement.proofs.UsageRows.{nodeOf, node-of-kind, Fits}
@@ -46,6 +46,7 @@ module _ (rows : List ℤ) where
   part-agree r f g (If a) h = λ i. ofProcess (node (conditional (h a m0 i .tests)) r (h a m0 i .listed))
   part-agree r f g (While a b) h = λ i. ofProcess (node (loop (h a m0 i .expr) b) r (andProcess (h b m1 i .process) empty))
   part-agree r f g (Alt a) h = λ i. ofProcess (node (alternation (h a m0 i .options)) r (h a m0 i .listed))
+  part-agree r f g (Block a b) h = λ i. ofProcess (node (block (variableAt rows a)) r (andProcess (h b m0 i .process) empty))
   part-agree r f g (Member a b) h = λ i. ofLink (andProcess (h a m0 i .process) (h b m1 i .listed)) [] []
   part-agree r f g (Choice a b c) h =
       λ i. ofLink (andProcess (h a m0 i .process) (h b m1 i .listed)) (record { boolean = h c m2 i .expr; process = a } ∷ h b m1 i .tests) []
@@ -70,6 +71,7 @@ module _ (rows : List ℤ) where
   fits-higher r (If a) f = one (_<_ r) a (f .0)
   fits-higher r (While a b) f = two (_<_ r) a b (f .0 .0) (f .1 .0)
   fits-higher r (Alt a) f = one (_<_ r) a (f .0)
+  fits-higher r (Block a b) f = one (_<_ r) b (f .0)
   fits-higher r (Member a b) f = two (_<_ r) a b (f .0 .0) (f .1 .0)
   fits-higher r (Choice a b c) f = three (_<_ r) a b c (f .0 .0) (f .1 .0) (f .2 .0)
   fits-higher r (OptionRow a b c) f = three (_<_ r) a b c (f .0 .0) (f .1 .0) (f .2 .0)

@@ -77,11 +77,12 @@ module _ (rows : List ℤ) where
         (and-then (λ h. at0 za (h .0), never, never)
         (and-then (λ h. at0 za (h .0), λ h. at1 zb (h .0), never)
         (and-then (λ h. at0 za (h .0), never, never)
+        (and-then (never, λ h. at0 zb (h .0), never)
         (and-then (λ h. at0 za (h .0), λ h. at1 zb (h .0), never)
         (and-then (λ h. at0 za (h .0), λ h. at1 zb (h .0), λ h. at2 zc (h .0))
         (and-then (λ h. at0 za (h .0), λ h. at1 zb (h .0), λ h. at2 zc (h .0))
         (and-then (λ h. at0 za (h .0), λ h. at1 zb (h .0), never)
-        none-left))))))))))))))))))))
+        none-left)))))))))))))))))))))
 
     pub refers-listed : (p : Column) → Refers rows r p t → List·Memᴰ t (references (nodeAt rows r))
     unfolding Refers
@@ -151,11 +152,12 @@ module _ (rows : List ℤ) where
           (and-then (λ h. one _ _ (by _ of-a tt h))
           (and-then (λ h. two _ _ _ (by _ of-a tt h) (by _ of-b tt h))
           (and-then (λ h. one _ _ (by _ of-a tt h))
+          (and-then (λ h. one _ _ (by _ of-b tt h))
           (and-then (λ h. two _ _ _ (by _ of-a tt h) (by _ of-b tt h))
           (and-then (λ h. three _ _ _ _ (by _ of-a tt h) (by _ of-b tt h) (by _ of-c tt h))
           (and-then (λ h. three _ _ _ _ (by _ of-a tt h) (by _ of-b tt h) (by _ of-c tt h))
           (and-then (λ h. two _ _ _ (by _ of-a tt h) (by _ of-b tt h))
-          none-left))))))))))))))))))))
+          none-left)))))))))))))))))))))
 
       pub listed-refers : (c : ℕ) → List·Memᴰ c (references (nodeAt rows r)) → c < rowCount rows → (p : Column) × Refers rows r p c
       unfolding Refers WellFormed Placed

@@ -3,7 +3,7 @@ use mathlib.Core.Path.{_≡_, refl, sym, ap, _∙_, subst}
 use mathlib.Core.Logic.{_⊎_, inl, inr, ⊎-elim}
 use mathlib.Core.Bool.{true}
 use mathlib.Core.List.{List, [], _∷_, List·Memᴰ, List·Memᴰ·head}
-use mathlib.Core.Option.{some, Option·some-injective}
+use mathlib.Core.Option.{some}
 use Prim.Native.Nat.{ℕ, suc, _≤_, _<_}
 use native.Mathlib.Decide.{ℕ-discrete, decLt}
 use native.Mathlib.Omega.{arith}
@@ -11,7 +11,7 @@ use lib.IntN.{ℤ, pos, negsuc}
 use lib.Dec.{eqb}
 use borrow.Author.Tests.{eqb-true}
 use Rattle.meaning.specs.declared.Node.{Node}
-use Rattle.meaning.specs.declared.Node.the-variants.{Literal, Element, Monadic, Dyadic, Stop, Skip, Assignment, Input, Output, Seq, Par, If, While, Alt, Member, Choice, OptionRow, Guard, Other}
+use Rattle.meaning.specs.declared.Node.the-variants.{Literal, Element, Monadic, Dyadic, Stop, Skip, Assignment, Input, Output, Seq, Par, If, While, Alt, Block, Member, Choice, OptionRow, Guard, Other}
 use Rattle.meaning.specs.Basics.{ifElse}
 use Rattle.meaning.specs.Rows.{naturalOf, rowCount, fieldAt, naturalAt, kindAt}
 use Rattle.meaning.specs.Kinds.{operator, Shape, shapes, shapeIn, shapeOf, expressions, processes}
@@ -19,6 +19,7 @@ use Rattle.meaning.specs.Declarations.{declarations}
 use Rattle.meaning.specs.Nodes.{nodeAt}
 use Rattle.meaning.specs.References.{IsOf, IsTarget, Column, of-a, of-b, of-c, fieldOf, numberOf}
 use Rattle.meaning.specs.Faults.{MayHold, WellFormed, Leads, Placed, WellPlaced}
+use Rattle.meaning.proofs.FaultLaws.{holds-a}
 use Rattle.meaning.proofs.OneTreeLaw.{declared}
 use Rattle.agreement.proofs.TableReferences.{if-else}
 
@@ -39,11 +40,12 @@ nodeOf k x a b c =
     (ifElse (eqb k 32) (If a)
     (ifElse (eqb k 33) (While a b)
     (ifElse (eqb k 34) (Alt a)
+    (ifElse (eqb k 35) (Block a b)
     (ifElse (eqb k 40) (Member a b)
     (ifElse (eqb k 41) (Choice a b c)
     (ifElse (eqb k 42) (OptionRow a b c)
     (ifElse (eqb k 43) (Guard a b)
-    Other)))))))))))))))))
+    Other))))))))))))))))))
 
 module _ (rows : List ℤ) where
   -- a row of kind k is the node of that kind
@@ -85,6 +87,7 @@ module _ (rows : List ℤ) where
   Fits r (If a) = ToLink r (41 ∷ []) a
   Fits r (While a b) = ToExpr r a × ToProcess r b
   Fits r (Alt a) = ToLink r (42 ∷ []) a
+  Fits r (Block a b) = ToProcess r b
   Fits r (Member a b) = ToProcess r a × ToLink r (40 ∷ []) b
   Fits r (Choice a b c) = ToProcess r a × ToLink r (41 ∷ []) b × ToExpr r c
   Fits r (OptionRow a b c) = ToProcess r a × ToLink r (42 ∷ []) b × IsTarget rows r (23 ∷ 43 ∷ []) c
@@ -121,11 +124,8 @@ module _ (rows : List ℤ) where
       unfolding WellPlaced Placed
       leads-to = placed r (omega arith) .1 (d, l) .0
 
-      holds-a : (s : Shape) → IsOf rows r s → MayHold rows r (s .a) (fieldAt rows r 1)
-      unfolding WellFormed
-      holds-a s h =
-          let w = formed r l .1 in
-          subst (λ (u : Shape). MayHold rows r (u .a) (fieldAt rows r 1)) (Option·some-injective (w .0) s (sym (w .1) ∙ h)) (w .2)
+      holds : (s : Shape) → IsOf rows r s → MayHold rows r (s .a) (fieldAt rows r 1)
+      holds s = holds-a rows r s (formed r l)
 
       is-of : (k : ℕ) (s : Shape) → shapeOf k ≡ some s → eqb (kindAt rows r) k ≡ true → IsOf rows r s
       is-of k s e h = ap shapeOf (eqb-true (kindAt rows r) k h) ∙ e
@@ -137,23 +137,24 @@ module _ (rows : List ℤ) where
           let i = is-of in
           if-else (Fits r) (eqb k 10) (λ e. tt)
           (if-else (Fits r) (eqb k 11) (λ e. to-target r expressions (fieldAt rows r 2) (leads-to _ (i 11 _ refl e) of-b))
-          (if-else (Fits r) (eqb k 12) (λ e. to-operand r (fieldAt rows r 1) (fieldAt rows r 2) (holds-a _ (i 12 _ refl e)) refl (leads-to _ (i 12 _ refl e) of-b))
+          (if-else (Fits r) (eqb k 12) (λ e. to-operand r (fieldAt rows r 1) (fieldAt rows r 2) (holds _ (i 12 _ refl e)) refl (leads-to _ (i 12 _ refl e) of-b))
           (if-else (Fits r) (eqb k 13) (λ e. (to-target r expressions (fieldAt rows r 2) (leads-to _ (i 13 _ refl e) of-b), to-target r expressions (fieldAt rows r 3) (leads-to _ (i 13 _ refl e) of-c)))
           (if-else (Fits r) (eqb k 20) (λ e. tt)
           (if-else (Fits r) (eqb k 21) (λ e. tt)
           (if-else (Fits r) (eqb k 22) (λ e. (to-target r expressions (fieldAt rows r 2) (leads-to _ (i 22 _ refl e) of-b), to-target r expressions (fieldAt rows r 3) (leads-to _ (i 22 _ refl e) of-c)))
-          (if-else (Fits r) (eqb k 23) (λ e. (to-channel (0 ∷ 1 ∷ []) (fieldAt rows r 1) (holds-a _ (i 23 _ refl e)), to-target r expressions (fieldAt rows r 2) (leads-to _ (i 23 _ refl e) of-b), to-target r (11 ∷ []) (fieldAt rows r 3) (leads-to _ (i 23 _ refl e) of-c)))
-          (if-else (Fits r) (eqb k 24) (λ e. (to-channel (0 ∷ 2 ∷ []) (fieldAt rows r 1) (holds-a _ (i 24 _ refl e)), to-target r expressions (fieldAt rows r 2) (leads-to _ (i 24 _ refl e) of-b), to-target r expressions (fieldAt rows r 3) (leads-to _ (i 24 _ refl e) of-c)))
+          (if-else (Fits r) (eqb k 23) (λ e. (to-channel (0 ∷ 1 ∷ []) (fieldAt rows r 1) (holds _ (i 23 _ refl e)), to-target r expressions (fieldAt rows r 2) (leads-to _ (i 23 _ refl e) of-b), to-target r (11 ∷ []) (fieldAt rows r 3) (leads-to _ (i 23 _ refl e) of-c)))
+          (if-else (Fits r) (eqb k 24) (λ e. (to-channel (0 ∷ 2 ∷ []) (fieldAt rows r 1) (holds _ (i 24 _ refl e)), to-target r expressions (fieldAt rows r 2) (leads-to _ (i 24 _ refl e) of-b), to-target r expressions (fieldAt rows r 3) (leads-to _ (i 24 _ refl e) of-c)))
           (if-else (Fits r) (eqb k 30) (λ e. to-link r (40 ∷ []) (fieldAt rows r 1) l (leads-to _ (i 30 _ refl e) of-a))
           (if-else (Fits r) (eqb k 31) (λ e. to-link r (40 ∷ []) (fieldAt rows r 1) l (leads-to _ (i 31 _ refl e) of-a))
           (if-else (Fits r) (eqb k 32) (λ e. to-link r (41 ∷ []) (fieldAt rows r 1) l (leads-to _ (i 32 _ refl e) of-a))
           (if-else (Fits r) (eqb k 33) (λ e. (to-target r expressions (fieldAt rows r 1) (leads-to _ (i 33 _ refl e) of-a), to-target r processes (fieldAt rows r 2) (leads-to _ (i 33 _ refl e) of-b)))
           (if-else (Fits r) (eqb k 34) (λ e. to-link r (42 ∷ []) (fieldAt rows r 1) l (leads-to _ (i 34 _ refl e) of-a))
+          (if-else (Fits r) (eqb k 35) (λ e. to-target r processes (fieldAt rows r 2) (leads-to _ (i 35 _ refl e) of-b))
           (if-else (Fits r) (eqb k 40) (λ e. (to-target r processes (fieldAt rows r 1) (leads-to _ (i 40 _ refl e) of-a), to-link r (40 ∷ []) (fieldAt rows r 2) l (leads-to _ (i 40 _ refl e) of-b)))
           (if-else (Fits r) (eqb k 41) (λ e. (to-target r processes (fieldAt rows r 1) (leads-to _ (i 41 _ refl e) of-a), to-link r (41 ∷ []) (fieldAt rows r 2) l (leads-to _ (i 41 _ refl e) of-b), to-target r expressions (fieldAt rows r 3) (leads-to _ (i 41 _ refl e) of-c)))
           (if-else (Fits r) (eqb k 42) (λ e. (to-target r processes (fieldAt rows r 1) (leads-to _ (i 42 _ refl e) of-a), to-link r (42 ∷ []) (fieldAt rows r 2) l (leads-to _ (i 42 _ refl e) of-b), to-target r (23 ∷ 43 ∷ []) (fieldAt rows r 3) (leads-to _ (i 42 _ refl e) of-c)))
           (if-else (Fits r) (eqb k 43) (λ e. (to-target r expressions (fieldAt rows r 1) (leads-to _ (i 43 _ refl e) of-a), to-target r (21 ∷ 23 ∷ []) (fieldAt rows r 2) (leads-to _ (i 43 _ refl e) of-b)))
-          tt)))))))))))))))))
+          tt))))))))))))))))))
 
     -- each row's fields lead to where they may
     pub fits : (r : ℕ) → r < rowCount rows → Fits r (nodeAt rows r)

@@ -3,7 +3,7 @@ use mathlib.Core.Logic.{_⊎_, inl, inr, ⊎-elim}
 use mathlib.Core.List.{List, [], _∷_}
 use mathlib.Core.Option.{Option, none, some}
 use Rattle.meaning.specs.Declarations.{Variable, Channel}
-use Rattle.meaning.specs.Tree.{Expr, literal, element, monadic, given, dyadic, noExpr, ChannelInput, IfChoice, AltGuard, AltOption, Action, stop, skip, sequence, parallel, assign, input, output, conditional, loop, alternation, Process, node, Processes, empty, also, Content, noContent, andProcess, ofExpr, ofElement, ofProcess, ofGuarded, ofGuardRow, ofLink}
+use Rattle.meaning.specs.Tree.{Expr, literal, element, monadic, given, dyadic, noExpr, ChannelInput, IfChoice, AltGuard, AltOption, Action, stop, skip, sequence, parallel, assign, input, output, conditional, loop, alternation, block, Process, node, Processes, empty, also, Content, noContent, andProcess, ofExpr, ofElement, ofProcess, ofGuarded, ofGuardRow, ofLink}
 
 -- what bears the mark
 pub record Mark : Type 1 where
@@ -51,6 +51,7 @@ module _ (M : Mark) where
   InAction (conditional ts) = InChoices ts
   InAction (loop e b) = InExpr e
   InAction (alternation bs) = InOptions bs
+  InAction (block v) = ⊥
 
   -- anything in a process with all beneath it
   abbrev mutual

@@ -10,7 +10,7 @@ use lib.IntN.{ℤ}
 use lib.Dec.{eqb}
 use borrow.Author.Tests.{eqb-true}
 use Rattle.meaning.specs.declared.Node.{Node}
-use Rattle.meaning.specs.declared.Node.the-variants.{Literal, Element, Monadic, Dyadic, Stop, Skip, Assignment, Input, Output, Seq, Par, If, While, Alt, Member, Choice, OptionRow, Guard, Other}
+use Rattle.meaning.specs.declared.Node.the-variants.{Literal, Element, Monadic, Dyadic, Stop, Skip, Assignment, Input, Output, Seq, Par, If, While, Alt, Block, Member, Choice, OptionRow, Guard, Other}
 use Rattle.meaning.specs.Basics.{ifElse}
 use Rattle.meaning.specs.Rows.{rowCount, kindAt}
 use Rattle.meaning.specs.Kinds.{expressions, processes}
@@ -21,6 +21,7 @@ use Rattle.meaning.specs.References.{Column, fieldOf, numberOf, IsTarget, Refer
 use Rattle.meaning.specs.Clash.{Within}
 use Rattle.meaning.proofs.PartLaws.{part-unfolds}
 use Rattle.meaning.proofs.ReferenceCounts.{bounds}
+use Rattle.meaning.proofs.BlockLaws.{beneath-first}
 use Rattle.agreement.specs.VerdictClaims.{Passed}
 use Rattle.agreement.proofs.UsageRows.{ToLink, ToOperand, Fits}
 use Rattle.agreement.proofs.UsageLists.{references, one, two, three, m0, m1, m2}
@@ -45,6 +46,7 @@ module _ (rows : List ℤ) (M : Mark) where
   Bears (If a) = ⊥
   Bears (While a b) = ⊥
   Bears (Alt a) = ⊥
+  Bears (Block a b) = ⊥
   Bears (Member a b) = ⊥
   Bears (Choice a b c) = ⊥
   Bears (OptionRow a b c) = ⊥
@@ -76,7 +78,7 @@ module _ (rows : List ℤ) (M : Mark) where
 
     pub at-process : (c : ℕ) → c < rowCount rows → List·Memᴰ (kindAt rows c) processes → At c → InOption M (contentAt rows c .process)
     at-process c l m = by-kind (λ x. InPart M x → InOption M (x .process)) c processes l m
-        (p _, (guarded, (p _, (input, (p _, (p _, (p _, (p _, (p _, (p _, tt))))))))))
+        (p _, (guarded, (p _, (input, (p _, (p _, (p _, (p _, (p _, (p _, (p _, tt)))))))))))
       where
         p : (x : Process) → InPart M (ofProcess x) → InProcess M x
         p = in-process-part M
@@ -91,7 +93,7 @@ module _ (rows : List ℤ) (M : Mark) where
     at-target : (r c : ℕ) → IsTarget rows r (11 ∷ []) c → At c → InExpr M (element (contentAt rows c .target .name) (contentAt rows c .target .subscript))
     at-target r c t = by-kind (λ x. InPart M x → InExpr M (element (x .target .name) (x .target .subscript))) c (11 ∷ []) (t .1) (t .2) (in-element-part M _ _, tt)
 
-    target-at : (r c : ℕ) → IsTarget rows r (11 ∷ []) c → InExpr M (element (contentAt rows c .target .name) (contentAt rows c .target .subscript)) → At c
+    pub target-at : (r c : ℕ) → IsTarget rows r (11 ∷ []) c → InExpr M (element (contentAt rows c .target .name) (contentAt rows c .target .subscript)) → At c
     target-at r c t = by-kind (λ x. InExpr M (element (x .target .name) (x .target .subscript)) → InPart M x) c (11 ∷ []) (t .1) (t .2) (in-expr, tt)
 
     -- a guard, and the input of a guard
@@ -145,6 +147,7 @@ module _ (rows : List ℤ) (M : Mark) where
     up-own r (If a) h = absurd h
     up-own r (While a b) h = absurd h
     up-own r (Alt a) h = absurd h
+    up-own r (Block a b) h = absurd h
     up-own r (Member a b) h = absurd h
     up-own r (Choice a b c) h = absurd h
     up-own r (OptionRow a b c) h = absurd h
@@ -196,6 +199,8 @@ module _ (rows : List ℤ) (M : Mark) where
         two (Up r (While a b)) a b (λ h. in-process (inl (at-expr r a (f .0) h)))
         (λ h. in-process (inr (join-member M (contentAt rows b .process) empty (inl (at-process b (f .1 .1) (f .1 .2) h)))))
     up r (Alt a) f = one (Up r (Alt a)) a (λ h. ⊎-elim (λ i. in-process (inr i)) (λ i. in-process (inl i)) (at-options r a f h))
+    up r (Block a b) f =
+        one (Up r (Block a b)) b (λ h. in-process (inr (join-member M (contentAt rows b .process) empty (inl (at-process b (f .1) (f .2) h)))))
     up r (Member a b) f = two (Up r (Member a b)) a b (λ h. in-members (member r a b (f .0) h)) (λ h. in-members (others a b (at-members r b (f .1) h)))
     up r (Choice a b c) f =
         three (Up r (Choice a b c)) a b c (λ h. in-members (member r a b (f .0) h))
@@ -238,6 +243,9 @@ module _ (rows : List ℤ) (M : Mark) where
         ⊎-elim (λ i. inr (a, m0, in-expr i))
         (λ i. ⊎-elim (λ j. inr (b, m1, in-process j)) (λ j. absurd j) (split-member M (contentAt rows b .process) empty i)) (in-process-part M _ h)
     down r (Alt a) f h = ⊎-elim (λ i. inr (a, m0, in-options i)) (λ i. inr (a, m0, in-members i)) (in-process-part M _ h)
+    down r (Block a b) f h =
+        ⊎-elim (λ i. absurd i)
+        (λ i. ⊎-elim (λ j. inr (b, m0, in-process j)) (λ j. absurd j) (split-member M (contentAt rows b .process) empty i)) (in-process-part M _ h)
     down r (Member a b) f h = ⊎-elim (down-member (Member a b) a b m0 m1) (λ i. ⊎-elim (λ j. absurd j) (λ j. absurd j) i) (in-link-part M _ _ _ h)
     down r (Choice a b c) f h =
         ⊎-elim (down-member (Choice a b c) a b m0 m1)
@@ -252,14 +260,9 @@ module _ (rows : List ℤ) (M : Mark) where
     abbrev pub Some : ℕ → Type 0
     Some r = (d : ℕ) × Within rows r d × Bears (nodeAt rows d)
 
-    -- beneath what row r refers to is beneath row r
-    beneath-first : {r c d : ℕ} (p : Column) → Refers rows r p c → Beneath rows c d → Beneath rows r d
-    beneath-first p f (direct o g) = further o (direct p f) g
-    beneath-first p f (further o w g) = further o (beneath-first p f w) g
-
     within-first : {r c d : ℕ} (p : Column) → Refers rows r p c → Within rows c d → Within rows r d
     within-first {r} p f (inl e) = inr (direct p (subst (Refers rows r p) (sym e) f))
-    within-first p f (inr w) = inr (beneath-first p f w)
+    within-first p f (inr w) = inr (beneath-first rows p f w)
 
     refers-below : (r c : ℕ) (p : Column) → Refers rows r p c → c < rowCount rows
     unfolding Refers

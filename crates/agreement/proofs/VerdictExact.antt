@@ -13,26 +13,26 @@ use Rattle.meaning.specs.Faults.{WellPlaced, Placed}
 use Rattle.meaning.specs.StageClaims.{OneTree}
 use Rattle.meaning.proofs.OneTreeLaw.{one-tree}
 use Rattle.meaning.proofs.AnswerLaws.{check-stages, First, here, later, first-found, found-first, none-found, found-none}
-use Rattle.agreement.specs.VerdictClaims.{Passed, WholeRows, EachFormed, EachPlaced, EachLimited, NoClash, RefusedWith, not-whole, not-formed, not-placed, over-limit, clash, VerdictExact, RefusalLeast, OneTreeOfRows}
-use Rattle.agreement.proofs.VerdictStages.{notWhole, whole-passes, whole-faults, form-passes, form-faults, tree-passes, tree-faults, limit-passes, limit-faults}
+use Rattle.agreement.specs.VerdictClaims.{Passed, WholeRows, EachFormed, EachPlaced, EachLimited, EachBlocked, NoClash, RefusedWith, not-whole, not-formed, not-placed, over-limit, not-blocked, clash, VerdictExact, RefusalLeast, OneTreeOfRows}
+use Rattle.agreement.proofs.VerdictStages.{notWhole, whole-passes, whole-faults, form-passes, form-faults, tree-passes, tree-faults, limit-passes, limit-faults, block-passes, block-faults}
 use Rattle.agreement.proofs.UsageExact.{usage-passes, usage-faults}
 
 module _ (rows : List ℤ) where
-  -- rows right in the first four stages pass them
+  -- rows right in the stages 3 to 6 pass them
   passed : WholeRows rows → EachFormed rows → EachPlaced rows → EachLimited rows → Passed rows
   passed w f t l = (whole-passes rows .1 w, form-passes rows .1 f, tree-passes rows .1 t, limit-passes rows .1 l)
 
   abbrev RightTable : Type 0
-  RightTable = WholeRows rows × EachFormed rows × EachPlaced rows × EachLimited rows × NoClash rows
+  RightTable = WholeRows rows × EachFormed rows × EachPlaced rows × EachLimited rows × EachBlocked rows × NoClash rows
 
   to-right : Each (λ (s : Stage (List ℤ)). s rows ≡ none) (numbersFault ∷ rowStages) → RightTable
-  to-right (each-more a (each-more b (each-more c (each-more d (each-more e each-none))))) =
-      (whole-passes rows .0 a, form-passes rows .0 b, tree-passes rows .0 c, limit-passes rows .0 d, usage-passes rows (a, b, c, d) .0 e)
+  to-right (each-more a (each-more b (each-more c (each-more d (each-more e (each-more f each-none)))))) =
+      (whole-passes rows .0 a, form-passes rows .0 b, tree-passes rows .0 c, limit-passes rows .0 d, block-passes rows .0 e, usage-passes rows (a, b, c, d) .0 f)
 
   from-right : RightTable → Each (λ (s : Stage (List ℤ)). s rows ≡ none) (numbersFault ∷ rowStages)
   from-right h =
       let p = passed (h .0) (h .1) (h .2) (h .3) in
-      each-more (p .0) (each-more (p .1) (each-more (p .2) (each-more (p .3) (each-more (usage-passes rows p .1 (h .4)) each-none))))
+      each-more (p .0) (each-more (p .1) (each-more (p .2) (each-more (p .3) (each-more (block-passes rows .1 (h .4)) (each-more (usage-passes rows p .1 (h .5)) each-none)))))
 
   -- a refusal whose number is known
   numbered : (k : ℕ) (f : Refusal) → f .0 ≡ k → RefusedWith rows k (f .1) → RefusedWith rows (f .0) (f .1)
@@ -47,8 +47,11 @@ module _ (rows : List ℤ) where
       let h = limit-faults rows f .0 e in
       numbered 6 f (h .0) (over-limit (whole-passes rows .0 a) (form-passes rows .0 b) (tree-passes rows .0 c) (h .1))
   to-refused f (later a (later b (later c (later d (here e))))) =
+      let h = block-faults rows f .0 e in
+      numbered 14 f (h .0) (not-blocked (whole-passes rows .0 a) (form-passes rows .0 b) (tree-passes rows .0 c) (limit-passes rows .0 d) (h .1))
+  to-refused f (later a (later b (later c (later d (later k (here e)))))) =
       let h = usage-faults rows (a, b, c, d) (f .0) (f .1) .0 e in
-      clash (whole-passes rows .0 a) (form-passes rows .0 b) (tree-passes rows .0 c) (limit-passes rows .0 d) h
+      clash (whole-passes rows .0 a) (form-passes rows .0 b) (tree-passes rows .0 c) (limit-passes rows .0 d) (block-passes rows .0 k) h
 
   from-refused : {number place : ℕ} → RefusedWith rows number place → First rows (number, place) (numbersFault ∷ rowStages)
   from-refused (not-whole h) = here (whole-faults rows (notWhole rows) .1 (h, refl))
@@ -56,9 +59,12 @@ module _ (rows : List ℤ) where
   from-refused (not-placed {r} w f h) = later (whole-passes rows .1 w) (later (form-passes rows .1 f) (here (tree-faults rows (5, r) .1 (refl, h))))
   from-refused (over-limit {r} w f t h) =
       later (whole-passes rows .1 w) (later (form-passes rows .1 f) (later (tree-passes rows .1 t) (here (limit-faults rows (6, r) .1 (refl, h)))))
-  from-refused (clash {r} {number} w f t l h) =
+  from-refused (not-blocked {r} w f t l h) =
       let p = passed w f t l in
-      later (p .0) (later (p .1) (later (p .2) (later (p .3) (here (usage-faults rows p number r .1 h)))))
+      later (p .0) (later (p .1) (later (p .2) (later (p .3) (here (block-faults rows (14, r) .1 (refl, h))))))
+  from-refused (clash {r} {number} w f t l k h) =
+      let p = passed w f t l in
+      later (p .0) (later (p .1) (later (p .2) (later (p .3) (later (block-passes rows .1 k) (here (usage-faults rows p number r .1 h))))))
 
 pub verdict-exact : VerdictExact
 verdict-exact rows = (

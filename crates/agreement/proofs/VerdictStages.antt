@@ -1,4 +1,4 @@
--- Each stage before usage finds nothing exactly if all places are right, and else the lowest place that is not.
+-- Each stage on rows before usage finds nothing exactly if all places are right, and else the lowest place that is not.
 use mathlib.Core.Path.{_≡_, refl, sym, ap, _∙_, subst}
 use mathlib.Core.Logic.{_↔_}
 use mathlib.Core.Bool.{Bool, _&&_}
@@ -14,15 +14,16 @@ use Rattle.meaning.specs.Refusals.{Refusal}
 use Rattle.meaning.specs.Rows.{rowCount}
 use Rattle.meaning.specs.TableBytes.{numbersFault}
 use Rattle.meaning.specs.Declarations.{declarations}
-use Rattle.meaning.specs.Verdict.{formFault, treeFault, limitFault}
-use Rattle.meaning.specs.Faults.{WellFormed, WellPlaced, WithinLimits}
-use Rattle.meaning.specs.StageClaims.{Finds, FormStage, TreeStage, LimitStage}
+use Rattle.meaning.specs.Verdict.{formFault, treeFault, limitFault, blockFault}
+use Rattle.meaning.specs.Faults.{WellFormed, WellPlaced, WithinLimits, WellBlocked}
+use Rattle.meaning.specs.StageClaims.{Finds, FormStage, TreeStage, LimitStage, BlockStage}
 use Rattle.meaning.proofs.Decides.{Decides, holding, failing, decides-and, decides-eq, decides-le}
 use Rattle.meaning.proofs.FaultLaws.{form-stage, limit-stage}
 use Rattle.meaning.proofs.TreeLaws.{tree-stage}
-use Rattle.meaning.proofs.StageLaws.{form-none, tree-none, limit-none}
+use Rattle.meaning.proofs.BlockLaws.{block-stage}
+use Rattle.meaning.proofs.StageLaws.{form-none, tree-none, limit-none, block-none}
 use Rattle.meaning.proofs.LowestLaws.{lowest-one}
-use Rattle.agreement.specs.VerdictClaims.{WholeRows, EachFormed, EachPlaced, EachLimited, LowestWrong}
+use Rattle.agreement.specs.VerdictClaims.{WholeRows, EachFormed, EachPlaced, EachLimited, EachBlocked, LowestWrong}
 
 -- a stage that finds a fault: its number, and the lowest place that is not right
 finds-some : (number : ℕ) (Right : ℕ → Type 0) (n : ℕ) (found : Option Refusal) → Finds number Right n found → (f : Refusal) → (found ≡ some f) ↔ ((f .0 ≡ number) × LowestWrong Right n (f .1))
@@ -79,3 +80,10 @@ module _ (rows : List ℤ) where
   pub limit-faults : (f : Refusal) → (limitFault rows ≡ some f) ↔ ((f .0 ≡ 6) × LowestWrong (WithinLimits rows) (declarations rows) (f .1))
   unfolding LimitStage
   limit-faults = finds-some 6 (WithinLimits rows) (declarations rows) (limitFault rows) (limit-stage rows)
+
+  pub block-passes : (blockFault rows ≡ none) ↔ EachBlocked rows
+  block-passes = block-none rows
+
+  pub block-faults : (f : Refusal) → (blockFault rows ≡ some f) ↔ ((f .0 ≡ 14) × LowestWrong (WellBlocked rows) (rowCount rows) (f .1))
+  unfolding BlockStage
+  block-faults = finds-some 14 (WellBlocked rows) (rowCount rows) (blockFault rows) (block-stage rows)

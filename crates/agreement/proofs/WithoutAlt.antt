@@ -11,7 +11,7 @@ use lib.IntN.{ℤ}
 use lib.ListN.{List·getD-map}
 use lib.Dec.{ltb, eqb, T, eqb→eq}
 use Rattle.meaning.specs.declared.Node.{Node}
-use Rattle.meaning.specs.declared.Node.the-variants.{Literal, Element, Monadic, Dyadic, Stop, Skip, Assignment, Input, Output, Seq, Par, If, While, Alt, Member, Choice, OptionRow, Guard, Other}
+use Rattle.meaning.specs.declared.Node.the-variants.{Literal, Element, Monadic, Dyadic, Stop, Skip, Assignment, Input, Output, Seq, Par, If, While, Alt, Block, Member, Choice, OptionRow, Guard, Other}
 use Rattle.meaning.specs.Basics.{ifElse}
 use Rattle.meaning.specs.Rows.{rowCount, kindAt}
 use Rattle.meaning.specs.Nodes.{nodeAt}
@@ -98,6 +98,7 @@ NotAlt (Par a) = Unit {0}
 NotAlt (If a) = Unit {0}
 NotAlt (While a b) = Unit {0}
 NotAlt (Alt a) = ⊥
+NotAlt (Block a b) = Unit {0}
 NotAlt (Member a b) = Unit {0}
 NotAlt (Choice a b c) = Unit {0}
 NotAlt (OptionRow a b c) = Unit {0}
@@ -116,7 +117,7 @@ module _ (rows : List ℤ) where
       either (eqb k 10) _ _ (λ e. tt) (either (eqb k 11) _ _ (λ e. tt) (either (eqb k 12) _ _ (λ e. tt) (either (eqb k 13) _ _ (λ e. tt) (either (eqb k 20) _ _ (λ e. tt)
       (either (eqb k 21) _ _ (λ e. tt) (either (eqb k 22) _ _ (λ e. tt) (either (eqb k 23) _ _ (λ e. tt) (either (eqb k 24) _ _ (λ e. tt) (either (eqb k 30) _ _ (λ e. tt)
       (either (eqb k 31) _ _ (λ e. tt) (either (eqb k 32) _ _ (λ e. tt) (either (eqb k 33) _ _ (λ e. tt) (either (eqb k 34) _ _ (λ e. ne (eqb→eq k 34 (subst (λ (t : Bool). T t) (sym e) tt)))
-      (either (eqb k 40) _ _ (λ e. tt) (either (eqb k 41) _ _ (λ e. tt) (either (eqb k 42) _ _ (λ e. tt) (either (eqb k 43) _ _ (λ e. tt) tt)))))))))))))))))
+      (either (eqb k 35) _ _ (λ e. tt) (either (eqb k 40) _ _ (λ e. tt) (either (eqb k 41) _ _ (λ e. tt) (either (eqb k 42) _ _ (λ e. tt) (either (eqb k 43) _ _ (λ e. tt) tt))))))))))))))))))
 
   abbrev Bare : Content → Type 0
   Bare p = (j : ℕ) → Out j (optionRows (actionOf (orStop (p .process))))
@@ -136,6 +137,7 @@ module _ (rows : List ℤ) where
   bare r at (If a) h j m = List·Memᴰ·not-nil m
   bare r at (While a b) h j m = List·Memᴰ·not-nil m
   bare r at (Alt a) h j m = h
+  bare r at (Block a b) h j m = List·Memᴰ·not-nil m
   bare r at (Member a b) h j m = List·Memᴰ·not-nil m
   bare r at (Choice a b c) h j m = List·Memᴰ·not-nil m
   bare r at (OptionRow a b c) h j m = List·Memᴰ·not-nil m

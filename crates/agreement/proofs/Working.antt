@@ -9,7 +9,7 @@ use native.Mathlib.Decide.{ℕ-discrete}
 use lib.ListN.{length, getD}
 use lib.Dec.{eqb, T, eqb→eq}
 use Rattle.meaning.specs.Basics.{ifElse}
-use Rattle.meaning.specs.Tree.{Action, stop, skip, sequence, parallel, assign, input, output, conditional, loop, alternation, Process, node, Processes, empty, also, actionOf, processesIn, rowsIn, rowsBeneath}
+use Rattle.meaning.specs.Tree.{Action, stop, skip, sequence, parallel, assign, input, output, conditional, loop, alternation, block, Process, node, Processes, empty, also, actionOf, processesIn, rowsIn, rowsBeneath}
 use Rattle.meaning.specs.Settle.{byStep, mode}
 use Rattle.meaning.specs.State.{State, Program, processAt, whole}
 use Rattle.meaning.specs.Readings.{Sheet}
@@ -29,7 +29,7 @@ mutual
   sub-at (node k q ms) r (List·Memᴰ·head e) = (k, (ms, rw e self))
   sub-at (node k q ms) r (List·Memᴰ·tail m) = let (j, (ns, h)) = subM-at ms r m in (j, (ns, inside h))
 
-  subM-at : (ps : Processes) (r : ℕ) → List·Memᴰ r (rowsBeneath ps) → (k : Action) × ((ms : Processes) × SubM k r ms ps)
+  pub subM-at : (ps : Processes) (r : ℕ) → List·Memᴰ r (rowsBeneath ps) → (k : Action) × ((ms : Processes) × SubM k r ms ps)
   subM-at empty r m = absurd (List·Memᴰ·not-nil m)
   subM-at (also p ps) r m =
       ⊎-elim (λ (h : List·Memᴰ r (rowsIn p)). let (k, (ms, q)) = sub-at p r h in (k, (ms, front q)))
@@ -81,6 +81,7 @@ acts-by-step sheet (output c a b) s r e = refl
 acts-by-step sheet (conditional ts) s r e = refl
 acts-by-step sheet (loop a b) s r e = refl
 acts-by-step sheet (alternation bs) s r e = refl
+acts-by-step sheet (block v) s r e = absurd (omega arith)
 
 eqb-is : (m n : ℕ) → eqb m n ≡ true → m ≡ n
 eqb-is m n e = eqb→eq m n (subst (λ (t : Bool). T t) (sym e) tt)

@@ -5,7 +5,7 @@ use mathlib.Core.Option.{Option, none, some}
 use mathlib.Core.List.{List, [], _∷_, _++_, List·Memᴰ, Memᴰ·append-left, Memᴰ·append-right, Memᴰ·cast, List·Memᴰ·append-cases, List·Memᴰ·not-nil}
 use Prim.Native.Nat.{ℕ}
 use lib.Seq.{set-comm, getD-set-other}
-use Rattle.meaning.specs.Tree.{ChannelInput, AltOption, Action, stop, skip, sequence, parallel, assign, input, output, conditional, loop, alternation}
+use Rattle.meaning.specs.Tree.{ChannelInput, AltOption, Action, stop, skip, sequence, parallel, assign, input, output, conditional, loop, alternation, block}
 use Rattle.meaning.specs.State.{Store, Write, writeCell, writePlace, writeOutput, write, writeAll}
 use Rattle.meaning.specs.Usage.{standsIn, standsInGuards, changesBy, usesBy, ofGuard, ofGuards, changes, uses}
 use Rattle.meaning.specs.Values.{Message}
@@ -25,7 +25,7 @@ guards-used (b ∷ l) a h =
     ⊎-elim (λ (m : List·Memᴰ a (ofGuard changesBy (b .guard .input))). Memᴰ·append-left (ofGuards usesBy l) (guard-used (b .guard .input) a m))
     (λ (m : List·Memᴰ a (ofGuards changesBy l)). Memᴰ·append-right (ofGuard usesBy (b .guard .input)) (guards-used l a m)) (List·Memᴰ·append-cases (ofGuard changesBy (b .guard .input)) h)
 
-changed-used : (k : Action) (a : ℕ) → List·Memᴰ a (changes k) → List·Memᴰ a (uses k)
+pub changed-used : (k : Action) (a : ℕ) → List·Memᴰ a (changes k) → List·Memᴰ a (uses k)
 changed-used stop a h = h
 changed-used skip a h = h
 changed-used sequence a h = h
@@ -36,6 +36,7 @@ changed-used (output c e f) a h = absurd (List·Memᴰ·not-nil h)
 changed-used (conditional ts) a h = absurd (List·Memᴰ·not-nil h)
 changed-used (loop e b) a h = absurd (List·Memᴰ·not-nil h)
 changed-used (alternation bs) a h = Memᴰ·append-right (standsInGuards bs) (guards-used bs a h)
+changed-used (block v) a h = h
 
 module _ (source sink : ℕ → ℕ) where
   -- a write of one action leaves what the other looks at

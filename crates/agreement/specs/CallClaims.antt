@@ -23,7 +23,7 @@ use Rattle.meaning.specs.Buffers.{Buffers, tooShort, encode}
 use Rattle.meaning.specs.Answers.{Task, check, reply, replyToBytes, Reply}
 use Rattle.meaning.specs.Order.{OrderOf, RestOf, outcomeOf, ChosenOf}
 use Rattle.agreement.specs.Statements.{StepOf, ReadyTotal}
-use Rattle.agreement.specs.MissingClaims.{listAt, Delivers, GivesHost}
+use Rattle.agreement.specs.MissingClaims.{listAt, Delivers, WritesHost}
 
 -- Each statement is made once of a call, as what it answers and leaves by the buffers lent to it, and then for the two entries: for a task
 -- on rows, and for a table's bytes.
@@ -135,25 +135,25 @@ MissingAnswered = (t : Task) → KeepsMissing (reply t) t
 abbrev pub MissingAnsweredBytes : Type 0
 MissingAnsweredBytes = (table sheet choices : List ℕ) (budget : ℕ) → KeepsMissing (replyToBytes table sheet choices budget) (taskOfBytes table sheet choices budget)
 
--- a message stands in a host output list after an order of steps: one of its steps gave it, when the list held the messages before it
-pub record GivenTo (rows : List ℤ) (sheet : List ℕ) (l : List Label) (p i : ℕ) (m : Message) : Type 0 where
+-- a message stands in a host output list after an order of steps: one of its steps wrote it, when the list held the messages before it
+pub record WrittenToHost (rows : List ℤ) (sheet : List ℕ) (l : List Label) (p i : ℕ) (m : Message) : Type 0 where
   pub before : List Label
   pub label : Label
   pub later : List Label
   pub at : State
   pub parts : l ≡ before ++ (label ∷ later)
   pub order : OrderOf rows (readings rows sheet) before at
-  pub given : GivesHost (program rows) (readings rows sheet) at label p m
+  pub written : WritesHost (program rows) (readings rows sheet) at label p m
   pub held : length (listAt at p) ≡ i
 
 -- the same of host outputs: after a run, of a role 2 channel declared at row c, each position of its strip below its count has mark 1 and a number
--- that a step of the order gave to the channel at that place of its list, or mark 0 and number 0, and a step gave the absence there
+-- that a step of the order wrote to the channel at that place of its list, or mark 0 and number 0, and a step wrote the absence there
 abbrev pub HandedLists : Task → Buffers → Reply → Outcome → ℕ → ℕ → Type 0
 HandedLists t b r outcome steps total = (run : RanAs t b r outcome steps total) × ((c : ℕ) → hasRole 2 (t .rows) c ≡ true
     → let p = sumBelow (hostChannelsAt 2 (t .rows)) c in (i : ℕ) → i < getD (r .buffers .counts) p 0
     → let m = getD (r .buffers .outputMarks) (sumBelow (capacityAt (t .rows)) c + i) 0 in
     let z = getD (r .buffers .numbers) (sumBelow (capacityAt (t .rows)) c + i) (pos 0) in
-    (m ≢ 0 → (m ≡ 1) × GivenTo (t .rows) (t .sheet) (run .labels) p i (some z)) × (m ≡ 0 → (z ≡ pos 0) × GivenTo (t .rows) (t .sheet) (run .labels) p i none))
+    (m ≢ 0 → (m ≡ 1) × WrittenToHost (t .rows) (t .sheet) (run .labels) p i (some z)) × (m ≡ 0 → (z ≡ pos 0) × WrittenToHost (t .rows) (t .sheet) (run .labels) p i none))
 
 abbrev pub KeepsAbsences : (Buffers → Reply) → Task → Type 0
 KeepsAbsences call t = (b : Buffers) (outcome : Outcome) (steps total : ℕ) → call b .answer ≡ Ran outcome steps total → HandedLists t b (call b) outcome steps total

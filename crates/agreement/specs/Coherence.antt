@@ -7,8 +7,8 @@ use Prim.Native.Nat.{ℕ, _+_, _≤_}
 use lib.IntN.{ℤ}
 use lib.ListN.{length, getD}
 use Rattle.meaning.specs.Rows.{rowCount}
-use Rattle.meaning.specs.Declarations.{sinkAt}
-use Rattle.meaning.specs.Tree.{Expr, IfChoice, AltOption, Action, sequence, parallel, conditional, loop, alternation, Process, node, Processes, also, rowsIn, rowsBeneath}
+use Rattle.meaning.specs.Declarations.{Variable, sinkAt}
+use Rattle.meaning.specs.Tree.{Expr, IfChoice, AltOption, Action, sequence, parallel, conditional, loop, alternation, block, Process, node, Processes, also, rowsIn, rowsBeneath}
 use Rattle.meaning.specs.SettlingRules.{Among, All, Inside}
 use Rattle.meaning.specs.State.{State, stateOf, anyOf, program, whole}
 use Rattle.meaning.specs.Labels.{Label}
@@ -55,6 +55,8 @@ module _ (s : List ℕ) where
     -- a SEQ, and one that has ended
     pub in-sequence : (r : ℕ) (ms : Processes) → Inside whole (node sequence r ms) → OneByOne ms
     pub ended-sequence : (r : ℕ) (ms : Processes) → Inside whole (node sequence r ms) → getD s r 0 ≡ 2 → All 2 s ms
+    -- a block that has ended
+    pub ended-block : (v : Variable) (r : ℕ) (ms : Processes) → Inside whole (node (block v) r ms) → getD s r 0 ≡ 2 → All 2 s ms
     -- a PAR that has ended
     pub ended-parallel : (r : ℕ) (ms : Processes) → Inside whole (node parallel r ms) → getD s r 0 ≡ 2 → All 2 s ms
     -- an IF, an ALT, a WHILE, and a WHILE that has ended

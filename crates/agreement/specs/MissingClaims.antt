@@ -12,9 +12,12 @@ use Rattle.meaning.specs.declared.Value.the-variants.{Number, Missing}
 use Rattle.meaning.specs.declared.Index.the-variants.{At, Fails}
 use Rattle.meaning.specs.Limits.{maxCells}
 use Rattle.meaning.specs.Declarations.{Variable, Channel, sumBelow, cellsAt, hostChannelsAt, capacityAt, variables, channels}
-use Rattle.meaning.specs.Tree.{Expr, element, monadic, given, dyadic, ChannelInput, IfChoice, AltOption, Action, assign, input, output, conditional, loop, alternation}
+use Rattle.meaning.specs.Tree.{Expr, element, monadic, given, dyadic, ChannelInput, IfChoice, AltOption, Action, assign, input, output, conditional, loop, alternation, block, node, Processes}
 use Rattle.meaning.specs.Values.{Message, decides, value, index}
-use Rattle.meaning.specs.State.{State, Program, program, Effect}
+use Rattle.meaning.specs.State.{State, Program, program, whole, Effect, changed}
+use Rattle.meaning.specs.Usage.{cellsOfVariable}
+use Rattle.meaning.specs.Settle.{begun, settled}
+use Rattle.meaning.specs.SettlingRules.{Inside}
 use Rattle.meaning.specs.Labels.{Label, own, pass, takeOption, takeWithOutput}
 use Rattle.meaning.specs.Readings.{Sheet}
 use Rattle.meaning.specs.Intent.{intent}
@@ -65,35 +68,67 @@ module _ (P : Program) (sheet : Sheet) (s : State) where
         → Holds (s .store .cells) (b .guard .boolean) → b .guard .input ≡ some i → InnerInput (s .store) i d a → InnerOutput (s .store) c e f d none
         → TakesAbsent (takeWithOutput r (b .row) o) a
 
-  -- the step of a label gives a message to a host output channel, at the end of its list
-  pub data GivesHost : Label → ℕ → Message → Type 0 where
+  -- the step of a label writes a message to a host output channel, at the end of its list
+  pub data WritesHost : Label → ℕ → Message → Type 0 where
     by-host-write : {r d : ℕ} {c : Channel} {e f : Expr} {m : Message} → Live P s r (output c e f) → c .host ≡ true
         → index (s .store .cells) (c .first) (c .size) e ≡ At d → Passes (s .store .cells) f m
-        → length (getD (s .store .outputs) (c .number) []) < c .capacity → GivesHost (own r) (c .number) m
+        → length (getD (s .store .outputs) (c .number) []) < c .capacity → WritesHost (own r) (c .number) m
+
+-- cell a is one of a variable that has a block in the whole process
+pub data LocalCell (P : Program) (a : ℕ) : Type 0 where
+  local-cell : {v : Variable} {r : ℕ} {ms : Processes} → Inside (whole P) (node (block v) r ms) → List·Memᴰ a (cellsOfVariable v) → LocalCell P a
+
+-- a block of cell a starts between two states, and is running in the second, where the cell is unset
+pub data BlockStarts (P : Program) (s t : State) (a : ℕ) : Type 0 where
+  block-started : {v : Variable} {r : ℕ} {ms : Processes} → Inside (whole P) (node (block v) r ms) → List·Memᴰ a (cellsOfVariable v)
+      → getD (s .states) r 0 ≡ 0 → getD (t .states) r 0 ≡ 1 → cellAt t a ≡ none → BlockStarts P s t a
 
 -- the effect of a stop of row r for a reason
 abbrev pub stopEffect : ℕ → ℕ → Effect
 stopEffect r reason = effect (becomes r r (10 + reason) ∷ []) []
 
--- a step leaves every cell as it was, but for one to which it hands a message: that cell holds the message
+-- a step leaves every cell as it was, but for one to which it hands a message, and which holds the message, and for cells of blocks, which it may unset
 abbrev pub SetOnly : Type 0
 SetOnly = (P : Program) (sheet : Sheet) (s : State) (x : Label) (t : State) → Step P sheet s x t → (a : ℕ)
-    → (cellAt t a ≡ cellAt s a) ⊎ ((m : Message) × Delivers P sheet s x a m × (cellAt t a ≡ m))
+    → (cellAt t a ≡ cellAt s a) ⊎ ((m : Message) × Delivers P sheet s x a m × (cellAt t a ≡ m)) ⊎ (LocalCell P a × (cellAt t a ≡ none))
+
+-- of an accepted table it unsets a cell of a block only where that block starts
+abbrev pub OnlyStartUnsets : Type 0
+OnlyStartUnsets = (rows : List ℤ) → check rows ≡ none → (sheet : Sheet) (s : State) → Reached rows sheet s → (x : Label) (t : State) → Step (program rows) sheet s x t → (a : ℕ)
+    → (cellAt t a ≡ cellAt s a) ⊎ ((m : Message) × Delivers (program rows) sheet s x a m × (cellAt t a ≡ m)) ⊎ BlockStarts (program rows) s t a
+
+-- "Starting it unsets all cells of the variable": a block that is idle before a step and not after it
+abbrev pub StartUnsets : Type 0
+StartUnsets = (rows : List ℤ) → check rows ≡ none → (sheet : Sheet) (s : State) → Reached rows sheet s → (x : Label) (t : State) → Step (program rows) sheet s x t
+    → (v : Variable) (r : ℕ) (ms : Processes) → Inside (whole (program rows)) (node (block v) r ms) → getD (s .states) r 0 ≡ 0 → getD (t .states) r 0 ≢ 0
+    → (a : ℕ) → List·Memᴰ a (cellsOfVariable v) → cellAt t a ≡ none
+
+-- a block that starts in the settling of a step and is not running after it, so has ended, or has been made idle again: nothing shows, its cells were unset before
+abbrev pub StartAndEndShowsNothing : Type 0
+StartAndEndShowsNothing = (rows : List ℤ) → check rows ≡ none → (sheet : Sheet) (s : State) → Reached rows sheet s → let P = program rows in
+    (x : Label) (e : Effect) → Allows P sheet s x e → (v : Variable) (r : ℕ) (ms : Processes) → Inside (whole P) (node (block v) r ms)
+    → List·Memᴰ v (begun (whole P) false (changed e s .states)) → getD (settled P e s .states) r 0 ≢ 1
+    → (a : ℕ) → List·Memᴰ a (cellsOfVariable v) → (cellAt s a ≡ none) × (cellAt (settled P e s) a ≡ none)
 
 -- a cell that holds a number after a step held it before, or the step assigned or input that number
 abbrev pub SetByNumber : Type 0
 SetByNumber = (P : Program) (sheet : Sheet) (s : State) (x : Label) (t : State) → Step P sheet s x t → (a : ℕ) (z : ℤ)
     → cellAt t a ≡ some z → (cellAt s a ≡ some z) ⊎ Delivers P sheet s x a (some z)
 
--- a cell that is unset after a step was unset before, or the step took an absent reading or a passed absence for it
+-- a cell that is unset after a step was unset before, or the step took an absent reading or a passed absence for it, or it is a cell of a block
 abbrev pub OnlyAbsentUnsets : Type 0
 OnlyAbsentUnsets = (P : Program) (sheet : Sheet) (s : State) (x : Label) (t : State) → Step P sheet s x t → (a : ℕ)
-    → cellAt t a ≡ none → (cellAt s a ≡ none) ⊎ TakesAbsent P sheet s x a
+    → cellAt t a ≡ none → (cellAt s a ≡ none) ⊎ TakesAbsent P sheet s x a ⊎ LocalCell P a
 
--- a step that hands a message to a cell leaves that message in it
+-- of an accepted table: or its block starts
+abbrev pub OnlyTheseUnset : Type 0
+OnlyTheseUnset = (rows : List ℤ) → check rows ≡ none → (sheet : Sheet) (s : State) → Reached rows sheet s → (x : Label) (t : State) → Step (program rows) sheet s x t → (a : ℕ)
+    → cellAt t a ≡ none → (cellAt s a ≡ none) ⊎ TakesAbsent (program rows) sheet s x a ⊎ BlockStarts (program rows) s t a
+
+-- a step that hands a message to a cell leaves that message in it; where the cell is one of a block, in an accepted table
 abbrev pub DeliveredHolds : Type 0
 DeliveredHolds = (rows : List ℤ) (sheet : Sheet) (s : State) (x : Label) (t : State) → Step (program rows) sheet s x t → (a : ℕ) (m : Message)
-    → Delivers (program rows) sheet s x a m → a < length (s .store .cells) → cellAt t a ≡ m
+    → Delivers (program rows) sheet s x a m → a < length (s .store .cells) → (LocalCell (program rows) a → (check rows ≡ none) × Reached rows sheet s) → cellAt t a ≡ m
 
 -- "An empty field is an absent reading: the input takes place and makes its target unset"; of an absence passed on, "The receiver's target becomes unset"
 abbrev pub AbsentUnsets : Type 0
@@ -102,10 +137,10 @@ AbsentUnsets = (rows : List ℤ) (sheet : Sheet) (s : State) (x : Label) (a : �
     × (check rows ≡ none → Reached rows sheet s → (t : State) × Step (program rows) sheet s x t)
     × ((t : State) → Step (program rows) sheet s x t → cellAt t a ≡ none)
 
--- a step leaves every host output list as it was, but for one to which it gives a message: that list has the message at its end
-abbrev pub GivenOnly : Type 0
-GivenOnly = (P : Program) (sheet : Sheet) (s : State) (x : Label) (t : State) → Step P sheet s x t → (p : ℕ)
-    → (listAt t p ≡ listAt s p) ⊎ ((m : Message) × GivesHost P sheet s x p m × (listAt t p ≡ listAt s p ++ (m ∷ [])))
+-- a step leaves every host output list as it was, but for one to which it writes a message: that list has the message at its end
+abbrev pub WrittenOnly : Type 0
+WrittenOnly = (P : Program) (sheet : Sheet) (s : State) (x : Label) (t : State) → Step P sheet s x t → (p : ℕ)
+    → (listAt t p ≡ listAt s p) ⊎ ((m : Message) × WritesHost P sheet s x p m × (listAt t p ≡ listAt s p ++ (m ∷ [])))
 
 -- an output of an element that is unset inside its array, where its channel's subscript has a value: it never stops; every step of it hands the absence to
 -- a cell, which is unset after the step, or to the end of its channel's list; at a host channel with room it has a step, and at a full one none
@@ -114,7 +149,7 @@ pub record PassesOn (rows : List ℤ) (sheet : Sheet) (s : State) (r : ℕ) (c :
   pub to-cell : c .host ≡ false → (x : Label) (t : State) → Step (program rows) sheet s x t → RowOf x r
       → (a : ℕ) × TakesAbsent (program rows) sheet s x a × (cellAt t a ≡ none)
   pub to-host : c .host ≡ true → (x : Label) (t : State) → Step (program rows) sheet s x t → RowOf x r
-      → GivesHost (program rows) sheet s x (c .number) none
+      → WritesHost (program rows) sheet s x (c .number) none
   pub writes-with-room : c .host ≡ true → length (listAt s (c .number)) < c .capacity
       → ((e : Effect) × Allows (program rows) sheet s (own r) e) × (check rows ≡ none → Reached rows sheet s → (t : State) × Step (program rows) sheet s (own r) t)
   pub waits-when-full : c .host ≡ true → c .capacity ≤ length (listAt s (c .number)) → (x : Label) (t : State) → Step (program rows) sheet s x t → ¬ RowOf x r
@@ -129,11 +164,11 @@ SetInOrder = (rows : List ℤ) (sheet : Sheet) (l : List Label) (s : State) → 
     → (before : List Label) × ((x : Label) × ((later : List Label) × ((u : State)
     × ((l ≡ before ++ (x ∷ later)) × OrderOf rows sheet before u × Delivers (program rows) sheet u x a (some z)))))
 
--- a message of a host output list after an order of steps was given by one of them, when the list held the messages before it
-abbrev pub GivenInOrder : Type 0
-GivenInOrder = (rows : List ℤ) (sheet : Sheet) (l : List Label) (s : State) → OrderOf rows sheet l s → (p i : ℕ) (m : Message) → getElem? (listAt s p) i ≡ some m
+-- a message of a host output list after an order of steps was written by one of them, when the list held the messages before it
+abbrev pub WrittenInOrder : Type 0
+WrittenInOrder = (rows : List ℤ) (sheet : Sheet) (l : List Label) (s : State) → OrderOf rows sheet l s → (p i : ℕ) (m : Message) → getElem? (listAt s p) i ≡ some m
     → (before : List Label) × ((x : Label) × ((later : List Label) × ((u : State)
-    × ((l ≡ before ++ (x ∷ later)) × OrderOf rows sheet before u × GivesHost (program rows) sheet u x p m × (length (listAt u p) ≡ i)))))
+    × ((l ≡ before ++ (x ∷ later)) × OrderOf rows sheet before u × WritesHost (program rows) sheet u x p m × (length (listAt u p) ≡ i)))))
 
 -- the value of an expression needs a cell that is unset: operands are taken left to right, and one that is not looked at is not needed; GIVEN needs its
 -- subscript's value and not its element's

@@ -1,11 +1,12 @@
--- The statements about orders are not empty, as types: accepted tables with two orders to rest, and with none.
+-- The statements about orders are not empty, as types: accepted tables with two orders to rest, with blocks or not, and with none.
 use mathlib.Core.Path.{_≡_}
 use mathlib.Core.Logic.{_≢_}
 use mathlib.Core.Option.{none}
 use mathlib.Core.List.{List}
-use Prim.Native.Nat.{ℕ, _≤_}
+use Prim.Native.Nat.{ℕ, _≤_, _<_}
 use lib.IntN.{ℤ}
 use lib.ListN.{length}
+use Rattle.meaning.specs.Rows.{rowCount, kindAt}
 use Rattle.meaning.specs.State.{State, program}
 use Rattle.meaning.specs.Labels.{Label}
 use Rattle.meaning.specs.Step.{Step}
@@ -32,6 +33,10 @@ pub record TwoOrders : Type 0 where
   pub one : LongOrder rows sheet
   pub two : LongOrder rows sheet
   pub differ : one .labels ≢ two .labels
+
+-- the same of a table with blocks
+abbrev pub TwoOrdersOfBlocks : Type 0
+TwoOrdersOfBlocks = (t : TwoOrders) × ((r : ℕ) × (r < rowCount (t .rows)) × (kindAt (t .rows) r ≡ 35))
 
 -- an accepted table and sheet with orders of every length, after each of which some step is ready
 pub record NeverRests : Type 0 where

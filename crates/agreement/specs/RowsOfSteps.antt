@@ -5,7 +5,7 @@ use mathlib.Core.List.{List, [], _∷_}
 use Prim.Native.Nat.{ℕ}
 use lib.Dec.{eqb}
 use Rattle.meaning.specs.Basics.{ifElse}
-use Rattle.meaning.specs.Tree.{AltOption, Action, stop, skip, sequence, parallel, assign, input, output, conditional, loop, alternation}
+use Rattle.meaning.specs.Tree.{AltOption, Action, stop, skip, sequence, parallel, assign, input, output, conditional, loop, alternation, block}
 use Rattle.meaning.specs.Labels.{Label, own, pass, takeOption, takeWithOutput}
 use Rattle.meaning.specs.Intent.{Offer}
 use Rattle.meaning.specs.Ready.{optionRow}
@@ -40,6 +40,7 @@ optionRows (output c e f) = []
 optionRows (conditional ts) = []
 optionRows (loop e b) = []
 optionRows (alternation bs) = rowsOfOptions bs
+optionRows (block v) = []
 
 -- the first offer of an option
 abbrev pub offerAt : ℕ → List Offer → Option Offer

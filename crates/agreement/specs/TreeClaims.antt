@@ -23,7 +23,7 @@ pub data EachOnce : List ℕ → Type 0 where
   once-more : {x : ℕ} {l : List ℕ} → ¬ List·Memᴰ x l → EachOnce l → EachOnce (x ∷ l)
 
 module _ (rows : List ℤ) where
-  -- "a process one of kind 20 to 34"
+  -- "a process one of kind 20 to 34"; "Kind 35 is a block, a process"
   abbrev pub IsProcess : ℕ → Type 0
   IsProcess r = List·Memᴰ (kindAt rows r) processes
 

@@ -13,12 +13,12 @@ use Rattle.meaning.specs.TableBytes.{numbersFault}
 use Rattle.meaning.specs.Declarations.{declarations}
 use Rattle.meaning.specs.Verdict.{formFault, treeFault, limitFault}
 use Rattle.meaning.specs.References.{Beneath}
-use Rattle.meaning.specs.Faults.{WellFormed, WellPlaced, WithinLimits, Once}
+use Rattle.meaning.specs.Faults.{WellFormed, WellPlaced, WithinLimits, WellBlocked, Once}
 use Rattle.meaning.specs.Clash.{Clash}
 use Rattle.meaning.specs.Usage.{usageFault}
 use Rattle.meaning.specs.Answers.{check}
 
--- the stages before usage find nothing
+-- the stages 3 to 6 find nothing: what usage needs, blocks or not
 abbrev pub Passed : List ℤ → Type 0
 Passed rows = (numbersFault rows ≡ none) × (formFault rows ≡ none) × (treeFault rows ≡ none) × (limitFault rows ≡ none)
 
@@ -40,6 +40,10 @@ module _ (rows : List ℤ) where
   abbrev pub EachLimited : Type 0
   EachLimited = (r : ℕ) → r < declarations rows → WithinLimits rows r
 
+  -- "A name has one block at most, and then stands only beneath it", and no block is the root
+  abbrev pub EachBlocked : Type 0
+  EachBlocked = (r : ℕ) → r < rowCount rows → WellBlocked rows r
+
   abbrev pub NoClash : Type 0
   NoClash = (r k : ℕ) → ¬ Clash rows r k
 
@@ -53,9 +57,10 @@ module _ (rows : List ℤ) where
     not-formed : {r : ℕ} → WholeRows → LowestWrong (WellFormed rows) (rowCount rows) r → RefusedWith 4 r
     not-placed : {r : ℕ} → WholeRows → EachFormed → LowestWrong (WellPlaced rows) (suc (rowCount rows)) r → RefusedWith 5 r
     over-limit : {r : ℕ} → WholeRows → EachFormed → EachPlaced → LowestWrong (WithinLimits rows) (declarations rows) r → RefusedWith 6 r
-    clash : {r number : ℕ} → WholeRows → EachFormed → EachPlaced → EachLimited → LowestClash number r → RefusedWith number r
+    not-blocked : {r : ℕ} → WholeRows → EachFormed → EachPlaced → EachLimited → LowestWrong (WellBlocked rows) (rowCount rows) r → RefusedWith 14 r
+    clash : {r number : ℕ} → WholeRows → EachFormed → EachPlaced → EachLimited → EachBlocked → LowestClash number r → RefusedWith number r
 
--- of a table that the stages before it pass, the usage stage finds nothing exactly if there is no clash, and else the lowest
+-- of a table that the stages 3 to 6 pass, the usage stage finds nothing exactly if there is no clash, and else the lowest
 abbrev pub UsagePasses : Type 0
 UsagePasses = (rows : List ℤ) → Passed rows → (usageFault rows ≡ none) ↔ NoClash rows
 
@@ -67,7 +72,7 @@ UsageExact = UsagePasses × UsageFaults
 
 -- "A table is accepted if these rules refuse nothing in it"
 abbrev pub VerdictExact : Type 0
-VerdictExact = (rows : List ℤ) → (check rows ≡ none) ↔ (WholeRows rows × EachFormed rows × EachPlaced rows × EachLimited rows × NoClash rows)
+VerdictExact = (rows : List ℤ) → (check rows ≡ none) ↔ (WholeRows rows × EachFormed rows × EachPlaced rows × EachLimited rows × EachBlocked rows × NoClash rows)
 
 -- a table is refused with a number and a place exactly if the first stage with a fault gives them
 abbrev pub RefusalLeast : Type 0

@@ -20,8 +20,8 @@ use Rattle.meaning.specs.Declarations.{declarations}
 use Rattle.meaning.specs.Stages.{Limits, limits, Call, onTable, bufferFault, budgetFault, lentStages, rowStages, tableStages, callStages}
 use Rattle.meaning.specs.Answers.{tableFault, check, checkBytes, verdictOf, Result, ran, unless, runOf, resultOf, Task, onRows, onBytes, result, resultOfBytes, replyOf, reply, replyToBytes}
 use Rattle.meaning.specs.PrintedForms.{Each, each-none, each-more}
-use Rattle.meaning.specs.Faults.{WellFormed, WellPlaced, WithinLimits}
-use Rattle.meaning.proofs.StageLaws.{form-none, tree-none, limit-none}
+use Rattle.meaning.specs.Faults.{WellFormed, WellPlaced, WithinLimits, WellBlocked}
+use Rattle.meaning.proofs.StageLaws.{form-none, tree-none, limit-none, block-none}
 
 -- nothing is looked at after the last stage
 pub or-nothing : (o : Option Refusal) → either o none ≡ o
@@ -131,13 +131,14 @@ module _ {A : Type 0} (x : A) where
   found-none (s ∷ ss) (each-more e h) = ap (λ (o : Option Refusal). either o (firstFault ss x)) e ∙ found-none ss h
 
 -- rows that are right: four to each and not too many, every row well formed and well placed, the declarations within the
--- limits, no clash in a PAR
+-- limits, every row right as to blocks, no clash in a PAR
 abbrev pub RightRows : List ℤ → Type 0
 RightRows rows =
     (numbersFault rows ≡ none)
     × ((r : ℕ) → r < rowCount rows → WellFormed rows r)
     × ((r : ℕ) → r < suc (rowCount rows) → WellPlaced rows r)
     × ((r : ℕ) → r < declarations rows → WithinLimits rows r)
+    × ((r : ℕ) → r < rowCount rows → WellBlocked rows r)
     × (usageFault rows ≡ none)
 
 -- "A table is accepted if these rules refuse nothing in it"
@@ -145,10 +146,10 @@ pub accepted : (rows : List ℤ) → (check rows ≡ none) ↔ RightRows rows
 accepted rows = (λ e. to (none-found rows (numbersFault ∷ rowStages) (sym (check-stages rows) ∙ e)), λ h. check-stages rows ∙ found-none rows (numbersFault ∷ rowStages) (from h))
   where
     to : Each (λ (s : Stage (List ℤ)). s rows ≡ none) (numbersFault ∷ rowStages) → RightRows rows
-    to (each-more a (each-more b (each-more c (each-more d (each-more e each-none))))) = (a, form-none rows .0 b, tree-none rows .0 c, limit-none rows .0 d, e)
+    to (each-more a (each-more b (each-more c (each-more d (each-more e (each-more f each-none)))))) = (a, form-none rows .0 b, tree-none rows .0 c, limit-none rows .0 d, block-none rows .0 e, f)
 
     from : RightRows rows → Each (λ (s : Stage (List ℤ)). s rows ≡ none) (numbersFault ∷ rowStages)
-    from h = each-more (h .0) (each-more (form-none rows .1 (h .1)) (each-more (tree-none rows .1 (h .2)) (each-more (limit-none rows .1 (h .3)) (each-more (h .4) each-none))))
+    from h = each-more (h .0) (each-more (form-none rows .1 (h .1)) (each-more (tree-none rows .1 (h .2)) (each-more (limit-none rows .1 (h .3)) (each-more (block-none rows .1 (h .4)) (each-more (h .5) each-none)))))
 
 -- what a verdict says of the refusal
 pub accepted-none : (o : Option Refusal) → Accepted ≡ verdictOf o → o ≡ none

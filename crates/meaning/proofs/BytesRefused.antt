@@ -14,9 +14,9 @@ use Rattle.meaning.specs.Refusals.{Refusal}
 use Rattle.meaning.specs.Lines.{lines}
 use Rattle.meaning.specs.TableBytes.{header, readRow, overlong, malformed, oneTooMany, refusalAt, bytesFault}
 use Rattle.meaning.specs.ByteClaims.{LineIs, LowestLine, IsRowLine, NotAsAbove, MoreRows, FaultyLine, RefusedBytes, by-form, by-rows, BytesExactly}
-use Rattle.meaning.proofs.Decides.{Decides, holding, failing, decides-iff, decides-and, decides-or, decides-not, decides-lt, decides-le, decides-eq}
+use Rattle.meaning.proofs.Decides.{Decides, holding, failing, is-true, is-false, decides-iff, decides-and, decides-or, decides-not, decides-lt, decides-le, decides-eq}
 use Rattle.meaning.proofs.LineIsLaws.{line-at}
-use Rattle.meaning.proofs.LineFaults.{is-true, is-false, none-exactly, some-exactly, line-below, decides-first, decides-further}
+use Rattle.meaning.proofs.LineFaults.{none-exactly, some-exactly, line-below, decides-first, decides-further}
 use Rattle.meaning.proofs.NoFault.{none-mapped}
 use Rattle.meaning.proofs.RowLaws.{row-reads, row-form}
 

@@ -6,7 +6,7 @@ use Rattle.meaning.specs.Numerals.{digitsValue, natural, number, digitsO
 use Rattle.meaning.specs.Declarations.{variables, channels}
 use Rattle.meaning.specs.TableBytes.{readRow, bytesFault, rowsOf, numbersFault}
 use Rattle.meaning.specs.Kinds.{shapes, shapeIn, shapeOf}
-use Rattle.meaning.specs.Verdict.{mayHold, formFault, leads, target, targetsBelow, occurrences, treeFault, limitFault}
+use Rattle.meaning.specs.Verdict.{mayHold, formFault, leads, target, targetsBelow, occurrences, treeFault, limitFault, rowsUnder, blockOf, blockFault}
 use Rattle.meaning.specs.Sheet.{joined, sheetHeader, reading, valuesOf, sheetFault, columns, readings}
 use Rattle.meaning.specs.Buffers.{sized, lent, strips, encode}
 use Rattle.meaning.specs.Refusals.{firstFault}
@@ -18,5 +18,5 @@ use mathlib.Core.List.{flatten}
 
 -- `unfolding computesAnswers` in an example that holds by computation
 unfoldable pub computesAnswers : Unit {0}
-unfolding computes flatten allSome lowestFrom lowest allBelow lines text fields readLine same digitsValue natural number digitsOnto decimal printed variables channels readRow bytesFault rowsOf numbersFault shapes shapeIn shapeOf mayHold formFault leads target targetsBelow occurrences treeFault limitFault joined sheetHeader reading valuesOf sheetFault columns readings sized lent strips encode firstFault budgetFault bufferFault check checkBytes result resultOfBytes reply replyToBytes numbered cellLines outLines stopLines outcomeLine endLines wordBytes lineBytes printedLines tablePart sheetPart runner
+unfolding computes flatten allSome lowestFrom lowest allBelow lines text fields readLine same digitsValue natural number digitsOnto decimal printed variables channels readRow bytesFault rowsOf numbersFault shapes shapeIn shapeOf mayHold formFault leads target targetsBelow occurrences treeFault limitFault rowsUnder blockOf blockFault joined sheetHeader reading valuesOf sheetFault columns readings sized lent strips encode firstFault budgetFault bufferFault check checkBytes result resultOfBytes reply replyToBytes numbered cellLines outLines stopLines outcomeLine endLines wordBytes lineBytes printedLines tablePart sheetPart runner
 computesAnswers = tt

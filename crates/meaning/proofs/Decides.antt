@@ -44,12 +44,14 @@ pub decides-not : {A : Type 0} {t : Bool} → Decides A t → Decides (¬ A) (no
 decides-not (holding a) = failing (λ f. f a)
 decides-not (failing a) = holding a
 
--- where the one statement is looked at only if the other holds
-pub decides-if : {A B : Type 0} {s t : Bool} → Decides A s → Decides B t → Decides (A → B) (not (s && not t))
-decides-if (holding a) (holding b) = holding (λ x. b)
-decides-if (holding a) (failing b) = failing (λ f. b (f a))
-decides-if (failing a) (holding b) = holding (λ x. b)
-decides-if (failing a) (failing b) = holding (λ x. absurd (a x))
+-- a decided statement and its test
+pub is-true : {A : Type 0} {t : Bool} → Decides A t → A → t ≡ true
+is-true (holding a) x = refl
+is-true (failing a) x = absurd (a x)
+
+pub is-false : {A : Type 0} {t : Bool} → Decides A t → ¬ A → t ≡ false
+is-false (holding a) x = absurd (x a)
+is-false (failing a) x = refl
 
 -- numbers
 pub decides-lt : (m n : ℕ) → Decides (m < n) (ltb m n)
@@ -108,6 +110,10 @@ pub faults-not : {A : Type 0} {t : Bool} → Decides A t → Faults A (not t)
 faults-not (holding a) = right a
 faults-not (failing a) = wrong a
 
+pub faults-is : {A : Type 0} {t : Bool} → Decides A t → Faults (¬ A) t
+faults-is (holding a) = wrong (λ f. f a)
+faults-is (failing a) = right a
+
 pub faults-or : {A B : Type 0} {s t : Bool} → Faults A s → Faults B t → Faults (A × B) (s || t)
 faults-or (right a) (right b) = right (a, b)
 faults-or (right a) (wrong b) = wrong (λ p. b (p .1))
@@ -153,3 +159,19 @@ lowest-wrong Right p f n = go (lowest p n) (lowest-is p n)
     go : (o : Option ℕ) → Lowest (λ i. T (p i)) n o → Lowest (λ i. ¬ Right i) n o
     go none h = λ i l. passed (f i) (h i l)
     go (some i) h = (h .0, failed (f i) (h .1), λ j l. passed (f j) (h .2 j l))
+
+-- the lowest number by a test that decides a statement is the lowest of which it holds
+pub lowest-decided : (P : ℕ → Type 0) (p : ℕ → Bool) → ((i : ℕ) → Decides (P i) (p i)) → (n : ℕ) → Lowest P n (lowest p n)
+lowest-decided P p f n = go (lowest p n) (lowest-is p n)
+  where
+    held : {i : ℕ} {t : Bool} → Decides (P i) t → T t → P i
+    held (holding a) h = a
+    held (failing a) h = absurd h
+
+    shown : {i : ℕ} {t : Bool} → Decides (P i) t → P i → T t
+    shown (holding a) h = tt
+    shown (failing a) h = absurd (a h)
+
+    go : (o : Option ℕ) → Lowest (λ i. T (p i)) n o → Lowest P n o
+    go none h = λ i l a. h i l (shown (f i) a)
+    go (some i) h = (h .0, held (f i) (h .1), λ j l a. h .2 j l (shown (f j) a))

@@ -84,6 +84,11 @@ decides-fits rows r (some s) e =
     (Option·some-injective (h .0) s (sym (h .1) ∙ e)) ((h .2, h .3), h .4))
     (decides-and (decides-and (decides-holds rows r (s .a) (fieldAt rows r 1)) (decides-holds rows r (s .b) (fieldAt rows r 2))) (decides-holds rows r (s .c) (fieldAt rows r 3)))
 
+-- a row of a well-formed table: field a holds what its shape says
+pub holds-a : (rows : List ℤ) (r : ℕ) (s : Shape) → WellFormed rows r → IsOf rows r s → MayHold rows r (s .a) (fieldAt rows r 1)
+unfolding WellFormed
+holds-a rows r s w h = let f = w .1 in subst (λ (u : Shape). MayHold rows r (u .a) (fieldAt rows r 1)) (Option·some-injective (f .0) s (sym (f .1) ∙ h)) (f .2)
+
 pub well-formed : (rows : List ℤ) (r : ℕ) → Faults (WellFormed rows r) (formFaultAt rows (declarations rows) r)
 unfolding WellFormed
 well-formed rows r =

@@ -1,6 +1,7 @@
 pub mod AnswerExamples
 pub mod TraceExamples
 pub mod AnswerLaws
+pub mod BlockLaws
 pub mod Computes
 pub mod ComputesAnswers
 pub mod Counting
@@ -35,3 +36,4 @@ pub mod LineFaults
 pub mod BytesRefused
 pub mod SheetRefused
 pub mod NumeralRules
+pub mod UnsetLaws

@@ -17,15 +17,6 @@ use Rattle.meaning.proofs.LineIsLaws.{line-at, line-found}
 use Rattle.meaning.proofs.LowestLaws.{lowest-is}
 use Rattle.meaning.proofs.NoFault.{same-refl, same-is}
 
--- a decided statement and its test
-pub is-true : {A : Type 0} {t : Bool} → Decides A t → A → t ≡ true
-is-true (holding a) x = refl
-is-true (failing a) x = absurd (a x)
-
-pub is-false : {A : Type 0} {t : Bool} → Decides A t → ¬ A → t ≡ false
-is-false (holding a) x = absurd (x a)
-is-false (failing a) x = refl
-
 -- The lowest ------------------------------------------------------------------------------------------------------------------------
 
 module _ (F : ℕ → Type 0) (p : ℕ → Bool) (n : ℕ) (d : (i : ℕ) → Decides (F i) (p i)) (bound : (i : ℕ) → F i → i < n) where

@@ -60,3 +60,10 @@ and-none false t e = refl
 pub or-none : (s t : Bool) → s ≡ false → t ≡ false → (s || t) ≡ false
 or-none true t e f = e
 or-none false t e f = f
+
+-- two and two in turn
+pub or-turn : (a b c d : Bool) → ((a || b) || (c || d)) ≡ ((a || c) || (b || d))
+or-turn true b c d = refl
+or-turn false true true d = refl
+or-turn false true false d = refl
+or-turn false false c d = refl

@@ -1,4 +1,4 @@
--- The stages 4, 5 and 6 find nothing exactly if every place is right.
+-- The stages 4, 5, 6 and 14 find nothing exactly if every place is right.
 use mathlib.Core.Path.{_≡_, sym, _∙_}
 use mathlib.Core.Logic.{_⊎_, inl, inr, _↔_}
 use mathlib.Core.Bool.{Bool}
@@ -10,12 +10,13 @@ use Rattle.meaning.specs.Basics.{Lowest}
 use Rattle.meaning.specs.Refusals.{Refusal}
 use Rattle.meaning.specs.Rows.{rowCount}
 use Rattle.meaning.specs.Declarations.{declarations}
-use Rattle.meaning.specs.Verdict.{formFault, treeFault, limitFault}
-use Rattle.meaning.specs.Faults.{WellFormed, WellPlaced, WithinLimits}
-use Rattle.meaning.specs.StageClaims.{Finds, FormStage, TreeStage, LimitStage, PlacesDecided}
+use Rattle.meaning.specs.Verdict.{formFault, treeFault, limitFault, blockFault}
+use Rattle.meaning.specs.Faults.{WellFormed, WellPlaced, WithinLimits, WellBlocked}
+use Rattle.meaning.specs.StageClaims.{Finds, FormStage, TreeStage, LimitStage, BlockStage, PlacesDecided}
 use Rattle.meaning.proofs.Decides.{Faults, right, wrong, not-wrong}
 use Rattle.meaning.proofs.FaultLaws.{well-formed, form-stage, within-limits, limit-stage}
 use Rattle.meaning.proofs.TreeLaws.{well-placed, tree-stage}
+use Rattle.meaning.proofs.BlockLaws.{well-blocked, block-stage}
 
 -- a stage that finds nothing: all places are right
 finds-none : (number : ℕ) (Right : ℕ → Type 0) → ((i : ℕ) → ¬ (¬ Right i) → Right i) → (n : ℕ) (found : Option Refusal) → Finds number Right n found → (found ≡ none) ↔ ((i : ℕ) → i < n → Right i)
@@ -38,9 +39,13 @@ module _ (rows : List ℤ) where
   unfolding LimitStage
   limit-none = finds-none 6 (WithinLimits rows) (λ r. not-wrong (within-limits rows r)) (declarations rows) (limitFault rows) (limit-stage rows)
 
+  pub block-none : (blockFault rows ≡ none) ↔ ((r : ℕ) → r < rowCount rows → WellBlocked rows r)
+  unfolding BlockStage
+  block-none = finds-none 14 (WellBlocked rows) (λ r. not-wrong (well-blocked rows r)) (rowCount rows) (blockFault rows) (block-stage rows)
+
 pub places-decided : PlacesDecided
 unfolding PlacesDecided
-places-decided rows r = (either (well-formed rows r), either (well-placed rows r), either (within-limits rows r))
+places-decided rows r = (either (well-formed rows r), either (well-placed rows r), either (within-limits rows r), either (well-blocked rows r))
   where
     either : {A : Type 0} {t : Bool} → Faults A t → A ⊎ (¬ A)
     either (right a) = inl a

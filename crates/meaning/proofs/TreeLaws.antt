@@ -8,7 +8,7 @@ use lib.IntN.{ℤ, pos, negsuc, pos-ne-negsuc}
 use lib.Dec.{eqb}
 use Rattle.meaning.specs.Rows.{rowCount, fieldAt, kindAt}
 use Rattle.meaning.specs.Basics.{ifElse, lowest}
-use Rattle.meaning.proofs.Decides.{Decides, holding, failing, decides-iff, decides-and, decides-or, decides-lt, decides-le, decides-eq, decides-eqZ, pos-injective, Faults, right, wrong, faults-not, faults-or, faults-if, faults-iff, lowest-wrong}
+use Rattle.meaning.proofs.Decides.{Decides, holding, failing, decides-iff, decides-and, decides-or, decides-lt, decides-le, decides-eq, decides-eqZ, pos-injective, Faults, faults-not, faults-is, faults-or, faults-if, faults-iff, lowest-wrong}
 use Rattle.meaning.specs.Kinds.{Field, unused, literalValue, within, elements, capacity, operator, variable, channel, reference, link, Shape, shapeOf, processes}
 use Rattle.meaning.specs.Declarations.{declarations}
 use Rattle.meaning.specs.Verdict.{refers, leads, targetsBelow, occurrences, leadsBy, notReferredOnce, rowFaultAt, treeFaultAt, treeFault}
@@ -86,12 +86,8 @@ pub well-placed : (rows : List ℤ) (r : ℕ) → Faults (WellPlaced rows r) (tr
 unfolding WellPlaced
 well-placed rows r =
     faults-or
-    (faults-if (decides-eq r (rowCount rows)) (isn't (decides-eq (declarations rows) r)))
+    (faults-if (decides-eq r (rowCount rows)) (faults-is (decides-eq (declarations rows) r)))
     (faults-if (decides-and (decides-le (declarations rows) r) (decides-lt r (rowCount rows))) (placed rows r))
-  where
-    isn't : {b : Bool} {A : Type 0} → Decides A b → Faults (¬ A) b
-    isn't (holding a) = wrong (λ f. f a)
-    isn't (failing a) = right a
 
 pub tree-stage : TreeStage
 unfolding TreeStage treeFault

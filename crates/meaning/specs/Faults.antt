@@ -1,4 +1,4 @@
--- Refusals 4, 5 and 6 as statements: what it is for a row to be right, with no test and no order of looking.
+-- Refusals 4, 5, 6 and 14 as statements: what it is for a row to be right, with no test and no order of looking.
 use mathlib.Core.Path.{_≡_}
 use mathlib.Core.Logic.{_⊎_}
 use mathlib.Core.List.{List, List·Memᴰ}
@@ -9,7 +9,7 @@ use Rattle.meaning.specs.Limits.{maxCells, maxElements, maxHostChannels,
 use Rattle.meaning.specs.Rows.{rowCount, fieldAt, naturalAt, kindAt}
 use Rattle.meaning.specs.Declarations.{declarations, sumBelow, cellsAt, elementsAt, hostChannelsAt, capacityAt}
 use Rattle.meaning.specs.Kinds.{Field, unused, literalValue, within, elements, capacity, operator, variable, channel, reference, link, Shape, processes}
-use Rattle.meaning.specs.References.{Column, fieldOf, numberOf, IsOf, IsTarget, Refers}
+use Rattle.meaning.specs.References.{Column, fieldOf, numberOf, IsOf, IsTarget, Refers, Beneath}
 
 module _ (rows : List ℤ) where
   -- z is the row of a declaration of kind k, r
@@ -73,3 +73,17 @@ module _ (rows : List ℤ) where
       × (sumBelow (hostChannelsAt 1 rows) (suc r) ≤ maxHostChannels)
       × (sumBelow (hostChannelsAt 2 rows) (suc r) ≤ maxHostChannels)
       × (sumBelow (capacityAt rows) (suc r) ≤ maxCapacity)
+
+  -- row k is a block of the variable v
+  abbrev pub BlockOf : ℕ → ℕ → Type 0
+  BlockOf v k = (k < rowCount rows) × (kindAt rows k ≡ 35) × (naturalAt rows k 1 ≡ v)
+
+  -- row r, an element or assignment, names it
+  abbrev pub NamesIt : ℕ → ℕ → Type 0
+  NamesIt v r = ((kindAt rows r ≡ 11) ⊎ (kindAt rows r ≡ 22)) × (naturalAt rows r 1 ≡ v)
+
+  -- 14: a block is not the root, and no lower row is a block of its name; a row that names a variable stands beneath the lowest block of it
+  unfoldable pub WellBlocked : ℕ → Type 0
+  WellBlocked r =
+      (kindAt rows r ≡ 35 → ¬ (r ≡ declarations rows) × ((k : ℕ) → BlockOf (naturalAt rows r 1) k → r ≤ k))
+      × ((v : ℕ) → NamesIt v r → (k : ℕ) → BlockOf v k → ((j : ℕ) → BlockOf v j → k ≤ j) → Beneath rows k r)

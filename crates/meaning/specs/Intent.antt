@@ -10,7 +10,7 @@ use Rattle.meaning.specs.declared.Index.{Index}
 use Rattle.meaning.specs.declared.Index.the-variants.{At, Fails}
 use Rattle.meaning.specs.Basics.{ifElse}
 use Rattle.meaning.specs.Declarations.{Channel}
-use Rattle.meaning.specs.Tree.{ChannelInput, IfChoice, AltOption, Action, stop, skip, sequence, parallel, assign, input, output, conditional, loop, alternation}
+use Rattle.meaning.specs.Tree.{ChannelInput, IfChoice, AltOption, Action, stop, skip, sequence, parallel, assign, input, output, conditional, loop, alternation, block}
 use Rattle.meaning.specs.Values.{Message, isTrue, value, index, Sent, gives, lacking, passed}
 use Rattle.meaning.specs.State.{Store, Write, writeCell, writePlace, writeOutput}
 use Rattle.meaning.specs.Readings.{Sheet}
@@ -148,3 +148,4 @@ module _ (sheet : Sheet) where
   intent (conditional ts) r x = tests r ts x
   intent (loop e b) r x = testing r b (value (x .cells) e)
   intent (alternation bs) r x = selecting r (optionsResult bs x)
+  intent (block v) r x = waits

@@ -39,12 +39,12 @@ pub record Shape : Type 0 where
 abbrev pub shape : ℕ → Field → Field → Field → Shape
 shape k f g h = record { kind = k; a = f; b = g; c = h }
 
--- "An expression or boolean is a row of kind 10 to 13, a process one of kind 20 to 34"
+-- "An expression or boolean is a row of kind 10 to 13, a process one of kind 20 to 34"; "Kind 35 is a block, a process"
 abbrev pub expressions : List ℕ
 expressions = 10 ∷ 11 ∷ 12 ∷ 13 ∷ []
 
 abbrev pub processes : List ℕ
-processes = 20 ∷ 21 ∷ 22 ∷ 23 ∷ 24 ∷ 30 ∷ 31 ∷ 32 ∷ 33 ∷ 34 ∷ []
+processes = 20 ∷ 21 ∷ 22 ∷ 23 ∷ 24 ∷ 30 ∷ 31 ∷ 32 ∷ 33 ∷ 34 ∷ 35 ∷ []
 
 abbrev pub expression : Field
 expression = reference expressions
@@ -75,6 +75,7 @@ shapes =
     ∷ shape 32 (link (41 ∷ [])) unused unused
     ∷ shape 33 expression process unused
     ∷ shape 34 (link (42 ∷ [])) unused unused
+    ∷ shape 35 variable process unused
     ∷ shape 40 process (link (40 ∷ [])) unused
     ∷ shape 41 process (link (41 ∷ [])) expression
     ∷ shape 42 process (link (42 ∷ [])) (reference (23 ∷ 43 ∷ []))

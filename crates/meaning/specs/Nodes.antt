@@ -4,7 +4,7 @@ use Prim.Native.Nat.{ℕ}
 use lib.IntN.{ℤ}
 use lib.Dec.{eqb}
 use Rattle.meaning.specs.declared.Node.{Node}
-use Rattle.meaning.specs.declared.Node.the-variants.{Literal, Element, Monadic, Dyadic, Stop, Skip, Assignment, Input, Output, Seq, Par, If, While, Alt, Member, Choice, OptionRow, Guard, Other}
+use Rattle.meaning.specs.declared.Node.the-variants.{Literal, Element, Monadic, Dyadic, Stop, Skip, Assignment, Input, Output, Seq, Par, If, While, Alt, Block, Member, Choice, OptionRow, Guard, Other}
 use Rattle.meaning.specs.Basics.{ifElse}
 use Rattle.meaning.specs.Rows.{fieldAt, naturalAt, kindAt}
 
@@ -29,8 +29,9 @@ nodeAt rows r =
     (ifElse (eqb k 32) (If a)
     (ifElse (eqb k 33) (While a b)
     (ifElse (eqb k 34) (Alt a)
+    (ifElse (eqb k 35) (Block a b)
     (ifElse (eqb k 40) (Member a b)
     (ifElse (eqb k 41) (Choice a b c)
     (ifElse (eqb k 42) (OptionRow a b c)
     (ifElse (eqb k 43) (Guard a b)
-    Other)))))))))))))))))
+    Other))))))))))))))))))

@@ -1,18 +1,16 @@
 -- Orders of steps, rest and its outcome, and the order that choices pick ("An order of steps is a list of such steps, of any length, none included").
-use mathlib.Core.Path.{_≡_}
 use mathlib.Core.Bool.{Bool}
 use mathlib.Core.Logic.{_↔_}
-use mathlib.Core.Option.{none}
 use mathlib.Core.List.{List, [], _∷_, map, List·Memᴰ}
 use Prim.Native.Nat.{ℕ, _%_}
 use lib.IntN.{ℤ}
-use lib.ListN.{length, getD, set, replicate, drop}
+use lib.ListN.{length, getD, set, drop}
 use lib.Dec.{leb, eqb}
 use Rattle.meaning.specs.declared.Outcome.{Outcome}
 use Rattle.meaning.specs.declared.Outcome.the-variants.{Ended, Stuck, Broken}
 use Rattle.meaning.specs.Basics.{ifElse}
 use Rattle.meaning.specs.Tree.{Process}
-use Rattle.meaning.specs.State.{State, Program, program, whole, anyOf}
+use Rattle.meaning.specs.State.{State, Program, program, whole, anyOf, allUnset}
 use Rattle.meaning.specs.Labels.{Label, orderRow, Ascending}
 use Rattle.meaning.specs.Readings.{Sheet}
 use Rattle.meaning.specs.SettlingRules.{SettlesTo}
@@ -31,16 +29,13 @@ unfoldable pub chosenStep : List ℕ → Label → List Label → Label
 chosenStep choices x l = getD (x ∷ l) (getD choices 0 0 % length (x ∷ l)) x
 
 module _ (P : Program) where
-  -- "from all process rows idle the root has started"
-  abbrev pub rootStarted : List ℕ
-  rootStarted = set (map (λ (p : Process). 0) (P .processes)) (P .root) 1
+  -- "Before its first step all cells are unset, nothing has been read from or written to the host, and from all process rows idle the root has started"
+  abbrev pub rootStarted : State
+  rootStarted = record { states = set (map (λ (p : Process). 0) (P .processes)) (P .root) 1; store = allUnset P }
 
-  -- "Before its first step all cells are unset, nothing has been read from or written to the host, and .. the root has started and settled"
-  pub record Begins (s : State) : Type 0 where
-    pub settles : SettlesTo (whole P) rootStarted (s .states)
-    pub unset : s .store .cells ≡ replicate (P .cells) none
-    pub unread : s .store .places ≡ replicate (P .inputs) 0
-    pub unwritten : s .store .outputs ≡ replicate (P .outputs) []
+  -- "the root has started and settled"
+  abbrev pub Begins : State → Type 0
+  Begins s = SettlesTo (whole P) rootStarted s
 
   module _ (sheet : Sheet) where
     -- "Each step is ready in the state that the one before it left, after settling, and nothing else changes that state"

@@ -1,4 +1,4 @@
--- What is claimed of the stages 4, 5 and 6: each answers with the lowest place at fault; the rows that stage 5 passes are one tree.
+-- What is claimed of the stages 4, 5, 6 and 14: each answers with the lowest place at fault; the rows that stage 5 passes are one tree.
 use mathlib.Core.Path.{_≡_}
 use mathlib.Core.Logic.{_⊎_}
 use mathlib.Core.List.{List}
@@ -10,8 +10,8 @@ use Rattle.meaning.specs.Refusals.{Refusal}
 use Rattle.meaning.specs.Rows.{rowCount}
 use Rattle.meaning.specs.Declarations.{declarations}
 use Rattle.meaning.specs.References.{Beneath}
-use Rattle.meaning.specs.Faults.{WellFormed, WellPlaced, WithinLimits}
-use Rattle.meaning.specs.Verdict.{formFault, treeFault, limitFault}
+use Rattle.meaning.specs.Faults.{WellFormed, WellPlaced, WithinLimits, WellBlocked}
+use Rattle.meaning.specs.Verdict.{formFault, treeFault, limitFault, blockFault}
 
 -- a stage answers with the lowest of n places that is not right, under its number; with nothing if each is
 abbrev pub Finds : ℕ → (ℕ → Type 0) → ℕ → Option Refusal → Type 0
@@ -26,11 +26,17 @@ TreeStage = (rows : List ℤ) → Finds 5 (WellPlaced rows) (suc (rowCount rows)
 unfoldable pub LimitStage : Type 0
 LimitStage = (rows : List ℤ) → Finds 6 (WithinLimits rows) (declarations rows) (limitFault rows)
 
+unfoldable pub BlockStage : Type 0
+BlockStage = (rows : List ℤ) → Finds 14 (WellBlocked rows) (rowCount rows) (blockFault rows)
+
 -- of every place it is decided whether it is right; so all places below the lowest that is not are right
 unfoldable pub PlacesDecided : Type 0
 PlacesDecided =
     (rows : List ℤ) (r : ℕ)
-    → (WellFormed rows r ⊎ (¬ WellFormed rows r)) × (WellPlaced rows r ⊎ (¬ WellPlaced rows r)) × (WithinLimits rows r ⊎ (¬ WithinLimits rows r))
+    → (WellFormed rows r ⊎ (¬ WellFormed rows r))
+    × (WellPlaced rows r ⊎ (¬ WellPlaced rows r))
+    × (WithinLimits rows r ⊎ (¬ WithinLimits rows r))
+    × (WellBlocked rows r ⊎ (¬ WellBlocked rows r))
 
 -- the rows that stage 5 passes are one tree from the root: all after it are beneath it, and by one way (`Once`)
 unfoldable pub OneTree : Type 0

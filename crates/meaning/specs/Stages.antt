@@ -9,7 +9,7 @@ use Rattle.meaning.specs.Basics.{ifElse}
 use Rattle.meaning.specs.Limits.{maxBudget}
 use Rattle.meaning.specs.Refusals.{Stage}
 use Rattle.meaning.specs.TableBytes.{bytesFault, rowsOf, numbersFault}
-use Rattle.meaning.specs.Verdict.{formFault, treeFault, limitFault}
+use Rattle.meaning.specs.Verdict.{formFault, treeFault, limitFault, blockFault}
 use Rattle.meaning.specs.Usage.{usageFault}
 use Rattle.meaning.specs.Sheet.{sheetFault}
 use Rattle.meaning.specs.Buffers.{Buffers, tooShort}
@@ -91,6 +91,8 @@ rowStages =
     ∷ treeFault
     -- 6, "declaration that passes a limit": "cells, elements, host channels, capacities"
     ∷ limitFault
+    -- 14, "lowest such row": "A block as root, a second block for a name, or the name outside its block"
+    ∷ blockFault
     -- 7, 8, 9, "lowest PAR with a clash of that sort": "7 cell, 8 input, 9 output"
     ∷ usageFault
     ∷ []

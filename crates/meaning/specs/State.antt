@@ -2,10 +2,10 @@
 use mathlib.Core.Bool.{Bool, false, _||_}
 use mathlib.Core.Option.{none}
 use mathlib.Core.List.{List, [], _∷_, map}
-use Prim.Native.Nat.{ℕ}
+use Prim.Native.Nat.{ℕ, zero, suc}
 use lib.IntN.{ℤ}
-use lib.ListN.{getD, set}
-use Rattle.meaning.specs.Declarations.{root, totalCells, hostChannels}
+use lib.ListN.{getD, set, replicate}
+use Rattle.meaning.specs.Declarations.{Variable, root, totalCells, hostChannels}
 use Rattle.meaning.specs.Tree.{Process, Content, contents, orStop, rowOf}
 use Rattle.meaning.specs.Values.{Message}
 
@@ -61,6 +61,10 @@ module _ (P : Program) where
   unfoldable pub whole : Process
   whole = processAt (P .root)
 
+  -- "all cells are unset, nothing has been read from or written to the host"
+  abbrev pub allUnset : Store
+  allUnset = record { cells = replicate (P .cells) none; places = replicate (P .inputs) 0; outputs = replicate (P .outputs) [] }
+
 -- a change of one cell, one place, one output list
 pub data Write : Type 0 where
   writeCell : ℕ → Message → Write
@@ -93,3 +97,25 @@ changeStates (m ∷ l) s = changeStates l (changeState m s)
 pub record Effect : Type 0 where
   pub changes : List StateChange
   pub writes : List Write
+
+-- the changes of a step are made
+abbrev pub changed : Effect → State → State
+changed e s = record { states = changeStates (e .changes) (s .states); store = writeAll (e .writes) (s .store) }
+
+-- row r gets state n; nothing else changes
+abbrev pub withState : ℕ → ℕ → State → State
+withState r n s = record { states = set (s .states) r n; store = s .store }
+
+-- n cells from a on become unset
+abbrev pub unsetFrom : ℕ → ℕ → List Message → List Message
+unsetFrom a zero cells = cells
+unsetFrom a (suc n) cells = unsetFrom (suc a) n (set cells a none)
+
+-- "unsets all cells of the variable"
+abbrev pub unset : Variable → Store → Store
+unset v x = record { cells = unsetFrom (v .first) (v .size) (x .cells); places = x .places; outputs = x .outputs }
+
+-- all cells of these variables become unset
+abbrev pub unsetAll : List Variable → Store → Store
+unsetAll [] x = x
+unsetAll (v ∷ vs) x = unsetAll vs (unset v x)

@@ -12,7 +12,7 @@ use Rattle.meaning.specs.declared.Index.the-variants.{At, Fails}
 use Rattle.meaning.specs.Declarations.{Variable, Channel}
 use Rattle.meaning.specs.Tree.{Expr, element, ChannelInput, IfChoice, AltOption, Action, assign, input, output, conditional, loop, alternation, node, Processes, rowsBeneath}
 use Rattle.meaning.specs.Values.{Message, isTrue, value, index}
-use Rattle.meaning.specs.State.{Store, State, Program, processAt, whole, Write, writeCell, writePlace, writeOutput, StateChange, changeStates, writeAll, Effect}
+use Rattle.meaning.specs.State.{Store, State, Program, processAt, whole, Write, writeCell, writePlace, writeOutput, StateChange, Effect, changed}
 use Rattle.meaning.specs.Labels.{Label, own, pass, takeOption, takeWithOutput}
 use Rattle.meaning.specs.Readings.{Sheet}
 use Rattle.meaning.specs.SettlingRules.{SettlesTo}
@@ -150,10 +150,9 @@ module _ (P : Program) (sheet : Sheet) where
     stopping : {r k : ℕ} {a : Action} → Live P s r a → Lacks (s .store .cells) a k
         → Allows s (own r) (effect (becomes r r (10 + k) ∷ []) [])
 
--- "after settling": the effect's changes are made, and then the row states settle; nothing else changes
-pub record Leaves (P : Program) (s : State) (e : Effect) (t : State) : Type 0 where
-  pub settles : SettlesTo (whole P) (changeStates (e .changes) (s .states)) (t .states)
-  pub stores : t .store ≡ writeAll (e .writes) (s .store)
+-- "after settling": the effect's changes are made, and then the state settles; nothing else changes
+abbrev pub Leaves : Program → State → Effect → State → Type 0
+Leaves P s e t = SettlesTo (whole P) (changed e s) t
 
 -- a step from a state to the next: some rule allows it, and its effect leaves that state
 pub record Step (P : Program) (sheet : Sheet) (s : State) (x : Label) (t : State) : Type 0 where

@@ -4,7 +4,7 @@ use mathlib.Core.List.{List, [], _∷_, _++_}
 use Prim.Native.Nat.{ℕ}
 use lib.IntN.{ℤ, pos}
 use Rattle.meaning.specs.declared.Node.{Node}
-use Rattle.meaning.specs.declared.Node.the-variants.{Literal, Element, Monadic, Dyadic, Stop, Skip, Assignment, Input, Output, Seq, Par, If, While, Alt, Member, Choice, OptionRow, Guard, Other}
+use Rattle.meaning.specs.declared.Node.the-variants.{Literal, Element, Monadic, Dyadic, Stop, Skip, Assignment, Input, Output, Seq, Par, If, While, Alt, Block, Member, Choice, OptionRow, Guard, Other}
 use Rattle.meaning.specs.Rows.{rowCount}
 use Rattle.meaning.specs.Declarations.{Variable, noVariable, Channel, variableAt, sourceAt, sinkAt}
 use Rattle.meaning.specs.Nodes.{nodeAt}
@@ -48,7 +48,7 @@ pub record AltOption : Type 0 where
   pub guard : AltGuard
   pub process : ℕ
 
--- what a process does by itself, beside the processes that it starts
+-- what a process does by itself, beside the processes that it starts; a block has a variable
 pub data Action : Type 0 where
   stop skip sequence parallel : Action
   assign : Variable → Expr → Expr → Action
@@ -57,8 +57,9 @@ pub data Action : Type 0 where
   conditional : List IfChoice → Action
   loop : Expr → ℕ → Action
   alternation : List AltOption → Action
+  block : Variable → Action
 
--- a process with its row and the processes directly beneath it: those of a SEQ's or PAR's members, of choices or options, a WHILE's body
+-- a process with its row and the processes directly beneath it: those of a SEQ's or PAR's members, of choices or options, a WHILE's body, a block's process
 mutual
   pub data Process : Type 0 where
     node : Action → ℕ → Processes → Process
@@ -137,6 +138,7 @@ module _ (rows : List ℤ) (r : ℕ) (at : ℕ → Content) where
   contentOf (If a) = ofProcess (node (conditional (at a .tests)) r (at a .listed))
   contentOf (While a b) = ofProcess (node (loop (at a .expr) b) r (andProcess (at b .process) empty))
   contentOf (Alt a) = ofProcess (node (alternation (at a .options)) r (at a .listed))
+  contentOf (Block a b) = ofProcess (node (block (variableAt rows a)) r (andProcess (at b .process) empty))
   contentOf (Member a b) = ofLink (andProcess (at a .process) (at b .listed)) [] []
   contentOf (Choice a b c) = ofLink (andProcess (at a .process) (at b .listed)) (record { boolean = at c .expr; process = a } ∷ at b .tests) []
   contentOf (OptionRow a b c) = ofLink (andProcess (at a .process) (at b .listed)) [] (record { row = r; guard = at c .guard; process = a } ∷ at b .options)

@@ -7,12 +7,22 @@ use lib.IntN.{ℤ, pos, negsuc}
 use lib.Dec.{ltb, eqb}
 use Rattle.meaning.specs.Basics.{ifElse, common}
 use Rattle.meaning.specs.Refusals.{Refusal}
-use Rattle.meaning.specs.Tree.{Expr, literal, element, monadic, given, dyadic, noExpr, ChannelInput, IfChoice, AltOption, Action, stop, skip, sequence, parallel, assign, input, output, conditional, loop, alternation, Process, node, Processes, empty, also, Content, contents}
+use Rattle.meaning.specs.Declarations.{Variable}
+use Rattle.meaning.specs.Tree.{Expr, literal, element, monadic, given, dyadic, noExpr, ChannelInput, IfChoice, AltOption, Action, stop, skip, sequence, parallel, assign, input, output, conditional, loop, alternation, block, Process, node, Processes, empty, also, Content, contents}
 
 -- n numbers from first on
 unfoldable pub numbersFrom : ℕ → ℕ → List ℕ
 numbersFrom first zero = []
 numbersFrom first (suc n) = first ∷ numbersFrom (suc first) n
+
+-- the cells of a variable
+abbrev pub cellsOfVariable : Variable → List ℕ
+cellsOfVariable v = numbersFrom (v .first) (v .size)
+
+-- the cells of some variables
+abbrev pub cellsOfAll : List Variable → List ℕ
+cellsOfAll [] = []
+cellsOfAll (v ∷ vs) = cellsOfVariable v ++ cellsOfAll vs
 
 abbrev pub onlyIf : Bool → ℕ → List ℕ
 onlyIf true a = a ∷ []
@@ -76,6 +86,7 @@ changes (output c e f) = []
 changes (conditional ts) = []
 changes (loop e b) = []
 changes (alternation bs) = ofGuards changesBy bs
+changes (block v) = []
 
 -- "It is used if it is changed or stands in any expression, subscripts included"
 abbrev pub uses : Action → List ℕ
@@ -89,6 +100,7 @@ uses (output c e f) = standsIn e ++ standsIn f
 uses (conditional ts) = standsInChoices ts
 uses (loop e b) = standsIn e
 uses (alternation bs) = standsInGuards bs ++ ofGuards usesBy bs
+uses (block v) = []
 
 -- the channel elements input from
 abbrev pub inputElements : Action → List ℕ
@@ -102,6 +114,7 @@ inputElements (output c e f) = []
 inputElements (conditional ts) = []
 inputElements (loop e b) = []
 inputElements (alternation bs) = ofGuards inputsBy bs
+inputElements (block v) = []
 
 -- the channel elements output to
 abbrev pub outputElements : Action → List ℕ
@@ -115,6 +128,7 @@ outputElements (output c e f) = countsFor (c .first) (c .size) e
 outputElements (conditional ts) = []
 outputElements (loop e b) = []
 outputElements (alternation bs) = []
+outputElements (block v) = []
 
 -- over a process "with all beneath" it
 unfoldable mutual
@@ -166,6 +180,7 @@ ofPar number (output c e f) r ms = []
 ofPar number (conditional ts) r ms = []
 ofPar number (loop e b) r ms = []
 ofPar number (alternation bs) r ms = []
+ofPar number (block v) r ms = []
 
 abbrev pub comparisonsIn : ℕ → Option Process → List Comparison
 comparisonsIn number none = []

@@ -1,4 +1,4 @@
--- The verdict on rows, refusals 4, 5 and 6: for each, whether a row is at fault, and the lowest that is.
+-- The verdict on rows, refusals 4, 5, 6 and 14: for each, whether a row is at fault, and the lowest that is.
 use mathlib.Core.Bool.{Bool, true, false, not, _&&_, _||_}
 use mathlib.Core.List.{List, [], _∷_, _++_}
 use mathlib.Core.Option.{Option, none, some, Option·map}
@@ -6,9 +6,10 @@ use Prim.Native.Nat.{ℕ, zero, suc, _+_}
 use lib.IntN.{ℤ, pos, negsuc}
 use lib.Dec.{leb, ltb, eqb}
 use Rattle.meaning.specs.Limits.{maxCells, maxElements, maxHostChannels, maxCapacity, minNumber, maxNumber}
-use Rattle.meaning.specs.Rows.{rowCount, fieldAt, kindAt}
+use Rattle.meaning.specs.Rows.{rowCount, fieldAt, naturalAt, kindAt}
 use Rattle.meaning.specs.Declarations.{declares, declarations, sumBelow, hasRole, cellsAt, elementsAt, hostChannelsAt, capacityAt}
 use Rattle.meaning.specs.Basics.{ifElse, eqZ, inside, anyPasses, among, lowest}
+use Rattle.meaning.specs.HigherRows.{atRow}
 use Rattle.meaning.specs.Refusals.{Refusal}
 use Rattle.meaning.specs.Kinds.{Field, unused, literalValue, within, elements, capacity, operator, variable, channel, reference, link, Shape, shapeOf, processes}
 
@@ -149,3 +150,41 @@ overLimit rows r =
 -- "declaration that passes a limit"
 unfoldable pub limitFault : List ℤ → Option Refusal
 limitFault rows = Option·map (λ r. (6, r)) (lowest (overLimit rows) (declarations rows))
+
+-- 14 --------------------------------------------------------------------------------------------------------------------------
+
+-- rows, each with the rows beneath it
+abbrev pub withThose : (ℕ → List ℕ) → List ℕ → List ℕ
+withThose at [] = []
+withThose at (t ∷ ts) = (t ∷ at t) ++ withThose at ts
+
+-- the rows beneath row r: those that it refers to, each with the rows beneath it
+unfoldable pub rowsUnder : List ℤ → ℕ → List ℕ
+rowsUnder rows r = atRow [] (λ r at. withThose at (targets rows r)) (rowCount rows) r
+
+-- "Kind 35 is a block"
+abbrev pub isBlock : List ℤ → ℕ → Bool
+isBlock rows r = eqb (kindAt rows r) 35
+
+-- beside blocks, elements and assignments name a variable: an input's target is an element
+abbrev pub namesVariable : List ℤ → ℕ → Bool
+namesVariable rows r = eqb (kindAt rows r) 11 || eqb (kindAt rows r) 22
+
+-- the lowest block of the name v
+unfoldable pub blockOf : List ℤ → ℕ → Option ℕ
+blockOf rows v = lowest (λ k. isBlock rows k && eqb (naturalAt rows k 1) v) (rowCount rows)
+
+-- there is a row, and a test does not hold of it
+abbrev pub someNot : (ℕ → Bool) → Option ℕ → Bool
+someNot test none = false
+someNot test (some k) = not (test k)
+
+-- a row at fault: "A block as root, a second block for a name, or the name outside its block"
+abbrev pub blockFaultAt : List ℤ → ℕ → ℕ → Bool
+blockFaultAt rows d r =
+    (isBlock rows r && (eqb r d || someNot (λ k. eqb k r) (blockOf rows (naturalAt rows r 1))))
+    || (namesVariable rows r && someNot (λ k. among r (rowsUnder rows k)) (blockOf rows (naturalAt rows r 1)))
+
+-- "is refused as 14 at the lowest such row"
+unfoldable pub blockFault : List ℤ → Option Refusal
+blockFault rows = let d = declarations rows in Option·map (λ r. (14, r)) (lowest (blockFaultAt rows d) (rowCount rows))

@@ -28,6 +28,7 @@ pub enum Node {
     If(usize),
     While(usize, usize),
     Alt(usize),
+    Block(usize, usize),
     Member(usize, usize),
     Choice(usize, usize, usize),
     OptionRow(usize, usize, usize),

@@ -1,4 +1,4 @@
--- What a host output channel has been given stands in its strips of numbers and marks in the lent buffers, and its count says how much.
+-- What was written to a host output channel stands in its strips of numbers and marks in the lent buffers, and its count says how much.
 use mathlib.Core.Path.{_≡_, refl, sym, ap, ap₂, _∙_}
 use mathlib.Core.Option.{none}
 use mathlib.Core.List.{List, [], _∷_, _++_, map, map-append, append-assoc}
@@ -79,34 +79,34 @@ strips-length (n ∷ ns) (xs ∷ xss) h =
     omega (arith, length-append (sized n none xs) (strips ns xss), sized-length none n xs, strips-length ns xss (omega arith))
 
 module _ (rows : List ℤ) (s : State) (b : Buffers) (port : ℕ) where
-  abbrev given : List Message
-  given = getD (s .store .outputs) port []
+  abbrev written : List Message
+  written = getD (s .store .outputs) port []
 
-  pub counted : port < maxHostChannels → countIn port (encode rows s b) ≡ length given
+  pub counted : port < maxHostChannels → countIn port (encode rows s b) ≡ length written
   unfolding encode
   counted h = lent-at 0 maxHostChannels port (map length (s .store .outputs)) (b .counts) h ∙ List·getD-map length (s .store .outputs) port []
 
-  -- numbers and marks of its strip, as far as it counts, stand for the messages given
-  pub messages-given : HostOut rows port → port < length (capacities rows) → length given ≤ getD (capacities rows) port 0 → listedIn rows port (encode rows s b) ≡ given
+  -- numbers and marks of its strip, as far as it counts, stand for the messages written
+  pub messages-written : HostOut rows port → port < length (capacities rows) → length written ≤ getD (capacities rows) port 0 → listedIn rows port (encode rows s b) ≡ written
   unfolding encode
-  messages-given o h room = go (decLt port (length (s .store .outputs)))
+  messages-written o h room = go (decLt port (length (s .store .outputs)))
     where
-      go : Dec (port < length (s .store .outputs)) → listedIn rows port (encode rows s b) ≡ given
+      go : Dec (port < length (s .store .outputs)) → listedIn rows port (encode rows s b) ≡ written
       go (yes g) =
           ap₂ take (counted (o .few))
           (ap₂ decoded (strip-lent numberIn rows (s .store .outputs) (b .numbers) port o h g) (strip-lent mark rows (s .store .outputs) (b .outputMarks) port o h g)
-          ∙ decoded-cells (sized (getD (capacities rows) port 0) none given))
-          ∙ sized-front none (getD (capacities rows) port 0) given room
+          ∙ decoded-cells (sized (getD (capacities rows) port 0) none written))
+          ∙ sized-front none (getD (capacities rows) port 0) written room
       go (no g) =
-          let e : given ≡ [] = List·getD-eq-default (s .store .outputs) [] (omega arith) in
+          let e : written ≡ [] = List·getD-eq-default (s .store .outputs) [] (omega arith) in
           let n : countIn port (encode rows s b) ≡ 0 = counted (o .few) ∙ ap (λ (l : List Message). length l) e in
           ap (λ (k : ℕ). take k (decoded (stripIn rows port (encode rows s b .numbers)) (stripIn rows port (encode rows s b .outputMarks)))) n ∙ sym e
 
--- the end of an order in the lent buffers: the messages given to a channel, and their count
-pub left-given : (rows : List ℤ) → check rows ≡ none → (sheet : Sheet) (l : List Label) (s : State) → OrderOf rows sheet l s → (b : Buffers) (port : ℕ) → port < length (channels rows 2)
+-- the end of an order in the lent buffers: the messages written to a channel, and their count
+pub left-written : (rows : List ℤ) → check rows ≡ none → (sheet : Sheet) (l : List Label) (s : State) → OrderOf rows sheet l s → (b : Buffers) (port : ℕ) → port < length (channels rows 2)
     → (listedIn rows port (encode rows s b) ≡ getD (s .store .outputs) port []) × (countIn port (encode rows s b) ≡ length (getD (s .store .outputs) port []))
-left-given rows ok sheet l s o b port h =
+left-written rows ok sheet l s o b port h =
     let c = host-out rows ok port h in
     let k = orders-coherent rows ok sheet l s o .room-kept (c .row) (c .host) in
     let e = ap (λ (z : ℕ). length (getD (s .store .outputs) z [])) (c .number) in
-    (messages-given rows s b port c (omega (arith, length-map (channels rows 2) (capacityAt rows))) (omega (arith, k, e, c .holds)), counted rows s b port (c .few))
+    (messages-written rows s b port c (omega (arith, length-map (channels rows 2) (capacityAt rows))) (omega (arith, k, e, c .holds)), counted rows s b port (c .few))
