@@ -57,10 +57,10 @@ const SOURCE: u64 = CHANNEL + 16 * (1 << 0 | 1 << 1);
 
 const SINK: u64 = CHANNEL + 16 * (1 << 0 | 1 << 2);
 
-// References by the kinds they may go to: expressions are of kind 10 to 13, processes of kind 20 to 24 and 30 to 34
+// References by the kinds they may go to: expressions are of kind 10 to 13, processes of kind 20 to 24 and 30 to 35
 const EXPRESSION: u64 = REFERENCE + 16 * (15 << 10);
 
-const PROCESSES: u64 = 31 << 20 | 31 << 30;
+const PROCESSES: u64 = 31 << 20 | 63 << 30;
 
 const PROCESS: u64 = REFERENCE + 16 * PROCESSES;
 
@@ -113,7 +113,7 @@ const KINDS: [[u64; 3]; 44] = [
     [CHOICES, UNUSED, UNUSED], // 32 IF
     [EXPRESSION, PROCESS, UNUSED], // 33 WHILE
     [OPTIONS, UNUSED, UNUSED], // 34 ALT
-    NONE, // 35
+    [VARIABLE, PROCESS, UNUSED], // 35 block
     NONE, // 36
     NONE, // 37
     NONE, // 38

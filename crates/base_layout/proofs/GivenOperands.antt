@@ -1,8 +1,8 @@
 -- In rows that stage 4 refuses nothing in, a row that GIVEN refers to is an element.
-use mathlib.Core.Path.{_≡_, refl, sym, ap, _∙_, subst}
+use mathlib.Core.Path.{_≡_, refl, ap}
 use mathlib.Core.Bool.{Bool, true, false}
 use mathlib.Core.List.{List}
-use mathlib.Core.Option.{none, Option·some-injective}
+use mathlib.Core.Option.{none}
 use Prim.Native.Nat.{ℕ, _<_, _≤_}
 use native.Mathlib.Omega.{arith}
 use lib.IntN.{ℤ, pos, negsuc}
@@ -10,9 +10,10 @@ use lib.ListN.{length}
 use lib.Dec.{ltb}
 use Rattle.meaning.specs.Basics.{ifElse}
 use Rattle.meaning.specs.Rows.{naturalOf, rowCount, fieldAt, naturalAt, kindAt}
-use Rattle.meaning.specs.Kinds.{Shape, operator, shapes, shapeIn, shapeOf}
+use Rattle.meaning.specs.Kinds.{operator, shapes, shapeIn, shapeOf}
 use Rattle.meaning.specs.Verdict.{formFault}
-use Rattle.meaning.specs.Faults.{MayHold, WellFormed}
+use Rattle.meaning.specs.Faults.{MayHold}
+use Rattle.meaning.proofs.FaultLaws.{holds-a}
 use Rattle.meaning.proofs.Decides.{Decides, holding, failing, decides-eq}
 use Rattle.meaning.proofs.StageLaws.{form-none}
 use Rattle.base_layout.specs.Operands.{operandAt, GivenElements}
@@ -25,10 +26,8 @@ is-natural (negsuc k) n e h = absurd (omega arith)
 module _ (rows : List ℤ) (few : rowCount rows ≤ 1024) (form : formFault rows ≡ none) where
   -- what field a of a monadic operation may hold
   operator-held : (r : ℕ) → r < rowCount rows → kindAt rows r ≡ 12 → MayHold rows r operator (fieldAt rows r 1)
-  unfolding WellFormed shapeOf shapeIn shapes
-  operator-held r h e =
-      let w = form-none rows .0 form r h .1 in
-      subst (λ (s : Shape). MayHold rows r (s .a) (fieldAt rows r 1)) (Option·some-injective (w .0) _ (sym (w .1) ∙ ap shapeOf e)) (w .2)
+  unfolding shapeOf shapeIn shapes
+  operator-held r h e = holds-a rows r _ (form-none rows .0 form r h) (ap shapeOf e)
 
   named-element : (r t : ℕ) → r < rowCount rows → kindAt rows r ≡ 12 → naturalAt rows r 1 ≡ 2 → naturalAt rows r 2 ≡ t → t < rowCount rows → kindAt rows t ≡ 11
   unfolding MayHold

@@ -1,12 +1,14 @@
 -- Laws of tests: alternatives in another order, and members of two lists.
-use mathlib.Core.Path.{_≡_, refl, sym, ap, _∙_}
-use mathlib.Core.Bool.{Bool, true, false, _&&_, _||_}
-use mathlib.Core.List.{List, [], _∷_, _++_}
+use mathlib.Core.Path.{_≡_, refl, ap, _∙_}
+use mathlib.Core.Bool.{Bool, true, false, _||_}
+use mathlib.Core.List.{List, [], _∷_}
 use Prim.Native.Nat.{ℕ, _+_, _*_, _<_}
 use native.Mathlib.Omega.{arith}
 use lib.Dec.{eqb}
 use borrow.Author.Tests.{eq-eqb, ne-eqb, eqb-true, eqb-false}
-use Rattle.meaning.specs.Basics.{anyPasses, among, common}
+use Rattle.meaning.specs.Basics.{anyPasses, among}
+pub use Rattle.meaning.proofs.NoFault.{or-turn}
+pub use Rattle.meaning.proofs.UnsetLaws.{among-append}
 use Rattle.base_sets.specs.Sets.{inSort}
 
 pub or-assoc : (a b c : Bool) → ((a || b) || c) ≡ (a || (b || c))
@@ -28,19 +30,6 @@ pub or-front : (a b c : Bool) → (a || (b || c)) ≡ (b || (a || c))
 or-front true true c = refl
 or-front true false c = refl
 or-front false b c = refl
-
--- two and two in turn
-pub or-turn : (a b c d : Bool) → ((a || b) || (c || d)) ≡ ((a || c) || (b || d))
-or-turn true b c d = refl
-or-turn false true true d = refl
-or-turn false true false d = refl
-or-turn false false c d = refl
-
--- a number in one list or another
-pub among-append : (x : ℕ) (l m : List ℕ) → among x (l ++ m) ≡ (among x l || among x m)
-unfolding anyPasses
-among-append x [] m = refl
-among-append x (y ∷ l) m = ap (λ (t : Bool). eqb x y || t) (among-append x l m) ∙ sym (or-assoc (eqb x y) (among x l) (among x m))
 
 -- a number of one sort in a list of another, and of the same
 pub sort-same : (s x : ℕ) (l : List ℕ) → among (4 * x + s) (inSort s l) ≡ among x l

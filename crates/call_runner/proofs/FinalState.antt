@@ -19,6 +19,7 @@ use Rattle.meaning.specs.Buffers.{capacities}
 use Rattle.meaning.specs.Answers.{check}
 use Rattle.meaning.specs.Run.{run}
 use Rattle.meaning.proofs.LentLaws.{defaults-at}
+use Rattle.agreement.proofs.SettlingData.{settling-outputs}
 use Rattle.agreement.proofs.KnownStates.{set-keeps}
 use Rattle.agreement.proofs.RunTakesOrder.{run-takes-order}
 use Rattle.machine.proofs.Declared.{capacities-length, capacities-sum, room}
@@ -44,7 +45,7 @@ module _ (rows : List ℤ) where
 
   begins-fits : (s : State) → Begins (program rows) s → ListsFit (s .store)
   unfolding program
-  begins-fits s b p = rw (b .unwritten, defaults-at {A = List Message} [] (hostChannels 2 rows) p) (omega arith)
+  begins-fits s b p = rw (settling-outputs (program rows) (b .by-rules), defaults-at {A = List Message} [] (hostChannels 2 rows) p) (omega arith)
 
   sink-in : (s : State) (r : ℕ) (c : Channel) (e f : Expr) → Live (program rows) s r (output c e f) → SinkIn rows c
   sink-in s r c e f (live p z i) = subst (λ (q : Process). ActionIn rows (actionOf q)) p (names-in rows r)
@@ -71,7 +72,7 @@ module _ (rows : List ℤ) where
     effect-fits s x t (stopping g k) h = h
 
     step-fits : (s : State) (x : Label) (t : State) → Step (program rows) sheet s x t → ListsFit (s .store) → ListsFit (t .store)
-    step-fits s x t k h = subst ListsFit (sym (k .leaves .stores)) (effect-fits s x (k .does) (k .allowed) h)
+    step-fits s x t k h p = rw (settling-outputs (program rows) (k .leaves .by-rules)) (effect-fits s x (k .does) (k .allowed) h p)
 
     order-fits : {s t : State} {l : List Label} → Order (program rows) sheet s l t → ListsFit (s .store) → ListsFit (t .store)
     order-fits halt h = h

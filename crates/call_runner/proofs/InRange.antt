@@ -1,5 +1,6 @@
 -- Every number of a state has 32 signed bits, if the table's numbers and the readings have: results of operators fit or wrap. It holds of every order.
-use mathlib.Core.Path.{_≡_, refl, sym, subst}
+use mathlib.Core.Logic.{⊎-elim}
+use mathlib.Core.Path.{_≡_, refl, subst}
 use mathlib.Core.Logic.{inl, inr}
 use mathlib.Core.Bool.{Bool, true, false, not, _&&_, _||_}
 use mathlib.Core.Option.{Option, none, some}
@@ -15,19 +16,21 @@ use Rattle.meaning.specs.declared.Value.the-variants.{Number, Missing}
 use Rattle.meaning.specs.declared.Index.{Index}
 use Rattle.meaning.specs.declared.Index.the-variants.{At, Fails}
 use Rattle.meaning.specs.declared.Node.{Node}
-use Rattle.meaning.specs.declared.Node.the-variants.{Literal, Element, Monadic, Dyadic, Stop, Skip, Assignment, Input, Output, Seq, Par, If, While, Alt, Member, Choice, OptionRow, Guard, Other}
+use Rattle.meaning.specs.declared.Node.the-variants.{Literal, Element, Monadic, Dyadic, Stop, Skip, Assignment, Input, Output, Seq, Par, If, While, Alt, Block, Member, Choice, OptionRow, Guard, Other}
 use Rattle.meaning.specs.Basics.{ifElse, eqZ, isSome}
 use Rattle.meaning.specs.Rows.{kindAt}
 use Rattle.meaning.specs.Declarations.{totalCells, hostChannels}
 use Rattle.meaning.specs.Nodes.{nodeAt}
-use Rattle.meaning.specs.Tree.{Expr, literal, element, monadic, given, dyadic, noExpr, Action, stop, skip, sequence, parallel, assign, input, output, conditional, loop, alternation, Process, Content, contentOf, contentAt, orStop, actionOf}
+use Rattle.meaning.specs.Tree.{Expr, literal, element, monadic, given, dyadic, noExpr, Action, stop, skip, sequence, parallel, assign, input, output, conditional, loop, alternation, block, Process, Content, contentOf, contentAt, orStop, actionOf}
 use Rattle.meaning.specs.Values.{Message, fitted, signed32, wrapped, isTrue, truth, quotient, remainder, operators, operate, monadicOf, decides, whenNumber, dyadicOf, inArray, cellValue, readCell, givenValue, value}
-use Rattle.meaning.specs.State.{Store, State, program, writeAll, Effect}
+use Rattle.meaning.specs.State.{Store, State, program, writeAll, Effect, whole}
 use Rattle.meaning.specs.Labels.{Label}
 use Rattle.meaning.specs.Readings.{Sheet}
 use Rattle.meaning.specs.Step.{Live, live, host-input, Passes, passes-value, passes-absence, inner-output, Allows, Step, assignment, while-false, while-true, if-true, communication, host-read, host-write, alt-skip, alt-read, alt-communication, stopping}
 use Rattle.meaning.specs.Order.{Begins, Order, halt, next-step, OrderOf}
 use Rattle.meaning.specs.PrintedForms.{Each, each-none, each-more, In32, IsReading}
+use Rattle.meaning.specs.SettlingRules.{Settling}
+use Rattle.agreement.proofs.SettlingData.{settling-cells, settling-outputs}
 use Rattle.agreement.proofs.KnownStates.{set-keeps}
 use Rattle.meaning.specs.ContentClaims.{higherContent}
 use Rattle.meaning.proofs.LentLaws.{defaults-at}
@@ -173,6 +176,7 @@ NodeIn (Par a) = Unit {0}
 NodeIn (If a) = Unit {0}
 NodeIn (While a b) = Unit {0}
 NodeIn (Alt a) = Unit {0}
+NodeIn (Block a b) = Unit {0}
 NodeIn (Member a b) = Unit {0}
 NodeIn (Choice a b c) = Unit {0}
 NodeIn (OptionRow a b c) = Unit {0}
@@ -195,6 +199,7 @@ ActionIn (output c e f) = ExprIn f
 ActionIn (conditional ts) = Unit {0}
 ActionIn (loop e b) = Unit {0}
 ActionIn (alternation bs) = Unit {0}
+ActionIn (block v) = Unit {0}
 
 abbrev ProcessIn : Option Process → Type 0
 ProcessIn none = Unit {0}
@@ -210,7 +215,7 @@ module _ (rows : List ℤ) (numbers : Each In32 rows) where
       by-kind (eqb k 10) _ _ (each-at (pos 0) (omega arith) numbers (4 * r + 1))
       (by-kind (eqb k 11) _ _ tt (by-kind (eqb k 12) _ _ tt (by-kind (eqb k 13) _ _ tt (by-kind (eqb k 20) _ _ tt (by-kind (eqb k 21) _ _ tt (by-kind (eqb k 22) _ _ tt
       (by-kind (eqb k 23) _ _ tt (by-kind (eqb k 24) _ _ tt (by-kind (eqb k 30) _ _ tt (by-kind (eqb k 31) _ _ tt (by-kind (eqb k 32) _ _ tt (by-kind (eqb k 33) _ _ tt
-      (by-kind (eqb k 34) _ _ tt (by-kind (eqb k 40) _ _ tt (by-kind (eqb k 41) _ _ tt (by-kind (eqb k 42) _ _ tt (by-kind (eqb k 43) _ _ tt tt)))))))))))))))))
+      (by-kind (eqb k 34) _ _ tt (by-kind (eqb k 35) _ _ tt (by-kind (eqb k 40) _ _ tt (by-kind (eqb k 41) _ _ tt (by-kind (eqb k 42) _ _ tt (by-kind (eqb k 43) _ _ tt tt))))))))))))))))))
     where
       k : ℕ
       k = kindAt rows r
@@ -234,6 +239,7 @@ module _ (rows : List ℤ) (numbers : Each In32 rows) where
   part-in r at h (If a) n = (tt, tt)
   part-in r at h (While a b) n = (tt, tt)
   part-in r at h (Alt a) n = (tt, tt)
+  part-in r at h (Block a b) n = (tt, tt)
   part-in r at h (Member a b) n = (tt, tt)
   part-in r at h (Choice a b c) n = (tt, tt)
   part-in r at h (OptionRow a b c) n = (tt, tt)
@@ -270,13 +276,22 @@ module _ (rows : List ℤ) (numbers : Each In32 rows) where
     pub cells : CellsIn (x .cells)
     pub outputs : (p : ℕ) → Each IsReading (getD (x .outputs) p [])
 
+  -- settling only unsets cells
+  settled-in : {s t : State} → Settling (whole (program rows)) s t → StoreIn (s .store) → StoreIn (t .store)
+  settled-in p h =
+      record {
+        cells = λ i. ⊎-elim (λ e. rw e (h .cells i)) (λ e. rw (e .1) tt) (settling-cells (program rows) p i);
+        outputs = λ c. rw (settling-outputs (program rows) p) (h .outputs c);
+      }
+
   begins-in : (s : State) → Begins (program rows) s → StoreIn (s .store)
   unfolding program
   begins-in s b =
-      record {
-        cells = λ i. rw (b .unset, defaults-at {A = Message} none (totalCells rows) i) tt;
-        outputs = λ p. rw (b .unwritten, defaults-at {A = List Message} [] (hostChannels 2 rows) p) each-none;
-      }
+      settled-in (b .by-rules)
+      (record {
+        cells = λ i. rw (defaults-at {A = Message} none (totalCells rows) i) tt;
+        outputs = λ p. rw (defaults-at {A = List Message} [] (hostChannels 2 rows) p) each-none;
+      })
 
   -- a cell is written
   cell-written : (x y : Store) → StoreIn x → (a : ℕ) (m : Message) → IsReading m → y .cells ≡ set (x .cells) a m → y .outputs ≡ x .outputs → StoreIn y
@@ -305,7 +320,7 @@ module _ (rows : List ℤ) (numbers : Each In32 rows) where
     effect-in s x t (stopping g k) h = h
 
     step-in : (s : State) (x : Label) (t : State) → Step (program rows) sheet s x t → StoreIn (s .store) → StoreIn (t .store)
-    step-in s x t k h = subst StoreIn (sym (k .leaves .stores)) (effect-in s x (k .does) (k .allowed) h)
+    step-in s x t k h = settled-in (k .leaves .by-rules) (effect-in s x (k .does) (k .allowed) h)
 
     order-in : {s t : State} {l : List Label} → Order (program rows) sheet s l t → StoreIn (s .store) → StoreIn (t .store)
     order-in halt h = h

@@ -52,4 +52,4 @@ module _ (rows : List ℤ) (first size e : ℕ) where
       by-kind rows e h (λ p. countsFor first size (p .expr) ≡ numbersFrom first size)
       (each-kind (λ x. countsFor first size (contentOf rows e (higherContent rows e) x .expr) ≡ numbersFrom first size) (kindAt rows e) (fieldAt rows e 1) (naturalAt rows e 1) (naturalAt rows e 2) (naturalAt rows e 3)
       (λ q. absurd (n q)) (λ q. refl) (λ q. operation-all (naturalAt rows e 1) (higherContent rows e (naturalAt rows e 2))) (λ q. refl) (λ q. refl) (λ q. refl) (λ q. refl) (λ q. refl) (λ q. refl)
-      (λ q. refl) (λ q. refl) (λ q. refl) (λ q. refl) (λ q. refl) (λ q. refl) (λ q. refl) (λ q. refl) (λ q. refl) refl)
+      (λ q. refl) (λ q. refl) (λ q. refl) (λ q. refl) (λ q. refl) (λ q. refl) (λ q. refl) (λ q. refl) (λ q. refl) (λ q. refl) refl)

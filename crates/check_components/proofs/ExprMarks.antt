@@ -1,7 +1,7 @@
 -- What the expression, the target, the input or the output of a row counts for, from what its operands do.
 use mathlib.Core.Path.{_≡_, refl, sym, ap, ap₂, _∙_, subst}
 use mathlib.Core.Bool.{Bool, true, false}
-use mathlib.Core.List.{List, [], _∷_, _++_}
+use mathlib.Core.List.{List, [], _++_}
 use Prim.Native.Nat.{ℕ, _<_, _≤_}
 use native.Mathlib.Decide.{decLt}
 use native.Mathlib.Omega.{arith}
@@ -11,7 +11,7 @@ use borrow.Author.Tests.{eqb-true}
 use Rattle.meaning.specs.Basics.{ifElse}
 use Rattle.meaning.specs.Rows.{rowCount, fieldAt, naturalAt, kindAt}
 use Rattle.meaning.specs.Declarations.{variableAt, sourceAt, sinkAt}
-use Rattle.meaning.specs.Tree.{monadic, given, output, Content, operation, contentOf, contentAt}
+use Rattle.meaning.specs.Tree.{monadic, given, Content, operation, contentOf, contentAt}
 use Rattle.meaning.specs.Usage.{numbersFrom, countsFor, standsIn}
 use Rattle.base_layout.specs.Operands.{operandAt, GivenElements}
 use Rattle.base_layout.proofs.Parts.{part-past, higherContent, part-of-kind}
@@ -98,7 +98,7 @@ module _ (rows : List ℤ) (r : ℕ) where
         by-kind rows r h (λ p. markExpr (p .expr) ≡ [])
         (each-kind (λ x. markExpr (contentOf rows r (higherContent rows r) x .expr) ≡ []) (kindAt rows r) (fieldAt rows r 1) (naturalAt rows r 1) (naturalAt rows r 2) (naturalAt rows r 3)
         (λ q. refl) (λ q. absurd (n11 q)) (λ q. absurd (n12 q)) (λ q. absurd (n13 q)) (λ q. refl) (λ q. refl) (λ q. refl) (λ q. refl) (λ q. refl)
-        (λ q. refl) (λ q. refl) (λ q. refl) (λ q. refl) (λ q. refl) (λ q. refl) (λ q. refl) (λ q. refl) (λ q. refl) refl)
+        (λ q. refl) (λ q. refl) (λ q. refl) (λ q. refl) (λ q. refl) (λ q. refl) (λ q. refl) (λ q. refl) (λ q. refl) (λ q. refl) refl)
 
     -- an element is a target
     pub target-is : kindAt rows r ≡ 11 → contentAt rows r .target ≡ targetIn rows r
@@ -113,4 +113,4 @@ module _ (rows : List ℤ) (r : ℕ) where
         by-kind rows r h (λ p. markTarget (p .target) ≡ [])
         (each-kind (λ x. markTarget (contentOf rows r (higherContent rows r) x .target) ≡ []) (kindAt rows r) (fieldAt rows r 1) (naturalAt rows r 1) (naturalAt rows r 2) (naturalAt rows r 3)
         (λ q. refl) (λ q. absurd (n11 q)) (λ q. refl) (λ q. refl) (λ q. refl) (λ q. refl) (λ q. refl) (λ q. refl) (λ q. refl)
-        (λ q. refl) (λ q. refl) (λ q. refl) (λ q. refl) (λ q. refl) (λ q. refl) (λ q. refl) (λ q. refl) (λ q. refl) refl)
+        (λ q. refl) (λ q. refl) (λ q. refl) (λ q. refl) (λ q. refl) (λ q. refl) (λ q. refl) (λ q. refl) (λ q. refl) (λ q. refl) refl)

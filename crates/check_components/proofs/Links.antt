@@ -9,10 +9,10 @@ use native.Mathlib.Decide.{decLt}
 use native.Mathlib.Omega.{arith}
 use lib.IntN.{ℤ}
 use lib.Dec.{leb, ltb}
-use borrow.Author.Tests.{ltb-true, ltb-false, lt-ltb, leb-true, le-leb}
+use borrow.Author.Tests.{ltb-true, lt-ltb, leb-true}
 use Rattle.meaning.specs.Rows.{rowCount, fieldAt, naturalAt, kindAt}
 use Rattle.meaning.specs.Tree.{Process, Processes, empty, andProcess, Content, contentOf, contentAt}
-use Rattle.meaning.specs.Usage.{gather, gatherAll}
+use Rattle.meaning.specs.Usage.{gatherAll}
 use Rattle.base_layout.specs.Operands.{operandAt}
 use Rattle.base_layout.proofs.RowNodes.{nodeOf}
 use Rattle.base_layout.proofs.Parts.{part-past, higherContent, part-of-kind}
@@ -67,7 +67,7 @@ module _ (rows : List ℤ) (m : ℕ) where
           by-kind rows m h (λ p. p .listed ≡ empty)
           (each-kind (λ x. contentOf rows m (higherContent rows m) x .listed ≡ empty) (kindAt rows m) (fieldAt rows m 1) (naturalAt rows m 1) (naturalAt rows m 2) (naturalAt rows m 3)
           (λ q. refl) (λ q. refl) (λ q. refl) (λ q. refl) (λ q. refl) (λ q. refl) (λ q. refl) (λ q. refl) (λ q. refl)
-          (λ q. refl) (λ q. refl) (λ q. refl) (λ q. refl) (λ q. refl)
+          (λ q. refl) (λ q. refl) (λ q. refl) (λ q. refl) (λ q. refl) (λ q. refl)
           (λ q. absurd (refuted 40 e h refl refl q)) (λ q. absurd (refuted 41 e h refl refl q)) (λ q. absurd (refuted 42 e h refl refl q)) (λ q. refl) refl)
 
       go : Dec (m < rowCount rows) → contentAt rows m .listed ≡ empty

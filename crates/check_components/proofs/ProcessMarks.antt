@@ -1,12 +1,12 @@
 -- What the choices, options, members and the process of a row count for, from what the rows that it refers to do.
-use mathlib.Core.Path.{_≡_, refl, sym, ap, ap₂, _∙_}
-use mathlib.Core.List.{List, [], _∷_, _++_, append-nil, append-assoc}
-use mathlib.Core.Option.{Option, none, some}
+use mathlib.Core.Path.{_≡_, refl, ap, ap₂, _∙_}
+use mathlib.Core.Logic.{_⊎_, inl, inr}
+use mathlib.Core.List.{List, [], _++_, append-nil, append-assoc}
 use Prim.Native.Nat.{ℕ, _<_, _≤_}
 use lib.IntN.{ℤ}
 use Rattle.meaning.specs.Rows.{rowCount, fieldAt, naturalAt, kindAt}
 use Rattle.meaning.specs.Declarations.{variableAt, sourceAt, sinkAt}
-use Rattle.meaning.specs.Tree.{Expr, Target, ChannelInput, Process, Processes, empty, andProcess, assign, input, output, Content, contentOf, contentAt, inputOf}
+use Rattle.meaning.specs.Tree.{empty, assign, input, output, Content, contentOf, contentAt, inputOf}
 use Rattle.meaning.specs.Usage.{standsIn, ofGuard, gather, gatherAll}
 use Rattle.base_layout.specs.Operands.{operandAt}
 use Rattle.base_layout.proofs.Parts.{part-past, higherContent, part-of-kind}
@@ -14,6 +14,10 @@ use Rattle.check_components.specs.Marks.{markExpr, markTarget, markInput
 use Rattle.check_components.specs.Fields.{targetIn, inputIn, outputIn}
 use Rattle.check_components.proofs.Links.{and-member}
 use Rattle.check_components.proofs.RowKinds.{each-kind, above-operand, by-kind}
+
+-- the kinds that have one process, in field b: a WHILE and a block
+abbrev pub Single : ℕ → Type 0
+Single k = (k ≡ 33) ⊎ (k ≡ 35)
 
 module _ (rows : List ℤ) (r : ℕ) where
   -- past the table nothing counts
@@ -56,7 +60,7 @@ module _ (rows : List ℤ) (r : ℕ) where
         by-kind rows r h (λ p. markChoices (p .tests) ≡ [])
         (each-kind (λ x. markChoices (contentOf rows r (higherContent rows r) x .tests) ≡ []) (kindAt rows r) (fieldAt rows r 1) (naturalAt rows r 1) (naturalAt rows r 2) (naturalAt rows r 3)
         (λ q. refl) (λ q. refl) (λ q. refl) (λ q. refl) (λ q. refl) (λ q. refl) (λ q. refl) (λ q. refl) (λ q. refl)
-        (λ q. refl) (λ q. refl) (λ q. refl) (λ q. refl) (λ q. refl) (λ q. refl) (λ q. absurd (n41 q)) (λ q. refl) (λ q. refl) refl)
+        (λ q. refl) (λ q. refl) (λ q. refl) (λ q. refl) (λ q. refl) (λ q. refl) (λ q. refl) (λ q. absurd (n41 q)) (λ q. refl) (λ q. refl) refl)
 
     pub input-marks : kindAt rows r ≡ 23 → ofGuard markInput (contentAt rows r .guard .input) ≡ markInput (inputIn rows r)
     input-marks e = ap (λ (p : Content). ofGuard markInput (p .guard .input)) (part-of-kind rows r 23 h e) ∙ ap markInput of-input-is
@@ -70,7 +74,7 @@ module _ (rows : List ℤ) (r : ℕ) where
         by-kind rows r h (λ p. ofGuard markInput (p .guard .input) ≡ [])
         (each-kind (λ x. ofGuard markInput (contentOf rows r (higherContent rows r) x .guard .input) ≡ []) (kindAt rows r) (fieldAt rows r 1) (naturalAt rows r 1) (naturalAt rows r 2) (naturalAt rows r 3)
         (λ q. refl) (λ q. refl) (λ q. refl) (λ q. refl) (λ q. refl) (λ q. refl) (λ q. refl) (λ q. absurd (n23 q)) (λ q. refl)
-        (λ q. refl) (λ q. refl) (λ q. refl) (λ q. refl) (λ q. refl) (λ q. refl) (λ q. refl) (λ q. refl) (λ q. absurd (n43 q)) refl)
+        (λ q. refl) (λ q. refl) (λ q. refl) (λ q. refl) (λ q. refl) (λ q. refl) (λ q. refl) (λ q. refl) (λ q. refl) (λ q. absurd (n43 q)) refl)
 
     pub boolean-marks : kindAt rows r ≡ 43 → {b : ℕ} → b ≡ operandAt rows r 1 → markExpr (contentAt rows r .guard .boolean) ≡ markExpr (contentAt rows b .expr)
     boolean-marks e p = ap (λ (p : Content). markExpr (p .guard .boolean)) (part-of-kind rows r 43 h e) ∙ ap (λ (p : Content). markExpr (p .expr)) (above-operand rows r 1 p)
@@ -81,7 +85,7 @@ module _ (rows : List ℤ) (r : ℕ) where
         by-kind rows r h (λ p. markExpr (p .guard .boolean) ≡ [])
         (each-kind (λ x. markExpr (contentOf rows r (higherContent rows r) x .guard .boolean) ≡ []) (kindAt rows r) (fieldAt rows r 1) (naturalAt rows r 1) (naturalAt rows r 2) (naturalAt rows r 3)
         (λ q. refl) (λ q. refl) (λ q. refl) (λ q. refl) (λ q. refl) (λ q. refl) (λ q. refl) (λ q. refl) (λ q. refl)
-        (λ q. refl) (λ q. refl) (λ q. refl) (λ q. refl) (λ q. refl) (λ q. refl) (λ q. refl) (λ q. refl) (λ q. absurd (n43 q)) refl)
+        (λ q. refl) (λ q. refl) (λ q. refl) (λ q. refl) (λ q. refl) (λ q. refl) (λ q. refl) (λ q. refl) (λ q. refl) (λ q. absurd (n43 q)) refl)
 
     pub option-marks : kindAt rows r ≡ 42 → {b c : ℕ} → b ≡ operandAt rows r 2 → c ≡ operandAt rows r 3
         → markOptions (contentAt rows r .options) ≡ markExpr (contentAt rows c .guard .boolean) ++ (ofGuard markInput (contentAt rows c .guard .input) ++ markOptions (contentAt rows b .options))
@@ -97,7 +101,7 @@ module _ (rows : List ℤ) (r : ℕ) where
         by-kind rows r h (λ p. markOptions (p .options) ≡ [])
         (each-kind (λ x. markOptions (contentOf rows r (higherContent rows r) x .options) ≡ []) (kindAt rows r) (fieldAt rows r 1) (naturalAt rows r 1) (naturalAt rows r 2) (naturalAt rows r 3)
         (λ q. refl) (λ q. refl) (λ q. refl) (λ q. refl) (λ q. refl) (λ q. refl) (λ q. refl) (λ q. refl) (λ q. refl)
-        (λ q. refl) (λ q. refl) (λ q. refl) (λ q. refl) (λ q. refl) (λ q. refl) (λ q. refl) (λ q. absurd (n42 q)) (λ q. refl) refl)
+        (λ q. refl) (λ q. refl) (λ q. refl) (λ q. refl) (λ q. refl) (λ q. refl) (λ q. refl) (λ q. refl) (λ q. absurd (n42 q)) (λ q. refl) refl)
 
     -- what a process does by itself
     pub assign-marks : kindAt rows r ≡ 22 → {c : ℕ} → c ≡ operandAt rows r 3 → ownMarks (contentAt rows r .process) ≡ markTarget (targetIn rows r) ++ markExpr (contentAt rows c .expr)
@@ -134,7 +138,7 @@ module _ (rows : List ℤ) (r : ℕ) where
         by-kind rows r h (λ p. ownMarks (p .process) ≡ [])
         (each-kind (λ x. ownMarks (contentOf rows r (higherContent rows r) x .process) ≡ []) (kindAt rows r) (fieldAt rows r 1) (naturalAt rows r 1) (naturalAt rows r 2) (naturalAt rows r 3)
         (λ q. refl) (λ q. refl) (λ q. refl) (λ q. refl) (λ q. refl) (λ q. refl) (λ q. absurd (n22 q)) (λ q. absurd (n23 q)) (λ q. absurd (n24 q))
-        (λ q. refl) (λ q. refl) (λ q. absurd (n32 q)) (λ q. absurd (n33 q)) (λ q. absurd (n34 q)) (λ q. refl) (λ q. refl) (λ q. refl) (λ q. refl) refl)
+        (λ q. refl) (λ q. refl) (λ q. absurd (n32 q)) (λ q. absurd (n33 q)) (λ q. absurd (n34 q)) (λ q. refl) (λ q. refl) (λ q. refl) (λ q. refl) (λ q. refl) refl)
 
     -- a process with its members
     pub all-of-seq : kindAt rows r ≡ 30 → {a : ℕ} → a ≡ operandAt rows r 1 → allMarks (contentAt rows r .process) ≡ ownMarks (contentAt rows r .process) ++ gatherAll (contentAt rows a .listed) marks
@@ -153,17 +157,25 @@ module _ (rows : List ℤ) (r : ℕ) where
     unfolding gather
     all-of-alt e p = rw (part-of-kind rows r 34 h e, above-operand rows r 1 p)
 
-    pub all-of-while : kindAt rows r ≡ 33 → {b : ℕ} → b ≡ operandAt rows r 2 → allMarks (contentAt rows r .process) ≡ ownMarks (contentAt rows r .process) ++ allMarks (contentAt rows b .process)
+    all-of-while : kindAt rows r ≡ 33 → {b : ℕ} → b ≡ operandAt rows r 2 → allMarks (contentAt rows r .process) ≡ ownMarks (contentAt rows r .process) ++ allMarks (contentAt rows b .process)
     unfolding gather gatherAll
     all-of-while e {b} p = rw (part-of-kind rows r 33 h e, above-operand rows r 2 p, and-member (contentAt rows b .process) empty, append-nil (allMarks (contentAt rows b .process)))
+
+    all-of-block : kindAt rows r ≡ 35 → {b : ℕ} → b ≡ operandAt rows r 2 → allMarks (contentAt rows r .process) ≡ ownMarks (contentAt rows r .process) ++ allMarks (contentAt rows b .process)
+    unfolding gather gatherAll
+    all-of-block e {b} p = rw (part-of-kind rows r 35 h e, above-operand rows r 2 p, and-member (contentAt rows b .process) empty, append-nil (allMarks (contentAt rows b .process)))
+
+    pub all-of-single : Single (kindAt rows r) → {b : ℕ} → b ≡ operandAt rows r 2 → allMarks (contentAt rows r .process) ≡ ownMarks (contentAt rows r .process) ++ allMarks (contentAt rows b .process)
+    all-of-single (inl e) p = all-of-while e p
+    all-of-single (inr e) p = all-of-block e p
 
     alone : (l : List ℕ) → l ++ [] ≡ l
     alone l = append-nil l
 
-    pub all-alone : (kindAt rows r ≡ 30 → ⊥) → (kindAt rows r ≡ 31 → ⊥) → (kindAt rows r ≡ 32 → ⊥) → (kindAt rows r ≡ 33 → ⊥) → (kindAt rows r ≡ 34 → ⊥) → allMarks (contentAt rows r .process) ≡ ownMarks (contentAt rows r .process)
+    pub all-alone : (kindAt rows r ≡ 30 → ⊥) → (kindAt rows r ≡ 31 → ⊥) → (kindAt rows r ≡ 32 → ⊥) → (Single (kindAt rows r) → ⊥) → (kindAt rows r ≡ 34 → ⊥) → allMarks (contentAt rows r .process) ≡ ownMarks (contentAt rows r .process)
     unfolding gather gatherAll
-    all-alone n30 n31 n32 n33 n34 =
+    all-alone n30 n31 n32 n n34 =
         by-kind rows r h (λ p. allMarks (p .process) ≡ ownMarks (p .process))
         (each-kind (λ x. allMarks (contentOf rows r (higherContent rows r) x .process) ≡ ownMarks (contentOf rows r (higherContent rows r) x .process)) (kindAt rows r) (fieldAt rows r 1) (naturalAt rows r 1) (naturalAt rows r 2) (naturalAt rows r 3)
         (λ q. refl) (λ q. refl) (λ q. refl) (λ q. refl) (λ q. alone _) (λ q. alone _) (λ q. alone _) (λ q. alone _) (λ q. alone _)
-        (λ q. absurd (n30 q)) (λ q. absurd (n31 q)) (λ q. absurd (n32 q)) (λ q. absurd (n33 q)) (λ q. absurd (n34 q)) (λ q. refl) (λ q. refl) (λ q. refl) (λ q. refl) refl)
+        (λ q. absurd (n30 q)) (λ q. absurd (n31 q)) (λ q. absurd (n32 q)) (λ q. absurd (n (inl q))) (λ q. absurd (n34 q)) (λ q. absurd (n (inr q))) (λ q. refl) (λ q. refl) (λ q. refl) (λ q. refl) refl)

@@ -1,17 +1,17 @@
 -- What a process counts for in one sort, from what its choices, options and members do.
 use mathlib.Core.Path.{_≡_, refl, sym, ap, ap₂, _∙_}
-use mathlib.Core.Bool.{Bool, true, false, _||_}
+use mathlib.Core.Bool.{Bool, false, _||_}
 use mathlib.Core.List.{List, [], _∷_, _++_}
 use mathlib.Core.Option.{Option, none, some}
-use Prim.Native.Nat.{ℕ, _+_, _*_, _<_}
+use Prim.Native.Nat.{ℕ}
 use native.Mathlib.Omega.{arith}
 use Rattle.meaning.specs.Basics.{anyPasses, among}
-use Rattle.meaning.specs.Tree.{Expr, Target, ChannelInput, IfChoice, AltGuard, AltOption, Action, stop, skip, sequence, parallel, assign, input, output, conditional, loop, alternation, Process, node, Processes, empty, also}
-use Rattle.meaning.specs.Usage.{countsFor, standsIn, standsInChoices, changesBy, usesBy, inputsBy, ofGuard, ofGuards, standsInGuards, changes, uses, inputElements, outputElements, gather, gatherAll}
+use Rattle.meaning.specs.Tree.{Expr, Target, ChannelInput, IfChoice, AltGuard, AltOption, Action, stop, skip, sequence, parallel, assign, input, output, conditional, loop, alternation, block, Process, node, Processes, empty, also}
+use Rattle.meaning.specs.Usage.{countsFor, standsIn, standsInChoices, usesBy, ofGuard, ofGuards, standsInGuards, gather, gatherAll}
 use Rattle.base_sets.specs.Sets.{inSort}
 use Rattle.check_components.specs.Marks.{targetCells, markExpr, markTarget, markInput, markChoices, markGuard, markOptions, marks}
 use Rattle.base_sets.proofs.Bools.{or-assoc, or-none, or-turn, among-append, sort-same}
-use Rattle.check_components.proofs.Sorts.{Sort, changed, used, inputFrom, outputTo, code, listOf, exprIn, inputLists, marked, none-in, expr-sort, two, target-sort, input-lists}
+use Rattle.check_components.proofs.Sorts.{Sort, changed, used, inputFrom, outputTo, listOf, exprIn, inputLists, marked, none-in, expr-sort, two, target-sort, input-lists}
 
 module _ (x : ℕ) where
   -- a sort of which no expression has a number
@@ -109,6 +109,7 @@ module _ (x : ℕ) where
   marks-sort changed (conditional ts) = choices-bare changed (λ e. refl) ts
   marks-sort changed (loop e b) = expr-sort x changed e
   marks-sort changed (alternation bs) = options-bare changed (λ e. refl) bs
+  marks-sort changed (block v) = refl
   marks-sort used stop = refl
   marks-sort used skip = refl
   marks-sort used sequence = refl
@@ -125,6 +126,7 @@ module _ (x : ℕ) where
   marks-sort used (conditional ts) = choices-used ts
   marks-sort used (loop e b) = expr-sort x used e
   marks-sort used (alternation bs) = options-used bs
+  marks-sort used (block v) = refl
   marks-sort inputFrom stop = refl
   marks-sort inputFrom skip = refl
   marks-sort inputFrom sequence = refl
@@ -135,6 +137,7 @@ module _ (x : ℕ) where
   marks-sort inputFrom (conditional ts) = choices-bare inputFrom (λ e. refl) ts
   marks-sort inputFrom (loop e b) = expr-sort x inputFrom e
   marks-sort inputFrom (alternation bs) = options-bare inputFrom (λ e. refl) bs
+  marks-sort inputFrom (block v) = refl
   marks-sort outputTo stop = refl
   marks-sort outputTo skip = refl
   marks-sort outputTo sequence = refl
@@ -145,6 +148,7 @@ module _ (x : ℕ) where
   marks-sort outputTo (conditional ts) = choices-bare outputTo (λ e. refl) ts
   marks-sort outputTo (loop e b) = expr-sort x outputTo e
   marks-sort outputTo (alternation bs) = options-bare outputTo (λ e. refl) bs ∙ no-outputs bs
+  marks-sort outputTo (block v) = refl
 
   -- a process with all beneath it
   mutual

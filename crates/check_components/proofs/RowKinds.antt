@@ -7,7 +7,7 @@ use lib.IntN.{ℤ}
 use lib.Dec.{eqb}
 use borrow.Author.Tests.{eqb-true}
 use Rattle.meaning.specs.declared.Node.{Node}
-use Rattle.meaning.specs.declared.Node.the-variants.{Literal, Element, Monadic, Dyadic, Stop, Skip, Assignment, Input, Output, Seq, Par, If, While, Alt, Member, Choice, OptionRow, Guard, Other}
+use Rattle.meaning.specs.declared.Node.the-variants.{Literal, Element, Monadic, Dyadic, Stop, Skip, Assignment, Input, Output, Seq, Par, If, While, Alt, Block, Member, Choice, OptionRow, Guard, Other}
 use Rattle.meaning.specs.Basics.{ifElse}
 use Rattle.meaning.specs.Rows.{rowCount, fieldAt, naturalAt, kindAt}
 use Rattle.meaning.specs.Tree.{Content, contentOf, contentAt}
@@ -36,13 +36,14 @@ module _ (P : Node → Type 0) where
       → (k ≡ 32 → P (If a))
       → (k ≡ 33 → P (While a b))
       → (k ≡ 34 → P (Alt a))
+      → (k ≡ 35 → P (Block a b))
       → (k ≡ 40 → P (Member a b))
       → (k ≡ 41 → P (Choice a b c))
       → (k ≡ 42 → P (OptionRow a b c))
       → (k ≡ 43 → P (Guard a b))
       → P Other
       → P (nodeOf k z a b c)
-  each-kind k z a b c p10 p11 p12 p13 p20 p21 p22 p23 p24 p30 p31 p32 p33 p34 p40 p41 p42 p43 other =
+  each-kind k z a b c p10 p11 p12 p13 p20 p21 p22 p23 p24 p30 p31 p32 p33 p34 p35 p40 p41 p42 p43 other =
       (choose (Literal z) _ (eqb k 10) (λ e. p10 (eqb-true k 10 e))
       (choose (Element a b) _ (eqb k 11) (λ e. p11 (eqb-true k 11 e))
       (choose (Monadic a b) _ (eqb k 12) (λ e. p12 (eqb-true k 12 e))
@@ -57,11 +58,12 @@ module _ (P : Node → Type 0) where
       (choose (If a) _ (eqb k 32) (λ e. p32 (eqb-true k 32 e))
       (choose (While a b) _ (eqb k 33) (λ e. p33 (eqb-true k 33 e))
       (choose (Alt a) _ (eqb k 34) (λ e. p34 (eqb-true k 34 e))
+      (choose (Block a b) _ (eqb k 35) (λ e. p35 (eqb-true k 35 e))
       (choose (Member a b) _ (eqb k 40) (λ e. p40 (eqb-true k 40 e))
       (choose (Choice a b c) _ (eqb k 41) (λ e. p41 (eqb-true k 41 e))
       (choose (OptionRow a b c) _ (eqb k 42) (λ e. p42 (eqb-true k 42 e))
       (choose (Guard a b) _ (eqb k 43) (λ e. p43 (eqb-true k 43 e))
-      other))))))))))))))))))
+      other)))))))))))))))))))
 
 module _ (rows : List ℤ) (r : ℕ) where
   -- what row r sees at a field is what stands at the field's operand

@@ -2,7 +2,7 @@
 use mathlib.Core.Option.{Option, none, some}
 use mathlib.Core.List.{List, [], _∷_, _++_}
 use Prim.Native.Nat.{ℕ}
-use Rattle.meaning.specs.Tree.{Expr, Target, ChannelInput, IfChoice, AltGuard, AltOption, Action, stop, skip, sequence, parallel, assign, input, output, conditional, loop, alternation, Process, node}
+use Rattle.meaning.specs.Tree.{Expr, Target, ChannelInput, IfChoice, AltGuard, AltOption, Action, stop, skip, sequence, parallel, assign, input, output, conditional, loop, alternation, block, Process, node}
 use Rattle.meaning.specs.Usage.{countsFor, standsIn, inputsBy, ofGuard, gather}
 use Rattle.base_sets.specs.Sets.{inSort}
 
@@ -42,6 +42,7 @@ marks (output c e f) = inSort 3 (countsFor (c .first) (c .size) e) ++ (markExpr 
 marks (conditional ts) = markChoices ts
 marks (loop e b) = markExpr e
 marks (alternation bs) = markOptions bs
+marks (block v) = []
 
 -- of a process, if there is one: what its own action counts for, and what all of it does
 abbrev pub ownMarks : Option Process → List ℕ

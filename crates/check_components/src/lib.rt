@@ -257,7 +257,7 @@ pub fn walk_process<'a>(rows: &'a [i32], names: &'a [u16], r: usize, sets: &mut 
         32 => {
             walk_members(rows, names, operand(rows, r, 1), sets);
         }
-        33 => {
+        33 | 35 => {
             walk_process(rows, names, operand(rows, r, 2), sets);
         }
         34 => {

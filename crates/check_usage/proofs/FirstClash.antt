@@ -11,7 +11,7 @@ use Rattle.meaning.specs.Rows.{rowCount, fieldAt, naturalAt, kindAt}
 use Rattle.meaning.specs.Basics.{ifElse, anyPasses}
 use Rattle.meaning.specs.Nodes.{nodeAt}
 use Rattle.meaning.specs.HigherRows.{atRow}
-use Rattle.meaning.specs.Tree.{Action, stop, skip, sequence, parallel, assign, input, output, conditional, loop, alternation, Process, node, Processes, Content, noContent, contentOf, contentAt, contents}
+use Rattle.meaning.specs.Tree.{Action, stop, skip, sequence, parallel, assign, input, output, conditional, loop, alternation, block, Process, node, Processes, Content, noContent, contentOf, contentAt, contents}
 use Rattle.meaning.specs.Usage.{Pair, pairs, Comparison, ofPar, comparisonsIn, comparisonsOf, comparisons, clashes, firstClash, refusalOf, usageFault}
 use Rattle.meaning.proofs.HigherRows.{lastRows-length}
 use Rattle.base_layout.proofs.Parts.{higherContent}
@@ -81,6 +81,7 @@ module _ (number : ℕ) where
   found-par r (conditional ts) ms e = absurd (false≢true e)
   found-par r (loop x b) ms e = absurd (false≢true e)
   found-par r (alternation bs) ms e = absurd (false≢true e)
+  found-par r (block v) ms e = absurd (false≢true e)
 
   found-process : (r : ℕ) (o : Option Process) → StandsAt r o → found (comparisonsIn number o) ≡ atRowOf r (clashing o)
   unfolding anyPasses
@@ -119,7 +120,7 @@ module _ (number : ℕ) where
         by-kind rows r h (λ p. StandsAt r (p .process))
         (each-kind (λ x. StandsAt r (contentOf rows r (higherContent rows r) x .process)) (kindAt rows r) (fieldAt rows r 1) (naturalAt rows r 1) (naturalAt rows r 2) (naturalAt rows r 3)
         (λ q. tt) (λ q. tt) (λ q. tt) (λ q. tt) (λ q. refl) (λ q. refl) (λ q. refl) (λ q. refl) (λ q. refl)
-        (λ q. refl) (λ q. refl) (λ q. refl) (λ q. refl) (λ q. refl) (λ q. tt) (λ q. tt) (λ q. tt) (λ q. tt) tt)
+        (λ q. refl) (λ q. refl) (λ q. refl) (λ q. refl) (λ q. refl) (λ q. refl) (λ q. tt) (λ q. tt) (λ q. tt) (λ q. tt) tt)
 
     row-count : length (contents rows) ≡ rowCount rows
     unfolding contents

@@ -1,19 +1,18 @@
 -- Members compared one after another, as the loop over links does it.
 use mathlib.Core.Path.{_≡_, refl, sym, ap, ap₂, _∙_}
-use mathlib.Core.Bool.{Bool, true, false, not, _||_}
+use mathlib.Core.Bool.{Bool, true, false}
 use mathlib.Core.List.{List, [], _∷_}
 use mathlib.Core.Option.{Option, none, some}
 use Prim.Native.Nat.{ℕ, zero, suc, _<_}
 use lib.IntN.{ℤ}
 use lib.ListN.{replicate}
-use lib.Bits.{bitAnd, bitOr, and-zero-l, and-zero-r, or-zero-r}
+use lib.Bits.{and-zero-l, and-zero-r, or-zero-r}
 use Rattle.meaning.specs.Rows.{rowCount, fieldAt, naturalAt, kindAt}
-use Rattle.meaning.specs.Tree.{Process, Processes, empty, also, andProcess, Content, contentOf, contentAt}
-use Rattle.meaning.specs.Usage.{gather}
+use Rattle.meaning.specs.Tree.{Process, Processes, andProcess, Content, contentOf, contentAt}
 use Rattle.base_layout.specs.Operands.{operandAt}
 use Rattle.check_usage.specs.declared.clash.Clash.{Clash}
 use Rattle.base_sets.specs.Sets.{withAll, setUnion, inCommon, noNumbers}
-use Rattle.check_components.specs.Marks.{marks, allMarks}
+use Rattle.check_components.specs.Marks.{allMarks}
 use Rattle.check_components.specs.Fields.{isLink}
 use Rattle.check_usage.specs.Clashes.{noClash, bothOf, clashWith, clashesFrom, clashesOf, clashesAt}
 use Rattle.base_sets.proofs.Bools.{or-assoc, or-none}
@@ -70,4 +69,4 @@ module _ (rows : List ℤ) (r : ℕ) (h : r < rowCount rows) where
       by-kind rows r h (λ p. clashesOf (p .process) ≡ noClash)
       (each-kind (λ x. clashesOf (contentOf rows r (higherContent rows r) x .process) ≡ noClash) (kindAt rows r) (fieldAt rows r 1) (naturalAt rows r 1) (naturalAt rows r 2) (naturalAt rows r 3)
       (λ q. refl) (λ q. refl) (λ q. refl) (λ q. refl) (λ q. refl) (λ q. refl) (λ q. refl) (λ q. refl) (λ q. refl)
-      (λ q. refl) (λ q. absurd (n q)) (λ q. refl) (λ q. refl) (λ q. refl) (λ q. refl) (λ q. refl) (λ q. refl) (λ q. refl) refl)
+      (λ q. refl) (λ q. absurd (n q)) (λ q. refl) (λ q. refl) (λ q. refl) (λ q. refl) (λ q. refl) (λ q. refl) (λ q. refl) (λ q. refl) refl)

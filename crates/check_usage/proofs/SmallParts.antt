@@ -13,7 +13,7 @@ use borrow.Author.Tests.{ltb-true}
 use Rattle.meaning.specs.Rows.{rowCount, fieldAt, naturalAt, kindAt}
 use Rattle.meaning.specs.Declarations.{declarations, Variable, variableAt, sourceAt, sinkAt}
 use Rattle.meaning.specs.Faults.{WithinLimits}
-use Rattle.meaning.specs.Tree.{Expr, literal, element, monadic, given, dyadic, noExpr, Target, ChannelInput, IfChoice, AltGuard, AltOption, Action, stop, skip, sequence, parallel, assign, input, output, conditional, loop, alternation, Process, node, Processes, empty, andProcess, Content, noContent, operation, contentOf, contentAt, ofExpr, ofElement, ofProcess, ofGuarded, ofGuardRow, ofLink}
+use Rattle.meaning.specs.Tree.{Expr, literal, element, monadic, given, dyadic, noExpr, Target, ChannelInput, IfChoice, AltGuard, AltOption, Action, stop, skip, sequence, parallel, assign, input, output, conditional, loop, alternation, block, Process, node, Processes, empty, andProcess, Content, noContent, operation, contentOf, contentAt, ofExpr, ofElement, ofProcess, ofGuarded, ofGuardRow, ofLink}
 use Rattle.meaning.specs.Usage.{numbersFrom, countsFor, standsIn, ofGuard, gather, gatherAll}
 use Rattle.base_layout.proofs.Parts.{part-past, higherContent}
 use Rattle.base_sets.specs.Sets.{inSort}
@@ -149,6 +149,10 @@ module _ (rows : List ℤ) (limits : (r : ℕ) → r < declarations rows → Wit
   unfolding marks
   selecting bs h = h
 
+  holding : (v : Variable) → Small (marks (block v))
+  unfolding marks
+  holding v = none-small
+
   choice-small : (t : IfChoice) (l : List IfChoice) → Small (markExpr (t .boolean)) → Small (markChoices l) → Small (markChoices (t ∷ l))
   unfolding markChoices
   choice-small t l h g = small-append _ _ h g
@@ -183,6 +187,7 @@ module _ (rows : List ℤ) (limits : (r : ℕ) → r < declarations rows → Wit
         (λ q. from-process _ r _ (choosing _ (at a .tests)) (at a .listed))
         (λ q. from-process _ r _ (looping _ b (at a .expr)) (member-small (higherContent rows r b .process) empty (at b .process) no-members))
         (λ q. from-process _ r _ (selecting _ (at a .options)) (at a .listed))
+        (λ q. from-process _ r _ (holding _) (member-small (higherContent rows r b .process) empty (at b .process) no-members))
         (λ q. from-link _ [] [] (member-small (higherContent rows r a .process) _ (at a .process) (at b .listed)) no-choices no-options)
         (λ q. from-link _ _ [] (member-small (higherContent rows r a .process) _ (at a .process) (at b .listed)) (choice-small _ _ (at c .expr) (at b .tests)) no-options)
         (λ q. from-link _ [] _ (member-small (higherContent rows r a .process) _ (at a .process) (at b .listed)) no-choices (option-small _ _ (at c .boolean) (at c .input) (at b .options)))

@@ -14,7 +14,7 @@ use Rattle.meaning.specs.Basics.{ifElse, anyPasses}
 use Rattle.meaning.specs.Declarations.{declarations}
 use Rattle.meaning.specs.Verdict.{limitFault}
 use Rattle.meaning.specs.Faults.{WithinLimits}
-use Rattle.meaning.specs.Tree.{Action, stop, skip, sequence, parallel, assign, input, output, conditional, loop, alternation, Process, node, Processes, contentAt}
+use Rattle.meaning.specs.Tree.{Action, stop, skip, sequence, parallel, assign, input, output, conditional, loop, alternation, block, Process, node, Processes, contentAt}
 use Rattle.meaning.specs.Usage.{gather, gatherAll, cellClash, inputClash, outputClash, clashes, usageFault}
 use Rattle.meaning.proofs.StageLaws.{limit-none}
 use Rattle.check_usage.specs.declared.clash.Clash.{Clash}
@@ -51,6 +51,7 @@ by-action (output c e f) r ms h = refl
 by-action (conditional ts) r ms h = refl
 by-action (loop e b) r ms h = refl
 by-action (alternation bs) r ms h = refl
+by-action (block v) r ms h = refl
 
 of-process : (o : Option Process) → Small (allMarks o) → clashesOf o ≡ allThree o
 unfolding anyPasses

@@ -6,7 +6,7 @@ use Prim.Native.Nat.{ℕ}
 use lib.IntN.{ℤ}
 use lib.Dec.{eqb}
 use Rattle.meaning.specs.Basics.{ifElse}
-use Rattle.meaning.specs.Tree.{Action, stop, skip, sequence, parallel, assign, input, output, conditional, loop, alternation, Process, node, Processes, empty, also, contentAt}
+use Rattle.meaning.specs.Tree.{Action, stop, skip, sequence, parallel, assign, input, output, conditional, loop, alternation, block, Process, node, Processes, empty, also, contentAt}
 use Rattle.meaning.specs.Usage.{gather}
 use Rattle.base_sets.specs.Sets.{withAll, setUnion, inCommon, noNumbers}
 use Rattle.check_components.specs.Marks.{marks}
@@ -46,6 +46,7 @@ clashesBy (output c e f) ms = noClash
 clashesBy (conditional ts) ms = noClash
 clashesBy (loop e b) ms = noClash
 clashesBy (alternation bs) ms = noClash
+clashesBy (block v) ms = noClash
 
 abbrev pub clashesOf : Option Process → Clash
 clashesOf none = noClash

@@ -1,17 +1,23 @@
-// The checker: the verdict on a table, lent as numbers or as bytes. Refusals 2 to 9.
+// The checker: the verdict on a table, lent as numbers or as bytes. Refusals 2 to 9 and 14.
 ghost use mathlib.Core.Path.{_≡_};
 ghost use Rattle.meaning.specs.Answers.{check, checkBytes, verdictOf};
 use meaning::Verdict;
 use read_table::TableRead;
 
-// The verdict on rows lent as numbers: the stages 3 to 9, in their order.
+// The verdict on rows lent as numbers: the stages 3 to 6, 14, and 7 to 9.
 pub fn check_rows(rows: &[i32]) -> Verdict
     ensures { λ v. ⌜ v ≡ verdictOf (check (now (rows .entry))) ⌝ }
 {
     let form = check_form::check_form(rows);
     match form {
         Verdict::Rejected(number, row) => Verdict::Rejected(number, row),
-        Verdict::Accepted => check_usage::usage_fault(rows),
+        Verdict::Accepted => {
+            let blocks = check_blocks::block_fault(rows);
+            match blocks {
+                Verdict::Rejected(number, place) => Verdict::Rejected(number, place),
+                Verdict::Accepted => check_usage::usage_fault(rows),
+            }
+        }
     }
 }
 

@@ -1,21 +1,23 @@
--- A process that starts from idle rows lists the rows that come to work by it: those that the table tells, no more than it has rows, and none where it ends at once.
+-- A process that starts from idle rows lists the rows that come to work by it and the blocks that start: those that the table tells, no more than it has rows, and no
+-- row where it ends at once.
 use mathlib.Core.Path.{_≡_, refl, sym, ap, subst, _∙_}
 use mathlib.Core.Bool.{Bool, true, false}
 use mathlib.Core.Logic.{⊎-elim}
-use mathlib.Core.List.{List, [], _∷_, _++_, append-nil, List·Memᴰ, List·Memᴰ·head, List·Memᴰ·tail, List·Memᴰ·not-nil, List·Memᴰ·append-cases, List·Memᴰ·eq-of-singleton, Memᴰ·append-left, Memᴰ·append-right, Memᴰ·cast}
+use mathlib.Core.List.{List, [], _∷_, _++_, List·Memᴰ, List·Memᴰ·head, List·Memᴰ·tail, List·Memᴰ·not-nil, List·Memᴰ·append-cases, List·Memᴰ·eq-of-singleton, Memᴰ·append-left, Memᴰ·append-right, Memᴰ·cast}
 use Prim.Native.Nat.{ℕ, zero, suc, _<_, _≤_}
 use native.Mathlib.Omega.{arith}
 use lib.ListN.{length, length-set, length-append}
 use lib.Seq.{getD-set-other}
+use Rattle.meaning.specs.Declarations.{Variable}
 use Rattle.meaning.specs.Tree.{Action, Process, node, Processes, empty, also, rowsIn, rowsBeneath}
 use Rattle.meaning.specs.State.{stateOf}
-use Rattle.meaning.specs.Settle.{Mode, inTurn, together, byStep, mode, isEnded}
+use Rattle.meaning.specs.Settle.{Mode, inTurn, together, byStep, mode, isEnded, localOf}
 use Rattle.agreement.proofs.Again.{Out, Sound, SoundM, Idle}
-use Rattle.machine.specs.Counts.{Kept, stateSet, remain, goNext, startBy, startRow, startMembers}
+use Rattle.machine.specs.Counts.{Kept, stateSet, begins, listBlock, remain, goNext, startBy, startRow, startMembers}
 use Rattle.machine.proofs.Starting.{start-node, start-none, start-also, started}
 use Rattle.machine.proofs.AtOnce.{atOnceBy, endsAtOnce, allEndAtOnce, at-once}
-use Rattle.machine.proofs.ComeToWork.{nextWork, workBy, startsWork, memberWork}
-use Rattle.machine.proofs.CameLists.{Room, Lists, lists-one, lists-none, lists-both, room-after, room-less}
+use Rattle.machine.proofs.ComeToWork.{nextWork, workBy, startsWork, memberWork, Block, rowsOf, ownBlock, nextBlocks, blocksBy, startsBlocks, memberBlocks}
+use Rattle.machine.proofs.CameLists.{Room, Lists, lists-one, lists-block, lists-none, lists-both, room-after, room-less}
 use Rattle.machine.specs.Came.{Distinct}
 use Rattle.machine.proofs.FewRows.{distinct-both}
 use Rattle.machine.proofs.LiveRows.{both}
@@ -100,47 +102,103 @@ mutual
       distinct-both (startsWork p) (nextWork all (endsAtOnce p) l) (starts-distinct p n (d .0)) (next-distinct all (endsAtOnce p) l (members-distinct ms n (d .1) all))
       (λ y q m. d .2 y (starts-in p y q) (members-in ms all y (next-in all (endsAtOnce p) l y m)))
 
--- ---- the rows that the table tells are listed
+-- ---- blocks: their rows, and no more than the process has rows
+
+pub rows-append : (x y : List Block) → rowsOf (x ++ y) ≡ rowsOf x ++ rowsOf y
+rows-append [] y = refl
+rows-append (b ∷ x) y = ap (λ (l : List ℕ). b .row ∷ l) (rows-append x y)
+
+pub rows-length : (x : List Block) → length (rowsOf x) ≡ length x
+rows-length [] = refl
+rows-length (b ∷ x) = ap suc (rows-length x)
+
+own-short : (vs : List Variable) (r : ℕ) → length (ownBlock vs r) ≤ 1
+own-short [] r = omega arith
+own-short (v ∷ vs) r = omega arith
+
+blocks-short : (m : Mode) (c : ℕ) (f : Bool → List Block) → ((all : Bool) → length (f all) ≤ c) → length (blocksBy m f) ≤ c
+blocks-short inTurn c f h = h false
+blocks-short together c f h = h true
+blocks-short byStep c f h = omega arith
+
+next-few : (all b : Bool) (l : List Block) → length (nextBlocks all b l) ≤ length l
+next-few all true l = omega arith
+next-few true false l = omega arith
+next-few false false l = omega arith
+
+mutual
+  pub starts-few : (p : Process) → length (startsBlocks p) ≤ length (rowsIn p)
+  starts-few (node a r ms) =
+      let b = blocksBy (mode a) (λ all. memberBlocks ms all) in
+      omega (arith, length-append (ownBlock (localOf a) r) b, own-short (localOf a) r, blocks-short (mode a) (length (rowsBeneath ms)) (λ all. memberBlocks ms all) (λ all. members-few ms all))
+
+  pub members-few : (ms : Processes) (all : Bool) → length (memberBlocks ms all) ≤ length (rowsBeneath ms)
+  members-few empty all = omega arith
+  members-few (also p ms) all =
+      let next = nextBlocks all (endsAtOnce p) (memberBlocks ms all) in
+      omega (arith, length-append (startsBlocks p) next, length-append (rowsIn p) (rowsBeneath ms), starts-few p, members-few ms all, next-few all (endsAtOnce p) (memberBlocks ms all))
+
+-- ---- the rows and the blocks that the table tells are listed
 
 pub remain-came : (r c : ℕ) (k : Kept) → remain r c k .came ≡ k .came
 remain-came r zero k = refl
 remain-came r (suc c) k = refl
 
-module _ (n : ℕ) where
-  -- after a member that has started, which listed v
-  member-came : (all b : Bool) (c : ℕ) (v w : List ℕ) (k j : Kept) (g : ℕ → Kept) → Lists v (k .came) (j .came) → Room (length (v ++ nextWork all b w)) (k .came) → ((c : ℕ) → Room (length w) (j .came) → Lists w (j .came) (g c .came))
-      → Lists (v ++ nextWork all b w) (k .came) (goNext all b c g j .came)
-  member-came all true c v w k j g L R M = lists-both L (M c (room-after (length w) L (room-less _ _ (k .came) (omega (arith, length-append v w)) R)))
-  member-came true false c v w k j g L R M = lists-both L (M (suc c) (room-after (length w) L (room-less _ _ (k .came) (omega (arith, length-append v w)) R)))
-  member-came false false c v w k j g L R M = subst (λ (l : List ℕ). Lists l (k .came) (j .came)) (sym (append-nil v)) L
+-- the lists of c have the rows w and the blocks u more than those of l, if there is room
+abbrev pub Gets : List ℕ → List Block → List ℕ → List ℕ → Type 0
+Gets w u l c = Room (length w) (length u) l → Lists w (rowsOf u) l c
 
-  node-came : (a : Action) (r : ℕ) (ms : Processes) (k : Kept) → ((all : Bool) → Room (length (memberWork ms all)) (k .came) → Lists (memberWork ms all) (k .came) (startMembers ms all r 0 (stateSet r 1 k) .came)) → (m : Mode)
-      → Room (length (workBy m r (λ all. memberWork ms all))) (k .came)
-      → Lists (workBy m r (λ all. memberWork ms all)) (k .came) (startBy m r (λ all j. startMembers ms all r 0 j) (stateSet r 1 k) .came)
-  node-came a r ms k M inTurn R = M false R
-  node-came a r ms k M together R = M true R
-  node-came a r ms k M byStep R = lists-one r (k .came) R
+-- one after the other
+pub gets-both : (v w : List ℕ) (x y : List Block) {k l c : List ℕ} → Gets v x k l → Gets w y l c → Gets (v ++ w) (x ++ y) k c
+gets-both v w x y {k} {l} {c} f g R =
+    let e = length-append v w in
+    let h = length-append x y in
+    let L = f (room-less (omega arith) (omega arith) R) in
+    let n = rows-length x in
+    let M = g (room-after (length w) (length y) L (room-less (omega arith) (omega arith) R)) in
+    subst (λ (z : List ℕ). Lists (v ++ w) z k c) (sym (rows-append x y)) (lists-both L M)
+
+-- a process begins
+begins-listed : (vs : List Variable) (r : ℕ) (l : List ℕ) → Gets [] (ownBlock vs r) l (listBlock vs r l)
+begins-listed [] r l R = lists-none l
+begins-listed (v ∷ vs) r l R = lists-block r l R
+
+module _ (n : ℕ) where
+  -- after a member that has started, which listed v and x
+  member-came : (all b : Bool) (c : ℕ) (v w : List ℕ) (x y : List Block) (k j : Kept) (g : ℕ → Kept) → Gets v x (k .came) (j .came) → ((c : ℕ) → Gets w y (j .came) (g c .came))
+      → Gets (v ++ nextWork all b w) (x ++ nextBlocks all b y) (k .came) (goNext all b c g j .came)
+  member-came all true c v w x y k j g L M = gets-both v w x y L (M c)
+  member-came true false c v w x y k j g L M = gets-both v w x y L (M (suc c))
+  member-came false false c v w x y k j g L M = gets-both v [] x [] L (λ R. lists-none (j .came))
+
+  module _ (a : Action) (r : ℕ) (ms : Processes) (k : Kept) where
+    abbrev began : Kept
+    began = begins a r (stateSet r 1 k)
+
+    node-came : ((all : Bool) → Gets (memberWork ms all) (memberBlocks ms all) (began .came) (startMembers ms all r 0 began .came)) → (m : Mode)
+        → Gets (workBy m r (λ all. memberWork ms all)) (blocksBy m (λ all. memberBlocks ms all)) (began .came) (startBy m r (λ all j. startMembers ms all r 0 j) began .came)
+    node-came M inTurn = M false
+    node-came M together = M true
+    node-came M byStep = lists-one r (began .came)
 
   mutual
-    pub start-lists : (p : Process) → Sound p n → (k : Kept) → length (k .states) ≡ n → n ≤ length (k .left) → Idle (rowsIn p) (k .states) → Room (length (startsWork p)) (k .came)
-        → Lists (startsWork p) (k .came) (startRow p k .came)
-    start-lists (node a r ms) d k l h i R =
+    pub start-lists : (p : Process) → Sound p n → (k : Kept) → length (k .states) ≡ n → n ≤ length (k .left) → Idle (rowsIn p) (k .states)
+        → Gets (startsWork p) (startsBlocks p) (k .came) (startRow p k .came)
+    start-lists (node a r ms) d k l h i =
         rw (start-node a r ms k)
-        (node-came a r ms k
-        (λ all R. members-list ms (d .2) all r 0 (d .0) (d .1) (stateSet r 1 k) (length-set (k .states) r 1 ∙ l) h (λ y q. getD-set-other (k .states) r y 1 0 (λ e. d .1 (Memᴰ·cast (sym e) q)) ∙ i y (List·Memᴰ·tail q)) R)
-        (mode a) R)
+        (gets-both [] (workBy (mode a) r (λ all. memberWork ms all)) (ownBlock (localOf a) r) (blocksBy (mode a) (λ all. memberBlocks ms all)) (begins-listed (localOf a) r (k .came)) (node-came a r ms k
+        (λ all. members-list ms (d .2) all r 0 (d .0) (d .1) (began a r ms k) (length-set (k .states) r 1 ∙ l) h (λ y q. getD-set-other (k .states) r y 1 0 (λ e. d .1 (Memᴰ·cast (sym e) q)) ∙ i y (List·Memᴰ·tail q)))
+        (mode a)))
 
     pub members-list : (ms : Processes) → SoundM ms n → (all : Bool) (r c : ℕ) → r < n → Out r (rowsBeneath ms) → (k : Kept) → length (k .states) ≡ n → n ≤ length (k .left) → Idle (rowsBeneath ms) (k .states)
-        → Room (length (memberWork ms all)) (k .came) → Lists (memberWork ms all) (k .came) (startMembers ms all r c k .came)
-    members-list empty d all r c lt o k l h i R = rw (start-none all r c k, remain-came r c k) (lists-none (k .came))
-    members-list (also p ms) d all r c lt o k l h i R =
+        → Gets (memberWork ms all) (memberBlocks ms all) (k .came) (startMembers ms all r c k .came)
+    members-list empty d all r c lt o k l h i = rw (start-none all r c k, remain-came r c k) (λ R. lists-none (k .came))
+    members-list (also p ms) d all r c lt o k l h i =
         let own : Idle (rowsIn p) (k .states) = λ y q. i y (Memᴰ·append-left (rowsBeneath ms) q) in
         let S = started n p (d .0) k l h own in
         let j = startRow p k in
         let later : Idle (rowsBeneath ms) (j .states) = λ y q. S .within .states-other y (λ z. d .2 y z q) ∙ i y (Memᴰ·append-right (rowsIn p) q) in
         let once : isEnded (stateOf (j .states) p) ≡ endsAtOnce p = ap (λ (t : List ℕ). isEnded (stateOf t p)) (S .states-are) ∙ at-once n p (d .0) (k .states) l own in
-        let next = nextWork all (endsAtOnce p) (memberWork ms all) in
         rw (start-also p ms all r c k, once)
-        (member-came all (endsAtOnce p) c (startsWork p) (memberWork ms all) k j (λ c. startMembers ms all r c j)
-        (start-lists p (d .0) k l h own (room-less (length (startsWork p)) (length (startsWork p ++ next)) (k .came) (omega (arith, length-append (startsWork p) next)) R)) R
-        (λ c R. members-list ms (d .1) all r c lt (λ q. o (Memᴰ·append-right (rowsIn p) q)) j (S .within .states-size ∙ l) (rw (S .within .left-size) h) later R))
+        (member-came all (endsAtOnce p) c (startsWork p) (memberWork ms all) (startsBlocks p) (memberBlocks ms all) k j (λ c. startMembers ms all r c j) (start-lists p (d .0) k l h own)
+        (λ c. members-list ms (d .1) all r c lt (λ q. o (Memᴰ·append-right (rowsIn p) q)) j (S .within .states-size ∙ l) (rw (S .within .left-size) h) later))

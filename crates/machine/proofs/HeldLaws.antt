@@ -10,11 +10,11 @@ use Rattle.meaning.specs.Limits.{maxRows, maxCells, maxHostChannels, maxCapacit
 use Rattle.meaning.specs.Rows.{rowCount}
 use Rattle.meaning.specs.Declarations.{totalCells, hostChannels}
 use Rattle.meaning.specs.Values.{Message}
-use Rattle.meaning.specs.State.{State, program, writeCell, writePlace, writeOutput}
+use Rattle.meaning.specs.State.{State, program, writeCell, writePlace, writeOutput, withState}
 use Rattle.meaning.specs.Settle.{start}
 use Rattle.meaning.specs.Buffers.{Buffers, lent, mark, numberIn, capacities, strips, encode, cellOf}
 use Rattle.meaning.proofs.LentLaws.{cell-back, lent-set, blank-at, blank-length, blank-defaults}
-use Rattle.machine.specs.Held.{blank, HoldsState, sumOf, stripStart, withWrite, withState, putCell, putPlace, putState, putOutput, Lengths, Room}
+use Rattle.machine.specs.Held.{blank, HoldsState, sumOf, stripStart, withWrite, putCell, putPlace, putState, putOutput, Lengths, Room}
 use Rattle.machine.proofs.Lists.{map-set, map-replicate}
 use Rattle.machine.proofs.Strips.{strip-within, strips-length, strips-more, strips-empty}
 use Rattle.machine.proofs.Declared.{capacities-length}

@@ -4,26 +4,28 @@ use mathlib.Core.Logic.{⊎-elim}
 use mathlib.Core.Bool.{Bool, true, false}
 use mathlib.Core.Option.{none}
 use mathlib.Core.List.{List, [], _∷_, map, List·Memᴰ, List·Memᴰ·head, List·Memᴰ·tail, List·Memᴰ·append-cases, List·Memᴰ·not-nil}
-use Prim.Native.Nat.{ℕ, _<_, _≤_}
+use Prim.Native.Nat.{ℕ, zero, suc, _+_, _<_, _≤_}
 use native.Mathlib.Omega.{arith}
 use lib.IntN.{ℤ}
 use lib.ListN.{length, getD, set, replicate, length-set, length-map}
 use lib.Seq.{getD-append-seam}
 use Rattle.meaning.specs.Limits.{maxRows}
 use Rattle.meaning.specs.Rows.{rowCount}
+use Rattle.meaning.specs.Declarations.{Variable, totalCells}
 use Rattle.meaning.specs.Tree.{Process, node, Processes, empty, also, rowsIn, rowsBeneath}
 use Rattle.meaning.specs.Values.{Message}
-use Rattle.meaning.specs.Settle.{settle, start, settled}
-use Rattle.meaning.specs.State.{State, program, whole, Write, writeCell, writePlace, writeOutput, writeAll, StateChange, changeStates, Effect}
+use Rattle.meaning.specs.Settle.{settle, begun, start, settled}
+use Rattle.meaning.specs.State.{State, program, whole, Write, writeCell, writePlace, writeOutput, writeAll, StateChange, changeStates, Effect, withState, unsetFrom, unset, unsetAll}
 use Rattle.meaning.specs.Buffers.{Buffers, lent, encode}
 use Rattle.meaning.specs.Answers.{check}
+use Rattle.meaning.proofs.UnsetLaws.{holdsCell, unset-same}
 use Rattle.meaning.proofs.LentLaws.{lent-set, blank-at, blank-defaults}
 use Rattle.agreement.proofs.Again.{Sound, SoundM}
-use Rattle.agreement.proofs.Frame.{see-local}
+use Rattle.agreement.proofs.Frame.{see-local, length-local}
 use Rattle.agreement.proofs.Separate.{processes-length}
 use Rattle.agreement.proofs.TableFit.{fit}
-use Rattle.machine.specs.Held.{blank, HoldsState, withWrite, withState, withSettled, putWrite, putWrites, putChanges, putSettled, putEffect, InRange, AllInRange, ChangesBelow, Lengths, Room}
-use Rattle.machine.proofs.Declared.{room}
+use Rattle.machine.specs.Held.{blank, HoldsState, withWrite, withSettled, putWrite, putWrites, putChanges, putSettled, putUnsetFrom, putUnset, putEffect, InRange, AllInRange, ChangesBelow, Lengths, Room}
+use Rattle.machine.proofs.Declared.{room, CellsIn}
 use Rattle.machine.proofs.HeldLaws.{buffers-path, read-count, hold-cell, hold-place, hold-state, hold-output, states-are}
 
 -- ---- settling on the whole array
@@ -89,20 +91,42 @@ module _ (rows : List ℤ) (ok : check rows ≡ none) where
   hold-writes [] s k L b h = (h, L)
   hold-writes (w ∷ ws) s k L b h = hold-writes ws (withWrite w s) (k .1) (lengths-write w s L) _ (hold-write w s (k .0) L b h)
 
+  -- cells of variables become unset
+  hold-unset-from : (a n : ℕ) → ((i : ℕ) → i < n → a + i < totalCells rows) → (s : State) → Lengths rows s → (b : Buffers) → HoldsState rows s b
+      → let t : State = record { states = s .states; store = record { cells = unsetFrom a n (s .store .cells); places = s .store .places; outputs = s .store .outputs } } in
+      HoldsState rows t (putUnsetFrom a n b) × Lengths rows t
+  hold-unset-from a zero k s L b h = (h, L)
+  hold-unset-from a (suc n) k s L b h =
+      let low : a < totalCells rows = omega (arith, k 0 (omega arith)) in
+      let rest : (i : ℕ) → i < n → suc a + i < totalCells rows = λ i l. omega (arith, k (suc i) (omega arith)) in
+      hold-unset-from (suc a) n rest (withWrite (writeCell a none) s) (lengths-write (writeCell a none) s L) _ (hold-cell rows R s L b h a none low)
+
+  pub hold-unset : (vs : List Variable) → ((v : Variable) → List·Memᴰ v vs → CellsIn rows v) → (s : State) → Lengths rows s → (b : Buffers) → HoldsState rows s b
+      → HoldsState rows (record { states = s .states; store = unsetAll vs (s .store) }) (putUnset vs b)
+  hold-unset [] k s L b h = h
+  hold-unset (v ∷ vs) k s L b h =
+      let (g, M) = hold-unset-from (v .first) (v .size) (k v (List·Memᴰ·head refl)) s L b h in
+      hold-unset vs (λ w m. k w (List·Memᴰ·tail m)) (record { states = s .states; store = unset v (s .store) }) M (putUnsetFrom (v .first) (v .size) b) g
+
   changes-length : (cs : List StateChange) (s : List ℕ) → length (changeStates cs s) ≡ length s
   changes-length [] s = refl
   changes-length (c ∷ cs) s = changes-length cs (set s (c .at) (c .become)) ∙ length-set s (c .at) (c .become)
 
   -- ---- a step
-  pub hold-effect : (e : Effect) (s : State) → ChangesBelow (rowCount rows) (e .changes) → AllInRange rows (s .store) (e .writes) → Lengths rows s → (b : Buffers) → HoldsState rows s b
-      → HoldsState rows (settled (program rows) e s) (putEffect rows e b)
+  pub hold-effect : (e : Effect) (s : State) (vs : List Variable) → ((v : Variable) → List·Memᴰ v vs → CellsIn rows v)
+      → ((a : ℕ) → holdsCell a vs ≡ holdsCell a (begun (whole (program rows)) false (changeStates (e .changes) (s .states)))) → ChangesBelow (rowCount rows) (e .changes) → AllInRange rows (s .store) (e .writes) → Lengths rows s → (b : Buffers) → HoldsState rows s b
+      → HoldsState rows (settled (program rows) e s) (putEffect rows e vs b)
   unfolding settled putEffect
-  hold-effect e s c w L b h =
+  hold-effect e s vs known begins c w L b h =
       let (g, M) = hold-writes (e .writes) s w L b h in
       let t : State = record { states = s .states; store = writeAll (e .writes) (s .store) } in
       let u : State = record { states = changeStates (e .changes) (s .states); store = writeAll (e .writes) (s .store) } in
       let N : Lengths rows u = record { cells = M .cells; places = M .places; outputs = M .outputs; states = changes-length (e .changes) (s .states) ∙ M .states } in
-      hold-settled false u N (putChanges (e .changes) (putWrites rows (e .writes) b)) (hold-changes (e .changes) c t M (putWrites rows (e .writes) b) g)
+      let W = whole (program rows) in
+      let x = putChanges (e .changes) (putWrites rows (e .writes) b) in
+      let made = hold-changes (e .changes) c t M (putWrites rows (e .writes) b) g in
+      let O : Lengths rows (withSettled rows false u) = record { cells = N .cells; places = N .places; outputs = N .outputs; states = length-local (see-local W false) (u .states) ∙ N .states } in
+      rw (← unset-same vs (begun W false (u .states)) (u .store) begins) (hold-unset vs known (withSettled rows false u) O (putSettled rows false x) (hold-settled false u N x made))
 
   -- ---- the start
 

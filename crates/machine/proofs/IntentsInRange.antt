@@ -14,7 +14,7 @@ use Rattle.meaning.specs.declared.Index.{Index}
 use Rattle.meaning.specs.declared.Index.the-variants.{At, Fails}
 use Rattle.meaning.specs.Basics.{ifElse}
 use Rattle.meaning.specs.Declarations.{Channel, totalCells}
-use Rattle.meaning.specs.Tree.{ChannelInput, IfChoice, AltOption, Action, stop, skip, sequence, parallel, assign, input, output, conditional, loop, alternation, actionOf}
+use Rattle.meaning.specs.Tree.{ChannelInput, IfChoice, AltOption, Action, stop, skip, sequence, parallel, assign, input, output, conditional, loop, alternation, block, actionOf}
 use Rattle.meaning.specs.Values.{Message, isTrue, value, index, Sent, gives, lacking, passed}
 use Rattle.meaning.specs.State.{Store, State, program, processAt, writeOutput}
 use Rattle.meaning.specs.Readings.{Sheet}
@@ -175,6 +175,7 @@ module _ (rows : List ℤ) (x : Store) where
   intent-in sheet r (conditional ts) h = tests-in sheet r ts
   intent-in sheet r (loop e b) h = while-in r b (value (x .cells) e)
   intent-in sheet r (alternation bs) h = select-in r (optionsResult sheet bs x) (looks-in sheet bs h)
+  intent-in sheet r (block v) h = tt
 
 -- what the row at work would do
 pub intents-in : (rows : List ℤ) (sheet : Sheet) (s : State) (r : ℕ) → IntentIn rows (s .store) (intentAt (program rows) sheet s r)

@@ -1,15 +1,17 @@
 -- Of an accepted table: the arrays hold the start after the root has started on arrays of zeros, and after the effect of the step of a row they hold the state that it leaves.
 use mathlib.Core.Path.{_≡_, refl, sym, subst, _∙_}
-use mathlib.Core.Bool.{true}
+use mathlib.Core.Bool.{true, false}
 use mathlib.Core.Option.{none, some}
-use mathlib.Core.List.{List, [], _∷_}
+use mathlib.Core.List.{List, [], _∷_, List·Memᴰ}
 use Prim.Native.Nat.{ℕ}
 use lib.IntN.{ℤ}
 use Rattle.meaning.specs.Rows.{rowCount}
-use Rattle.meaning.specs.State.{State, program, whole, StateChange, Effect}
+use Rattle.meaning.specs.Declarations.{Variable}
+use Rattle.meaning.specs.State.{State, program, whole, StateChange, changeStates, Effect}
 use Rattle.meaning.specs.Labels.{Label}
 use Rattle.meaning.specs.Readings.{Sheet}
-use Rattle.meaning.specs.Settle.{start}
+use Rattle.meaning.specs.Settle.{start, begun}
+use Rattle.meaning.proofs.UnsetLaws.{holdsCell}
 use Rattle.meaning.specs.Intent.{openOffer, inputOffer}
 use Rattle.meaning.specs.Ready.{effectOf, intentAt, after}
 use Rattle.meaning.specs.Buffers.{Buffers}
@@ -23,6 +25,7 @@ use Rattle.agreement.proofs.Separate.{table-inv}
 use Rattle.agreement.proofs.TableFit.{fit}
 use Rattle.machine.specs.RowSteps.{stepAt}
 use Rattle.machine.specs.Held.{blank, HoldsState, putSettled, putEffect, AllInRange, ChangesBelow}
+use Rattle.machine.proofs.Declared.{CellsIn}
 use Rattle.machine.proofs.RowReady.{step-ordered}
 use Rattle.machine.proofs.StepEffects.{active-effect, after-effect}
 use Rattle.machine.proofs.StateSizes.{lengths}
@@ -54,12 +57,17 @@ module _ (rows : List ℤ) (ok : check rows ≡ none) where
     pub changes-below : {x : Label} {e : Effect} → Active (intentAt (program rows) sheet s) x e → ChangesBelow (rowCount rows) (e .changes)
     changes-below {e} A = each-below (e .changes) (s .states) (step-parts (program rows) (rowCount rows) (fit rows ok) sheet s (table-inv rows sheet (fit rows ok) l s o) A .0)
 
+    -- vs are variables of the table, whose cells are those of the blocks that start by changes
+    abbrev pub Starting : List StateChange → List Variable → Type 0
+    Starting cs vs = ((v : Variable) → List·Memᴰ v vs → CellsIn rows v) × ((a : ℕ) → holdsCell a vs ≡ holdsCell a (begun (whole (program rows)) false (changeStates cs (s .states))))
+
     -- after a step that can be taken the arrays hold the state that it leaves
-    pub step-held : (b : Buffers) → HoldsState rows s b → (x : Label) (e : Effect) → Active (intentAt (program rows) sheet s) x e → HoldsState rows (after (program rows) sheet x s) (putEffect rows e b)
-    step-held b h x e A =
-        rw (after-effect (program rows) sheet s x e (active-effect (intentAt (program rows) sheet s) A)) (hold-effect rows ok e s (changes-below A) (writes-in rows sheet s A) (lengths rows ok sheet l s o) b h)
+    pub step-held : (b : Buffers) → HoldsState rows s b → (x : Label) (e : Effect) → Active (intentAt (program rows) sheet s) x e → (vs : List Variable) → Starting (e .changes) vs
+        → HoldsState rows (after (program rows) sheet x s) (putEffect rows e vs b)
+    step-held b h x e A vs (known, begins) =
+        rw (after-effect (program rows) sheet s x e (active-effect (intentAt (program rows) sheet s) A)) (hold-effect rows ok e s vs known begins (changes-below A) (writes-in rows sheet s A) (lengths rows ok sheet l s o) b h)
 
     -- so after the step of row j
     pub row-step-held : (b : Buffers) → HoldsState rows s b → (j : ℕ) (x : Label) → stepAt (program rows) sheet s j ≡ some x
-        → (e : Effect) × (effectOf x (intentAt (program rows) sheet s) ≡ some e) × HoldsState rows (after (program rows) sheet x s) (putEffect rows e b)
+        → (e : Effect) × (effectOf x (intentAt (program rows) sheet s) ≡ some e) × ((vs : List Variable) → Starting (e .changes) vs → HoldsState rows (after (program rows) sheet x s) (putEffect rows e vs b))
     row-step-held b h j x q = let (e, A, r) = step-ordered (program rows) sheet s j x q in (e, active-effect (intentAt (program rows) sheet s) A, step-held b h x e A)

@@ -9,10 +9,10 @@ use native.Mathlib.Omega.{arith}
 use lib.IntN.{ℤ}
 use lib.ListN.{getD}
 use Rattle.meaning.specs.declared.Node.{Node}
-use Rattle.meaning.specs.declared.Node.the-variants.{Literal, Element, Monadic, Dyadic, Stop, Skip, Assignment, Input, Output, Seq, Par, If, While, Alt, Member, Choice, OptionRow, Guard, Other}
+use Rattle.meaning.specs.declared.Node.the-variants.{Literal, Element, Monadic, Dyadic, Stop, Skip, Assignment, Input, Output, Seq, Par, If, While, Alt, Block, Member, Choice, OptionRow, Guard, Other}
 use Rattle.meaning.specs.Declarations.{Channel, sinkAt, hostChannels}
 use Rattle.meaning.specs.Nodes.{nodeAt}
-use Rattle.meaning.specs.Tree.{ChannelInput, AltOption, Action, stop, skip, sequence, parallel, assign, input, output, conditional, loop, alternation, Process, Content, noContent, contentOf, contentAt, orStop, actionOf}
+use Rattle.meaning.specs.Tree.{ChannelInput, AltOption, Action, stop, skip, sequence, parallel, assign, input, output, conditional, loop, alternation, block, Process, Content, noContent, contentOf, contentAt, orStop, actionOf}
 use Rattle.meaning.specs.State.{program, processAt}
 use Rattle.meaning.specs.Buffers.{capacities}
 use Rattle.meaning.specs.ContentClaims.{higherContent}
@@ -50,6 +50,7 @@ module _ (rows : List ℤ) where
   ActionIn (conditional ts) = Unit {0}
   ActionIn (loop e b) = Unit {0}
   ActionIn (alternation bs) = OptionsIn bs
+  ActionIn (block v) = CellsIn rows v
 
   abbrev ProcessIn : Option Process → Type 0
   ProcessIn none = Unit {0}
@@ -82,6 +83,7 @@ module _ (rows : List ℤ) where
   part-in r at h (If a) = nothing r
   part-in r at h (While a b) = nothing r
   part-in r at h (Alt a) = (no-cells, tt, tt, h a .2)
+  part-in r at h (Block a b) = (no-cells, tt, tt, variable-in rows a)
   part-in r at h (Member a b) = nothing r
   part-in r at h (Choice a b c) = nothing r
   part-in r at h (OptionRow a b c) = (no-cells, tt, (h c .1, h b .2), tt)

@@ -11,7 +11,7 @@ use lib.IntN.{ℤ}
 use lib.ListN.{length}
 use lib.Dec.{T}
 use Rattle.meaning.specs.declared.Node.{Node}
-use Rattle.meaning.specs.declared.Node.the-variants.{Literal, Element, Monadic, Dyadic, Stop, Skip, Assignment, Input, Output, Seq, Par, If, While, Alt, Member, Choice, OptionRow, Guard, Other}
+use Rattle.meaning.specs.declared.Node.the-variants.{Literal, Element, Monadic, Dyadic, Stop, Skip, Assignment, Input, Output, Seq, Par, If, While, Alt, Block, Member, Choice, OptionRow, Guard, Other}
 use Rattle.meaning.specs.Basics.{among, lowest, Lowest}
 use Rattle.meaning.specs.Rows.{rowCount}
 use Rattle.meaning.specs.Kinds.{Shape}
@@ -28,7 +28,7 @@ use Rattle.meaning.proofs.ReferenceCounts.{a-not-b}
 use Rattle.agreement.proofs.Separate.{processes-length}
 use Rattle.meaning.specs.ContentClaims.{higherContent}
 use Rattle.agreement.proofs.TableTree.{part-past, process-is, Known, every-row}
-use Rattle.agreement.proofs.TableReferences.{members-shape, while-shape, member-shape, choice-shape, option-shape, Leading, Shaped, Holding, Fields, fields-are, refers-to, refers-up, placed-at, once}
+use Rattle.agreement.proofs.TableReferences.{members-shape, while-shape, block-shape, member-shape, choice-shape, option-shape, Leading, Shaped, Holding, Fields, fields-are, refers-to, refers-up, placed-at, once}
 use Rattle.machine.specs.Upward.{processRows, parentOf}
 use Rattle.machine.proofs.Parents.{among-is, is-among, own-row, parent-has}
 
@@ -113,12 +113,12 @@ module _ (rows : List ℤ) (A : RightRows rows) where
         go p (inl z) m = g (rw z at m)
         go p (inr i) m = pick a (i .1) e (its-row a x (p .process) ms (λ q z. own-row rows a q (sym (ap (λ (c : Content). c .process) (i .2)) ∙ z)) m)
 
-    -- the process of a WHILE
-    body : (a b : ℕ) → Fields rows r (While a b) → (x : ℕ) → List·Memᴰ x (processRows (andProcess (at b .process) empty)) → MemberOf r x
-    body a b f x = go (at b) (known b)
+    -- the process of a WHILE or a block
+    body : (k b : ℕ) (s : Shape) → Leading (fieldOf s of-b) → Shaped rows r k s × Holding rows r of-b b → (x : ℕ) → List·Memᴰ x (processRows (andProcess (at b .process) empty)) → MemberOf r x
+    body k b s u f x = go (at b) (known b)
       where
         pick : b < rowCount rows → (x ≡ b) ⊎ List·Memᴰ x [] → MemberOf r x
-        pick z (inl q) = inr (rw q (refers-to rows A r 33 b while-shape of-b l (f .0) tt (f .1) z))
+        pick z (inl q) = inr (rw q (refers-to rows A r k b s of-b l (f .0) u (f .1) z))
         pick z (inr m) = absurd (List·Memᴰ·not-nil m)
 
         go : (p : Content) → Known rows PartHeld r b p → List·Memᴰ x (processRows (andProcess (p .process) empty)) → MemberOf r x
@@ -147,8 +147,9 @@ module _ (rows : List ℤ) (A : RightRows rows) where
     part-held (Seq a) f = (nothing r .0, group 30 a (members-shape 30 40) (f .0) tt (f .1))
     part-held (Par a) f = (nothing r .0, group 31 a (members-shape 31 40) (f .0) tt (f .1))
     part-held (If a) f = (nothing r .0, group 32 a (members-shape 32 41) (f .0) tt (f .1))
-    part-held (While a b) f = (nothing r .0, body a b f)
+    part-held (While a b) f = (nothing r .0, body 33 b while-shape tt f)
     part-held (Alt a) f = (nothing r .0, group 34 a (members-shape 34 42) (f .0) tt (f .1))
+    part-held (Block a b) f = (nothing r .0, body 35 b block-shape tt f)
     part-held (Member a b) f = (linked 40 a b member-shape (f .0) tt tt (f .1) (f .2), tt)
     part-held (Choice a b c) f = (linked 41 a b choice-shape (f .0) tt tt (f .1) (f .2), tt)
     part-held (OptionRow a b c) f = (linked 42 a b option-shape (f .0) tt tt (f .1) (f .2), tt)

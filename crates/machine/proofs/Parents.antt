@@ -10,7 +10,7 @@ use lib.IntN.{ℤ}
 use lib.ListN.{length, getD}
 use lib.Dec.{T}
 use Rattle.meaning.specs.declared.Node.{Node}
-use Rattle.meaning.specs.declared.Node.the-variants.{Literal, Element, Monadic, Dyadic, Stop, Skip, Assignment, Input, Output, Seq, Par, If, While, Alt, Member, Choice, OptionRow, Guard, Other}
+use Rattle.meaning.specs.declared.Node.the-variants.{Literal, Element, Monadic, Dyadic, Stop, Skip, Assignment, Input, Output, Seq, Par, If, While, Alt, Block, Member, Choice, OptionRow, Guard, Other}
 use Rattle.meaning.specs.Basics.{ifElse, among, lowest, Lowest}
 use Rattle.meaning.specs.Nodes.{nodeAt}
 use Rattle.meaning.specs.Tree.{Process, Processes, empty, Content, noContent, andProcess, contentOf, contentAt, orStop, rowOf, processesIn}
@@ -109,6 +109,7 @@ module _ (rows : List ℤ) where
     part-up (If a) = ((refl, members-up a), no-rows r)
     part-up (While a b) = ((refl, with-up b empty (no-rows r)), no-rows r)
     part-up (Alt a) = ((refl, members-up a), no-rows r)
+    part-up (Block a b) = ((refl, with-up b empty (no-rows r)), no-rows r)
     part-up (Member a b) = (tt, with-up a (at b .listed) (members-up b))
     part-up (Choice a b c) = (tt, with-up a (at b .listed) (members-up b))
     part-up (OptionRow a b c) = (tt, with-up a (at b .listed) (members-up b))

@@ -9,7 +9,7 @@ use native.Mathlib.Omega.{arith}
 use native.Mathlib.Decide.{decLt}
 use lib.IntN.{ℤ}
 use Rattle.meaning.specs.declared.Node.{Node}
-use Rattle.meaning.specs.declared.Node.the-variants.{Literal, Element, Monadic, Dyadic, Stop, Skip, Assignment, Input, Output, Seq, Par, If, While, Alt, Member, Choice, OptionRow, Guard, Other}
+use Rattle.meaning.specs.declared.Node.the-variants.{Literal, Element, Monadic, Dyadic, Stop, Skip, Assignment, Input, Output, Seq, Par, If, While, Alt, Block, Member, Choice, OptionRow, Guard, Other}
 use Rattle.meaning.specs.Rows.{rowCount}
 use Rattle.meaning.specs.Nodes.{nodeAt}
 use Rattle.meaning.specs.Tree.{Process, Content, noContent, contentOf, contentAt, orStop, actionOf}
@@ -60,6 +60,7 @@ module _ (rows : List ℤ) where
   part-ok r at h (If a) e = nothing r
   part-ok r at h (While a b) e = nothing r
   part-ok r at h (Alt a) e = (no-options, h a .0)
+  part-ok r at h (Block a b) e = nothing r
   part-ok r at h (Member a b) e = nothing r
   part-ok r at h (Choice a b c) e = nothing r
   part-ok r at h (OptionRow a b c) e = (one-more r (rowsOfOptions (at b .options)) e (h b .0), no-options)
@@ -98,6 +99,7 @@ module _ (rows : List ℤ) where
   no-process-of r at (If a) e = absurd (true≢false (sym e))
   no-process-of r at (While a b) e = absurd (true≢false (sym e))
   no-process-of r at (Alt a) e = absurd (true≢false (sym e))
+  no-process-of r at (Block a b) e = absurd (true≢false (sym e))
   no-process-of r at (Member a b) e = absurd (true≢false (sym e))
   no-process-of r at (Choice a b c) e = absurd (true≢false (sym e))
   no-process-of r at (OptionRow a b c) e = refl

@@ -7,11 +7,11 @@ use mathlib.Core.List.{List, [], _∷_, _++_, List·Memᴰ, Memᴰ·append-left}
 use Prim.Native.Nat.{ℕ}
 use native.Mathlib.Omega.{arith}
 use lib.IntN.{ℤ}
-use lib.ListN.{getD, set}
+use lib.ListN.{getD}
 use lib.Dec.{eqb}
 use borrow.Author.Tests.{eqb-true}
 use Rattle.meaning.specs.Rows.{rowCount}
-use Rattle.meaning.specs.Tree.{stop, skip, sequence, parallel, assign, input, output, conditional, loop, alternation, Process, node, empty, also, rowOf, actionOf, processesIn, rowsIn, rowsBeneath}
+use Rattle.meaning.specs.Tree.{stop, skip, sequence, parallel, assign, input, output, conditional, loop, alternation, block, Process, node, empty, also, rowOf, actionOf, processesIn, rowsIn, rowsBeneath}
 use Rattle.meaning.specs.Settle.{byStep, mode, settled}
 use Rattle.meaning.specs.SettlingRules.{Among, All, Next, Inside, Settles, Final}
 use Rattle.meaning.specs.State.{State, Program, program, processAt, whole, Effect}
@@ -54,19 +54,21 @@ module _ (P : Program) (sheet : Sheet) (s : State) (r : ℕ) where
   live-rule h = Live.live (node-is (processAt P r)) (live-tells h .0) (live-tells h .1)
 
 -- a running process with all beneath it idle, to which no rule of settling applies, starts no member by itself
-final-by-step : (top p : Process) (s : List ℕ) → Final top s → Inside top p → getD s (rowOf p) 0 ≡ 1 → Idle (rowsBeneath (processesIn p)) s → mode (actionOf p) ≡ byStep
+final-by-step : (top p : Process) (s : State) → Final top s → Inside top p → getD (s .states) (rowOf p) 0 ≡ 1 → Idle (rowsBeneath (processesIn p)) (s .states) → mode (actionOf p) ≡ byStep
 final-by-step top (node stop r ms) s f i u h = refl
-final-by-step top (node skip r ms) s f i u h = absurd (f (set s r 2) (Settles.skip-ends (i, u)))
-final-by-step top (node sequence r empty) s f i u h = absurd (f (set s r 2) (Settles.seq-ends (i, u) All.all-none))
-final-by-step top (node sequence r (also p ms)) s f i u h = absurd (f (set s (rowOf p) 1) (Settles.seq-starts (i, u) Next.next-here (h (rowOf p) (Memᴰ·append-left (rowsBeneath ms) (row-in p)))))
-final-by-step top (node parallel r empty) s f i u h = absurd (f (set s r 2) (Settles.par-ends (i, u) All.all-none))
-final-by-step top (node parallel r (also p ms)) s f i u h = absurd (f (set s (rowOf p) 1) (Settles.par-starts (i, u) Among.among-first (h (rowOf p) (Memᴰ·append-left (rowsBeneath ms) (row-in p)))))
+final-by-step top (node skip r ms) s f i u h = absurd (f _ (Settles.skip-ends (i, u)))
+final-by-step top (node sequence r empty) s f i u h = absurd (f _ (Settles.seq-ends (i, u) All.all-none))
+final-by-step top (node sequence r (also p ms)) s f i u h = absurd (f _ (Settles.seq-starts (i, u) Next.next-here (h (rowOf p) (Memᴰ·append-left (rowsBeneath ms) (row-in p)))))
+final-by-step top (node parallel r empty) s f i u h = absurd (f _ (Settles.par-ends (i, u) All.all-none))
+final-by-step top (node parallel r (also p ms)) s f i u h = absurd (f _ (Settles.par-starts (i, u) Among.among-first (h (rowOf p) (Memᴰ·append-left (rowsBeneath ms) (row-in p)))))
 final-by-step top (node (assign v a b) r ms) s f i u h = refl
 final-by-step top (node (input c) r ms) s f i u h = refl
 final-by-step top (node (output c a b) r ms) s f i u h = refl
 final-by-step top (node (conditional ts) r ms) s f i u h = refl
 final-by-step top (node (loop a b) r ms) s f i u h = refl
 final-by-step top (node (alternation bs) r ms) s f i u h = refl
+final-by-step top (node (block v) r empty) s f i u h = absurd (f _ (Settles.block-ends (i, u) All.all-none))
+final-by-step top (node (block v) r (also p ms)) s f i u h = absurd (f _ (Settles.block-starts (i, u) Next.next-here (h (rowOf p) (Memᴰ·append-left (rowsBeneath ms) (row-in p)))))
 
 -- ---- accepted tables
 
@@ -93,7 +95,7 @@ module _ (rows : List ℤ) (ok : check rows ≡ none) (sheet : Sheet) (l : List 
   pub live-row-works : (r : ℕ) → isLive P sheet r s ≡ true → Works P (rowCount rows) F sheet s r
   live-row-works r h =
       let (u, i) = live-tells P sheet s r h in
-      let m = final-by-step (whole P) (processAt P r) (s .states) (orders-settled rows ok sheet l s o) (running-inside rows ok sheet l s o r u) (ap (λ (y : ℕ). getD (s .states) y 0) (running-row r u) ∙ u) i in
+      let m = final-by-step (whole P) (processAt P r) s (orders-settled rows ok sheet l s o) (running-inside rows ok sheet l s o r u) (ap (λ (y : ℕ). getD (s .states) y 0) (running-row r u) ∙ u) i in
       live-works P (rowCount rows) F sheet s r (actionOf (processAt P r)) inv (live-rule P sheet s r h) m .0
 
   module _ {x : Label} {e : Effect} (A : Active (intentAt P sheet s) x e) where

@@ -12,13 +12,14 @@ use lib.ListN.{length, getD, set, length-set}
 use lib.Seq.{getD-set-other, getD-set-same, ext-getD}
 use Rattle.meaning.specs.Rows.{rowCount}
 use Rattle.meaning.specs.Tree.{Process, node, Processes, empty, also}
-use Rattle.meaning.specs.Settle.{settle}
+use Rattle.meaning.specs.Settle.{settle, begun}
 use Rattle.meaning.specs.State.{State, Program, program, whole}
 use Rattle.meaning.specs.Labels.{Label}
 use Rattle.meaning.specs.Readings.{Sheet}
 use Rattle.meaning.specs.Order.{OrderOf}
 use Rattle.meaning.specs.Answers.{check}
 use Rattle.agreement.proofs.Frame.{see-local, length-local}
+use Rattle.agreement.proofs.Begun.{begun-reads}
 use Rattle.agreement.proofs.Again.{Sound, SoundM, sound-row, see-run, sameB, see-again, again}
 use Rattle.agreement.proofs.Commute.{At, at-run, persist, absorb, other}
 use Rattle.agreement.proofs.Reach.{Good, good-agree, good-set, good-see, good-body}
@@ -56,6 +57,11 @@ settle-same p n d b s t h =
     see-local p b .keeps (Same n) (record { look = λ y m e. sym (e .0 y); put = λ {s = u} {t = w} y v m e. same-set n y v u w (row-below p n y d m) e }) s t h
 
 -- so where the one is settled, the other is
+-- alike states start the same blocks
+pub begun-same : (p : Process) (n : ℕ) → Sound p n → (b : Bool) (s t : List ℕ) → Same n s t → begun p b s ≡ begun p b t
+begun-same p n d b =
+    begun-reads p b .same (Same n) (record { look = λ {s} {t} x m h. sym (h .0 x); put = λ {s} {t} x w m h. same-set n x w s t (row-below p n x d m) h })
+
 pub settled-more : (p : Process) (n : ℕ) → Sound p n → (s t : List ℕ) → n ≤ length s → n ≤ length t → ((y : ℕ) → getD t y 0 ≡ getD s y 0) → settle p false s ≡ s → settle p false t ≡ t
 settled-more p n d s t h k e f =
     let w = settle-same p n d false s t (e, h, k) in
@@ -95,7 +101,7 @@ module _ (rows : List ℤ) (ok : check rows ≡ none) where
 
     -- two changes, by two rows
     module _ (c y w : ℕ) (ne : b ≢ c) (g : At c y w s (whole P)) where
-      beside : At c y w (set s x v) (whole P)
+      pub beside : At c y w (set s x v) (whole P)
       beside = other b x v c y w n s ne (whole P) (S .sound) h g .0
 
       -- the second may still be made
@@ -122,5 +128,5 @@ module _ (rows : List ℤ) (ok : check rows ≡ none) where
             size = refl;
             sound = sound-more (whole P) (rowCount rows) (length t) long (F .sound);
             good = good-agree (I .good) (λ y m. same y);
-            settled = settled-more (whole P) (rowCount rows) (F .sound) (s .states) t (omega (arith, I .size)) long same (settled-again rows ok sheet l s o);
+            settled = settled-more (whole P) (rowCount rows) (F .sound) (s .states) t (omega (arith, I .size)) long same (settled-again rows ok sheet l s o .0);
           }

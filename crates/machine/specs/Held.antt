@@ -3,14 +3,14 @@ use mathlib.Core.Path.{_≡_}
 use mathlib.Core.Option.{none, some}
 use mathlib.Core.Bool.{Bool, false}
 use mathlib.Core.List.{List, [], _∷_, _++_}
-use Prim.Native.Nat.{ℕ, suc, _+_, _*_, _<_, _≤_}
+use Prim.Native.Nat.{ℕ, zero, suc, _+_, _*_, _<_, _≤_}
 use lib.IntN.{ℤ, pos}
 use lib.ListN.{length, getD, getElem?, set, replicate, take}
 use lib.Dec.{ltb}
 use Rattle.meaning.specs.Limits.{maxRows, maxCells, maxHostChannels, maxCapacity}
 use Rattle.meaning.specs.Basics.{isSome}
 use Rattle.meaning.specs.Rows.{rowCount}
-use Rattle.meaning.specs.Declarations.{totalCells, hostChannels}
+use Rattle.meaning.specs.Declarations.{Variable, totalCells, hostChannels}
 use Rattle.meaning.specs.Values.{Message}
 use Rattle.meaning.specs.Settle.{settle}
 use Rattle.meaning.specs.State.{Store, State, program, whole, Write, writeCell, writePlace, writeOutput, write, StateChange, Effect}
@@ -43,12 +43,9 @@ sumOf (n ∷ ns) = n + sumOf ns
 unfoldable pub stripStart : List ℤ → ℕ → ℕ
 stripStart rows p = sumOf (take p (capacities rows))
 
--- a state with the data changed, and with the state of row r changed to v
+-- a state with the data changed
 abbrev pub withWrite : Write → State → State
 withWrite w s = record { states = s .states; store = write w (s .store) }
-
-abbrev pub withState : ℕ → ℕ → State → State
-withState r v s = record { states = set (s .states) r v; store = s .store }
 
 -- the arrays with one cell, place, row state changed
 abbrev pub putCell : ℕ → Message → Buffers → Buffers
@@ -90,7 +87,7 @@ abbrev pub putSettled : List ℤ → Bool → Buffers → Buffers
 putSettled rows t b =
     record { cells = b .cells; marks = b .marks; states = settle (whole (program rows)) t (b .states); places = b .places; numbers = b .numbers; counts = b .counts; outputMarks = b .outputMarks }
 
--- what a step does to the arrays: its changes of data (an output list has its new message last), those of row states, then settling
+-- the changes of data that a step makes to the arrays: an output list has its new message last
 abbrev pub putWrite : List ℤ → Write → Buffers → Buffers
 putWrite rows (writeCell a m) b = putCell a m b
 putWrite rows (writePlace p k) b = putPlace p k b
@@ -100,12 +97,24 @@ abbrev pub putWrites : List ℤ → List Write → Buffers → Buffers
 putWrites rows [] b = b
 putWrites rows (w ∷ ws) b = putWrites rows ws (putWrite rows w b)
 
+-- those of row states
 abbrev pub putChanges : List StateChange → Buffers → Buffers
 putChanges [] b = b
 putChanges (c ∷ cs) b = putChanges cs (putState (c .at) (c .become) b)
 
-unfoldable pub putEffect : List ℤ → Effect → Buffers → Buffers
-putEffect rows e b = putSettled rows false (putChanges (e .changes) (putWrites rows (e .writes) b))
+-- n cells from a on become unset
+abbrev pub putUnsetFrom : ℕ → ℕ → Buffers → Buffers
+putUnsetFrom a zero b = b
+putUnsetFrom a (suc n) b = putUnsetFrom (suc a) n (putCell a none b)
+
+-- all cells of variables become unset
+abbrev pub putUnset : List Variable → Buffers → Buffers
+putUnset [] b = b
+putUnset (v ∷ vs) b = putUnset vs (putUnsetFrom (v .first) (v .size) b)
+
+-- what a step does to the arrays: its changes of data, those of row states, then settling, which starts the blocks of the variables vs and unsets their cells
+unfoldable pub putEffect : List ℤ → Effect → List Variable → Buffers → Buffers
+putEffect rows e vs b = putUnset vs (putSettled rows false (putChanges (e .changes) (putWrites rows (e .writes) b)))
 
 -- a change of data is within what the table declares: a cell, a host channel, one more message where a channel has room
 abbrev pub InRange : List ℤ → Store → Write → Type 0

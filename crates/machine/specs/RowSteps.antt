@@ -6,7 +6,7 @@ use Prim.Native.Nat.{ℕ}
 use lib.ListN.{length}
 use lib.Dec.{eqb}
 use Rattle.meaning.specs.declared.Node.{Node}
-use Rattle.meaning.specs.declared.Node.the-variants.{Literal, Element, Monadic, Dyadic, Stop, Skip, Assignment, Input, Output, Seq, Par, If, While, Alt, Member, Choice, OptionRow, Guard, Other}
+use Rattle.meaning.specs.declared.Node.the-variants.{Literal, Element, Monadic, Dyadic, Stop, Skip, Assignment, Input, Output, Seq, Par, If, While, Alt, Block, Member, Choice, OptionRow, Guard, Other}
 use Rattle.meaning.specs.Basics.{isSome, among, lowest, allBelow}
 use Rattle.meaning.specs.Tree.{actionOf}
 use Rattle.meaning.specs.Usage.{numbersFrom}
@@ -41,6 +41,7 @@ isOption (Par a) = false
 isOption (If a) = false
 isOption (While a b) = false
 isOption (Alt a) = false
+isOption (Block a b) = false
 isOption (Member a b) = false
 isOption (Choice a b c) = false
 isOption (OptionRow a b c) = true

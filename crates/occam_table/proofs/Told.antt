@@ -1,5 +1,6 @@
 -- A number means one answer: those that can be given differ in their numbers.
 use mathlib.Core.Path.{_≡_, refl, sym, ap, ap₂, subst}
+use mathlib.Core.Logic.{_⊎_, inl, inr}
 use mathlib.Core.Bool.{Bool, true, false}
 use mathlib.Core.List.{List}
 use mathlib.Core.Option.{Option, none, some}
@@ -18,7 +19,7 @@ use Rattle.meaning.specs.declared.Answer.{Answer}
 use Rattle.meaning.specs.declared.Answer.the-variants.{Refused, Ran}
 use Rattle.meaning.specs.declared.Verdict.the-variants.{Accepted, Rejected}
 use Rattle.agreement.specs.CallClaims.{taskOfBytes, RanAs}
-use Rattle.agreement.specs.RefusalClaims.{TableRefusal, OneOfEleven}
+use Rattle.agreement.specs.RefusalClaims.{TableRefusal, CallRefusal}
 use Rattle.agreement.proofs.TableFit.{rows-limit}
 use Rattle.agreement.proofs.Calls.{run-answered}
 use Rattle.agreement.proofs.CallsOnBytes.{run-answered-bytes}
@@ -65,15 +66,20 @@ parts-told a b k l small little e = go (decLt k l) (decLt l k)
     go (no h) (yes g) = absurd (omega arith)
     go (no h) (no g) = let same : k ≡ l = omega arith in (omega arith, same)
 
+-- the numbers of refusals are small
+few-numbers : {n m : ℕ} → (n ≤ m) ⊎ (n ≡ 14) → m ≤ 11 → n ≤ 14
+few-numbers (inl l) h = omega arith
+few-numbers (inr e) h = omega arith
+
 pub answers-told : AnswersTold
 answers-told (Refused n p) (Refused m q) h k e =
-    let (_, small) = h in let (_, little) = k in
+    let small = few-numbers (h .1) (omega arith) in let little = few-numbers (k .1) (omega arith) in
     ap₂ Refused (omega arith) (omega arith)
 answers-told (Refused n p) (Ran o k m) h u e =
-    let (low, small) = h in let a = outcome-some o in let b = outcome-small o in
+    let low = h .0 in let small = few-numbers (h .1) (omega arith) in let a = outcome-some o in let b = outcome-small o in
     absurd (omega arith)
 answers-told (Ran o k m) (Refused n p) u h e =
-    let (low, small) = h in let a = outcome-some o in let b = outcome-small o in
+    let low = h .0 in let small = few-numbers (h .1) (omega arith) in let a = outcome-some o in let b = outcome-small o in
     absurd (omega arith)
 answers-told (Ran o k m) (Ran p l n) (few, _) (less, _) e =
     let (rest, total) = totals-told (256 * outcomeNumber o + 65536 * k) (256 * outcomeNumber p + 65536 * l) m n (omega (arith, outcome-small o)) (omega (arith, outcome-small p)) e in
@@ -82,18 +88,18 @@ answers-told (Ran o k m) (Ran p l n) (few, _) (less, _) e =
 
 pub verdicts-told : VerdictsTold
 verdicts-told Accepted Accepted h k e = refl
-verdicts-told Accepted (Rejected n p) h k e = let (low, small) = k in absurd (omega arith)
-verdicts-told (Rejected n p) Accepted h k e = let (low, small) = h in absurd (omega arith)
+verdicts-told Accepted (Rejected n p) h k e = let low = k .0 in absurd (omega arith)
+verdicts-told (Rejected n p) Accepted h k e = let low = h .0 in absurd (omega arith)
 verdicts-told (Rejected n p) (Rejected m q) h k e =
-    let (_, small) = h in let (_, little) = k in
+    let small = few-numbers (h .1) (omega arith) in let little = few-numbers (k .1) (omega arith) in
     ap₂ Rejected (omega arith) (omega arith)
 
 -- a run takes no more steps than its budget, and no more are ready than there are rows
 possible-run : (t : Task) (b : Buffers) (r : Reply) (o : Outcome) (k n : ℕ) → RanAs t b r o k n → (k ≤ 65536) × (n ≤ 1024)
 possible-run t b r o k n a = (omega (arith, a .steps-within, a .budget-allowed), omega (arith, a .total-within, rows-limit (t .rows) (a .table-accepted)))
 
--- an answer that is a refusal only if that is one of the eleven, and a run only if that is possible
-possible-answer : (rows : List ℤ) (a : Answer) → ((number place : ℕ) → a ≡ Refused number place → OneOfEleven rows number place)
+-- an answer that is a refusal only if that is a call's, and a run only if that is possible
+possible-answer : (rows : List ℤ) (a : Answer) → ((number place : ℕ) → a ≡ Refused number place → CallRefusal rows number place)
     → ((o : Outcome) (k n : ℕ) → a ≡ Ran o k n → (k ≤ 65536) × (n ≤ 1024)) → PossibleAnswer a
 possible-answer rows (Refused n p) h g = let (low, high, _) = numbers-known rows n p (h n p refl) in (low, high)
 possible-answer rows (Ran o k n) h g = g o k n refl
@@ -109,7 +115,7 @@ possible-traced : (l : TraceLists) (a q : Answer) → (listsTooShort l ≡ false
 possible-traced l a q long short h = go (listsTooShort l) refl
   where
     go : (t : Bool) → listsTooShort l ≡ t → PossibleAnswer a
-    go true e = subst PossibleAnswer (sym (short e)) (omega arith, omega arith)
+    go true e = subst PossibleAnswer (sym (short e)) (omega arith, inl (omega arith))
     go false e = subst PossibleAnswer (sym (long e)) h
 
 pub traced-possible : TracedPossible

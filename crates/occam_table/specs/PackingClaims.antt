@@ -1,5 +1,6 @@
 -- One number, one answer, as types: what a C caller may conclude from the number of an exported function.
 use mathlib.Core.Path.{_≡_}
+use mathlib.Core.Logic.{_⊎_}
 use mathlib.Core.List.{List}
 use Prim.Native.Nat.{ℕ, _≤_}
 use lib.IntN.{ℤ}
@@ -12,15 +13,15 @@ use Rattle.meaning.specs.declared.Verdict.{Verdict}
 use Rattle.meaning.specs.declared.Verdict.the-variants.{Accepted, Rejected}
 use Rattle.occam_table.specs.Packing.{verdictNumber, answerNumber}
 
--- the answers that can be given: a run of 65,536 steps at most with 1,024 ready at most, or "one of eleven numbered refusals"
+-- the answers that can be given: a run of 65,536 steps at most with 1,024 ready at most, or one of the numbered refusals, 1 to 11 and 14
 abbrev pub PossibleAnswer : Answer → Type 0
-PossibleAnswer (Refused number place) = (1 ≤ number) × (number ≤ 11)
+PossibleAnswer (Refused number place) = (1 ≤ number) × ((number ≤ 11) ⊎ (number ≡ 14))
 PossibleAnswer (Ran outcome steps total) = (steps ≤ 65536) × (total ≤ 1024)
 
--- the verdicts that can be given: accepted, or one of the refusals 2 to 9
+-- the verdicts that can be given: accepted, or one of the refusals 2 to 9 and 14
 abbrev pub PossibleVerdict : Verdict → Type 0
 PossibleVerdict Accepted = Unit {0}
-PossibleVerdict (Rejected number place) = (2 ≤ number) × (number ≤ 9)
+PossibleVerdict (Rejected number place) = (2 ≤ number) × ((number ≤ 9) ⊎ (number ≡ 14))
 
 -- two such answers with one number are one answer; so are two verdicts
 abbrev pub AnswersTold : Type 0

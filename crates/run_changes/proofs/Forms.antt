@@ -13,7 +13,7 @@ use Rattle.meaning.specs.declared.Index.{Index}
 use Rattle.meaning.specs.declared.Index.the-variants.{At, Fails}
 use Rattle.meaning.specs.Basics.{ifElse}
 use Rattle.meaning.specs.Declarations.{Channel}
-use Rattle.meaning.specs.Tree.{Expr, ChannelInput, IfChoice, AltOption, Action, stop, skip, sequence, parallel, assign, input, output, conditional, loop, alternation, actionOf}
+use Rattle.meaning.specs.Tree.{Expr, ChannelInput, IfChoice, AltOption, Action, stop, skip, sequence, parallel, assign, input, output, conditional, loop, alternation, block, actionOf}
 use Rattle.meaning.specs.Values.{Message, isTrue, value, index, Sent, gives, lacking, passed}
 use Rattle.meaning.specs.State.{Store, State, Program, processAt, Write, writeCell, writePlace, writeOutput}
 use Rattle.meaning.specs.Readings.{Sheet}
@@ -209,6 +209,7 @@ module _ (sheet : Sheet) (x : Store) where
   intent-form r (conditional ts) = tests-form r (conditional ts) ts
   intent-form r (loop e b) = while-form r (loop e b) b (value (x .cells) e) (value-known (x .cells) e)
   intent-form r (alternation bs) = select-form r (alternation bs) (optionsResult sheet bs x) (looked bs)
+  intent-form r (block v) = is-wait refl
 
 -- what a row would do
 pub form-of : (P : Program) (sheet : Sheet) (s : State) (r : ℕ) → Form sheet (s .store) r (actionOf (processAt P r)) (intentAt P sheet s r)

@@ -7,10 +7,10 @@ use Prim.Native.Nat.{ℕ, _<_, _≤_}
 use native.Mathlib.Omega.{arith}
 use lib.IntN.{ℤ}
 use Rattle.meaning.specs.declared.Node.{Node}
-use Rattle.meaning.specs.declared.Node.the-variants.{Literal, Element, Monadic, Dyadic, Stop, Skip, Assignment, Input, Output, Seq, Par, If, While, Alt, Member, Choice, OptionRow, Guard, Other}
+use Rattle.meaning.specs.declared.Node.the-variants.{Literal, Element, Monadic, Dyadic, Stop, Skip, Assignment, Input, Output, Seq, Par, If, While, Alt, Block, Member, Choice, OptionRow, Guard, Other}
 use Rattle.meaning.specs.Rows.{rowCount}
 use Rattle.meaning.specs.Nodes.{nodeAt}
-use Rattle.meaning.specs.Tree.{AltOption, Action, stop, skip, sequence, parallel, assign, input, output, conditional, loop, alternation, Process, Content, contentOf, contentAt, orStop, actionOf}
+use Rattle.meaning.specs.Tree.{AltOption, Action, stop, skip, sequence, parallel, assign, input, output, conditional, loop, alternation, block, Process, Content, contentOf, contentAt, orStop, actionOf}
 use Rattle.meaning.specs.State.{program, processAt}
 use Rattle.meaning.specs.ContentClaims.{higherContent}
 use Rattle.agreement.specs.RowsOfSteps.{rowsOfOptions, optionRows}
@@ -61,6 +61,7 @@ module _ {rows : List ℤ} {code : List ℕ} (p : Prepared rows code) where
     part-ok (If a) e f = (tt, tt)
     part-ok (While a b) e f = (tt, tt)
     part-ok (Alt a) e f = (tt, known a .0)
+    part-ok (Block a b) e f = (tt, tt)
     part-ok (Member a b) e f = (tt, tt)
     part-ok (Choice a b c) e f = (tt, tt)
     part-ok (OptionRow a b c) e f =
@@ -108,6 +109,7 @@ module _ {rows : List ℤ} {code : List ℕ} (p : Prepared rows code) where
   rows-of (conditional ts) = refl
   rows-of (loop e b) = refl
   rows-of (alternation bs) = refl
+  rows-of (block v) = refl
 
   -- a row that is an option of row r
   pub option-what : (r j : ℕ) → List·Memᴰ j (optionRows (actionOf (processAt (program rows) r))) → (placeAt code j 0 ≡ 42) × (j ≤ 1024)

@@ -45,11 +45,12 @@ module _ (rows : List ℤ) (r : ℕ) where
         (if-else Tells (eqb (kindAt rows r) 32) (λ q c e f g. let y : _≡_ {A = ℕ} 0 1 = cc in absurd (omega arith))
         (if-else Tells (eqb (kindAt rows r) 33) (λ q c e f g. let y : _≡_ {A = ℕ} 0 1 = cc in absurd (omega arith))
         (if-else Tells (eqb (kindAt rows r) 34) (λ q c e f g. let y : _≡_ {A = ℕ} 0 1 = cc in absurd (omega arith))
+        (if-else Tells (eqb (kindAt rows r) 35) (λ q c e f g. let y : _≡_ {A = ℕ} 0 1 = cc in absurd (omega arith))
         (if-else Tells (eqb (kindAt rows r) 40) (λ q c e f g. let y : _≡_ {A = ℕ} 0 1 = cc in absurd (omega arith))
         (if-else Tells (eqb (kindAt rows r) 41) (λ q c e f g. let y : _≡_ {A = ℕ} 0 1 = cc in absurd (omega arith))
         (if-else Tells (eqb (kindAt rows r) 42) (λ q c e f g. let y : _≡_ {A = ℕ} 0 1 = cc in absurd (omega arith))
         (if-else Tells (eqb (kindAt rows r) 43) (λ q c e f g. let y : _≡_ {A = ℕ} 0 1 = cc in absurd (omega arith))
-        (λ c e f g. let y : _≡_ {A = ℕ} 0 1 = cc in absurd (omega arith)))))))))))))))))))
+        (λ c e f g. let y : _≡_ {A = ℕ} 0 1 = cc in absurd (omega arith))))))))))))))))))))
 
   -- where the strip of its channel begins
   pub strip-is : {code : List ℕ} → Prepared rows code → r < rowCount rows → (c : Channel) (e f : Expr) → actionOf (processAt (program rows) r) ≡ output c e f → c .host ≡ true → stripAt code r ≡ stripStart rows (c .number)

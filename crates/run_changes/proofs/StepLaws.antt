@@ -6,6 +6,7 @@ use mathlib.Core.List.{List, [], _∷_}
 use Prim.Native.Nat.{ℕ, _<_, _≤_}
 use lib.IntN.{ℤ}
 use Rattle.meaning.specs.Rows.{rowCount}
+use Rattle.meaning.specs.Declarations.{Variable}
 use Rattle.meaning.specs.Settle.{settle}
 use Rattle.meaning.specs.State.{State, program, whole, StateChange, changeStates, Effect}
 use Rattle.meaning.specs.Labels.{Label}
@@ -16,9 +17,9 @@ use Rattle.meaning.specs.Order.{OrderOf}
 use Rattle.meaning.specs.Answers.{check}
 use Rattle.agreement.proofs.Active.{active}
 use Rattle.machine.specs.RowSteps.{stepAt}
-use Rattle.machine.specs.Held.{HoldsState, putSettled, putWrites, putChanges, putEffect, ChangesBelow, KeptReadings}
+use Rattle.machine.specs.Held.{HoldsState, putSettled, putWrites, putChanges, putUnset, putEffect, ChangesBelow, KeptReadings}
 use Rattle.machine.specs.Counts.{Kept, changeUpCounted, endUpCounted, changesUpCounted}
-use Rattle.machine.proofs.MachineSteps.{changes-below, row-step-held}
+use Rattle.machine.proofs.MachineSteps.{changes-below, Starting, row-step-held}
 use Rattle.run_changes.specs.declared.Data.{Data}
 use Rattle.run_changes.specs.declared.Data.the-variants.{Nothing, Cell, Reading, Output}
 use Rattle.run_changes.specs.declared.Change.{Change}
@@ -72,16 +73,17 @@ module _ (rows : List ℤ) (ok : check rows ≡ none) (sheet : Sheet) (l : List 
     pub data-put : putWrites rows (e .writes) b ≡ putData readings given (c .written) b
     data-put = ap (λ (f : Effect). putWrites rows (f .writes) b) (sym same) ∙ done .data-put
 
-    effect-held : HoldsState rows (after (program rows) sheet x s) (putEffect rows e b)
-    effect-held =
+    effect-held : (vs : List Variable) → Starting rows ok sheet l s o (e .changes) vs → HoldsState rows (after (program rows) sheet x s) (putEffect rows e vs b)
+    effect-held vs =
         let (f, i, H) = row-step-held rows ok sheet l s o b h j x g in
-        subst (λ (f : Effect). HoldsState rows (after (program rows) sheet x s) (putEffect rows f b)) (Option·some-injective f e (sym i ∙ q)) H
+        subst (λ (f : Effect). Starting rows ok sheet l s o (f .changes) vs → HoldsState rows (after (program rows) sheet x s) (putEffect rows f vs b)) (Option·some-injective f e (sym i ∙ q)) (H vs)
 
-    -- after the change of data, and with the row states settled, the arrays hold the state that the step leaves
-    pub state-held : (t : List ℕ) → t ≡ settle (whole (program rows)) false (changeStates (e .changes) (b .states)) → HoldsState rows (after (program rows) sheet x s) (withStates t (putData readings given (c .written) b))
+    -- after the change of data, with the row states settled and the cells of the blocks that start unset, the arrays hold the state that the step leaves
+    pub state-held : (t : List ℕ) → t ≡ settle (whole (program rows)) false (changeStates (e .changes) (b .states)) → (vs : List Variable) → Starting rows ok sheet l s o (e .changes) vs
+        → HoldsState rows (after (program rows) sheet x s) (putUnset vs (withStates t (putData readings given (c .written) b)))
     unfolding putEffect
-    state-held t p =
+    state-held t p vs starts =
         let d = putData readings given (c .written) b in
         let u : putChanges (e .changes) (putWrites rows (e .writes) b) ≡ withStates (changeStates (e .changes) (b .states)) (putData readings given (c .written) b) =
         rw data-put (changed-states (e .changes) d ∙ ap (λ (m : List ℕ). withStates (changeStates (e .changes) m) d) (data-states readings given (c .written) b)) in
-        ap (λ (m : List ℕ). withStates m d) p ∙ ap (putSettled rows false) (sym u) ∙ effect-held
+        ap (putUnset vs) (ap (λ (m : List ℕ). withStates m d) p ∙ ap (putSettled rows false) (sym u)) ∙ effect-held vs starts

@@ -20,22 +20,23 @@ use Rattle.meaning.specs.Kinds.{shapeOf, shapes, shapeIn, processes}
 use Rattle.meaning.specs.References.{of-a, of-b, IsTarget}
 use Rattle.meaning.specs.Faults.{Leads}
 use Rattle.meaning.specs.Declarations.{declarations, Variable, Channel, variableAt, sourceAt, sinkAt}
-use Rattle.meaning.specs.Tree.{ChannelInput, IfChoice, AltOption, skip, assign, input, output, conditional, loop, alternation, Process, node, Processes, empty, also, Content, ofProcess, ofGuarded, ofGuardRow, ofLink, andProcess, contentOf, contentAt, orStop}
+use Rattle.meaning.specs.Tree.{ChannelInput, IfChoice, AltOption, skip, assign, input, output, conditional, loop, alternation, block, Process, node, Processes, empty, also, Content, ofProcess, ofGuarded, ofGuardRow, ofLink, andProcess, contentOf, contentAt, orStop}
 use Rattle.meaning.specs.State.{program, processAt}
 use Rattle.meaning.specs.ContentClaims.{higherContent}
 use Rattle.meaning.proofs.AnswerLaws.{accepted}
 use Rattle.agreement.proofs.TableFit.{rows-limit}
 use Rattle.agreement.proofs.TableTree.{process-is}
 use Rattle.agreement.proofs.TableStarts.{is-process}
-use Rattle.agreement.proofs.TableReferences.{while-shape, choice-shape, option-shape, leads-at}
+use Rattle.agreement.proofs.TableReferences.{while-shape, block-shape, choice-shape, option-shape, leads-at}
 use Rattle.base_layout.proofs.Parts.{part-of-kind}
 use Rattle.base_layout.proofs.RowNodes.{nodeOf}
 use Rattle.run_code.specs.declared.Row.{Row}
 use Rattle.run_code.specs.Prepared.{row, raised, fixed, hostNote, kindIn, referredRow, subscriptedRow, stripOf, elementRow, rowOfKind, rowAt, Prepared, placeAt, literalOf, firstOf, sizeOf, hostOf, capacityOf, stripAt}
 use Rattle.run_code.proofs.Entries.{what-at, first-at, second-at, third-at, parent-at, next-at}
 use Rattle.run_code.proofs.RowKinds.{kindFrom, declarations-few, kind-told, row-of-kind, in-table}
-use Rattle.run_code.proofs.Names.{DeclaresVariable, DeclaresChannel, literal-least, element-names, assignment-names, input-names, output-names, variable-row, source-row, sink-row}
+use Rattle.run_code.proofs.Names.{DeclaresVariable, DeclaresChannel, literal-least, element-names, assignment-names, block-names, input-names, output-names, variable-row, source-row, sink-row}
 use Rattle.run_code.proofs.Referred.{referred-is, referred-part}
+use Rattle.run_code.proofs.Inside.{variable-within}
 
 -- the bits of a number make it up again
 lowered-raised : (x : ℤ) → minNumber ≤ℤ x → pos (raised x % 65536 + 65536 * (raised x / 65536)) -ℤ pos 2147483648 ≡ x
@@ -247,6 +248,12 @@ module _ {rows : List ℤ} {code : List ℕ} (p : Prepared rows code) where
         let (t, z, i) = leads-at rows (accepted rows .0 (p .accepted)) r 33 while-shape l (e, omega arith, refl) of-b in
         to-process 2 t (ap naturalOf z) i
 
+    of-block : r < rowCount rows → kindAt rows r ≡ 35 → Refers 2
+    unfolding shapeOf shapes shapeIn Leads
+    of-block l e =
+        let (t, z, i) = leads-at rows (accepted rows .0 (p .accepted)) r 35 block-shape l (e, omega arith, refl) of-b in
+        to-process 2 t (ap naturalOf z) i
+
     of-choice : r < rowCount rows → kindAt rows r ≡ 41 → Refers 1
     unfolding shapeOf shapes shapeIn Leads
     of-choice l e =
@@ -259,6 +266,12 @@ module _ {rows : List ℤ} {code : List ℕ} (p : Prepared rows code) where
         let (t, z, i) = leads-at rows (accepted rows .0 (p .accepted)) r 42 option-shape l (e, omega arith, refl) of-a in
         to-process 1 t (ap naturalOf z) i
 
+    -- the process of a WHILE or a block, of number 2
+    only : placeAt code r 2 ≡ referredRow rows r 2 → Refers 2 → andProcess (higherContent rows r (naturalAt rows r 2) .process) empty ≡ also (processAt (program rows) (placeAt code r 2)) empty
+    only two f =
+        ap (λ (o : Option Process). andProcess o empty)
+        (ap (λ (c : Content). c .process) (seen 2 refl) ∙ f .1 ∙ ap (λ (b : ℕ). some (processAt (program rows) b)) (sym two))
+
     -- ---- a WHILE: number 1 its test, number 2 its body
     module _ (e : placeAt code r 0 ≡ 33) where
       while-body : Refers 2
@@ -266,11 +279,34 @@ module _ {rows : List ℤ} {code : List ℕ} (p : Prepared rows code) where
 
       pub while-row : contentAt rows r ≡ ofProcess (node (loop (contentAt rows (placeAt code r 1) .expr) (placeAt code r 2)) r (also (processAt (program rows) (placeAt code r 2)) empty))
       while-row =
+          let two = second-is 33 e (λ z. omega arith) in
           content-is 33 e (λ z. omega arith)
-          ∙ ap₂ (λ (a b : Content). ofProcess (node (loop (a .expr) (naturalAt rows r 2)) r (andProcess (b .process) empty))) (seen 1 (first-is 33 e (λ z. omega arith))) (seen 2 (second-is 33 e (λ z. omega arith)))
-          ∙ ap₂ (λ (b : ℕ) (o : Option Process). ofProcess (node (loop (contentAt rows (placeAt code r 1) .expr) b) r (andProcess o empty)))
-          (while-body .0 ∙ sym (second-is 33 e (λ z. omega arith)))
-          (ap (λ (b : ℕ). contentAt rows b .process) (second-is 33 e (λ z. omega arith)) ∙ while-body .1 ∙ ap (λ (b : ℕ). some (processAt (program rows) b)) (sym (second-is 33 e (λ z. omega arith))))
+          ∙ ap₂ (λ (a : Content) (ms : Processes). ofProcess (node (loop (a .expr) (naturalAt rows r 2)) r ms)) (seen 1 (first-is 33 e (λ z. omega arith))) (only two while-body)
+          ∙ ap (λ (b : ℕ). ofProcess (node (loop (contentAt rows (placeAt code r 1) .expr) b) r (also (processAt (program rows) (placeAt code r 2)) empty))) (while-body .0 ∙ sym two)
+
+    -- ---- a block: number 1 the row of its variable, number 2 its process
+    module _ (e : placeAt code r 0 ≡ 35) where
+      block-refers : Refers 2
+      block-refers = of-block (here 35 e (λ z. omega arith)) (kind-is 35 e (λ z. omega arith))
+
+      pub block-row : contentAt rows r ≡ ofProcess (node (block (variableAt rows (placeAt code r 1))) r (also (processAt (program rows) (placeAt code r 2)) empty))
+      block-row =
+          content-is 35 e (λ z. omega arith)
+          ∙ ap₂ (λ (a : ℕ) (ms : Processes). ofProcess (node (block (variableAt rows a)) r ms)) (sym (first-is 35 e (λ z. omega arith))) (only (second-is 35 e (λ z. omega arith)) block-refers)
+
+      -- number 1 is the row of a declaration
+      pub block-variable : DeclaresVariable rows (placeAt code r 1)
+      block-variable = rw (first-is 35 e (λ z. omega arith)) (block-names rows (p .accepted) r (here 35 e (λ z. omega arith)) (kind-is 35 e (λ z. omega arith)))
+
+      pub block-first : firstOf code r ≡ variableAt rows (placeAt code r 1) .first
+      block-first = first-at p _ (omega (arith, block-variable .0, declarations-few rows, few)) ∙ ap (λ (w : Row). w .first) (variable-row rows _ block-variable)
+
+      pub block-size : sizeOf code r ≡ variableAt rows (placeAt code r 1) .size
+      block-size = second-at p _ (omega (arith, block-variable .0, declarations-few rows, few)) ∙ ap (λ (w : Row). w .second) (variable-row rows _ block-variable)
+
+      -- its cells are among 256
+      pub block-cells : firstOf code r + sizeOf code r ≤ 256
+      block-cells = rw (block-first, block-size) (variable-within rows (p .accepted) (placeAt code r 1) (block-variable .0))
 
     -- ---- links: number 1 the process, number 2 the next link, number 3 a choice's boolean or an option's guard
     module _ (one : placeAt code r 1 ≡ referredRow rows r 1) (two : placeAt code r 2 ≡ referredRow rows r 2) (f : Refers 1) where

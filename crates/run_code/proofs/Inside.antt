@@ -24,7 +24,7 @@ use Rattle.meaning.proofs.AnswerLaws.{accepted}
 use Rattle.agreement.proofs.TableFit.{rows-limit}
 use Rattle.run_parents.specs.Shapes.{shapeAt}
 use Rattle.run_parents.specs.declared.shape.Shape.{Shape}
-use Rattle.run_parents.specs.declared.shape.Shape.the-variants.{Ending, Repeating, Link, Neither}
+use Rattle.run_parents.specs.declared.shape.Shape.the-variants.{Ending, Single, Link, Neither}
 use Rattle.machine.specs.Upward.{parentOf}
 use Rattle.machine.specs.Held.{sumOf, stripStart}
 use Rattle.machine.proofs.Strips.{strip-within}
@@ -35,7 +35,7 @@ use Rattle.run_code.specs.declared.Row.{Row}
 use Rattle.run_code.specs.Prepared.{row, noRow, literalRow, fixed, variableRow, channelRow, kindIn, referredRow, subscriptedRow, nextNote, stripOf, declaredRow, elementRow, assignedRow, keptRow, rowAt, Prepared, placeAt}
 use Rattle.run_code.proofs.Entries.{what-at, first-at, second-at, third-at, next-at}
 use Rattle.run_code.proofs.RowKinds.{IsElement, isCell, isOutside, isSubscripted, element-what, declared-past, declarations-few, in-table}
-use Rattle.run_code.proofs.Names.{element-names, assignment-names, input-names, output-names, monadic-number, dyadic-number}
+use Rattle.run_code.proofs.Names.{element-names, assignment-names, block-names, input-names, output-names, monadic-number, dyadic-number}
 use Rattle.run_code.proofs.Referred.{present-inside}
 
 record Within (w : Row) : Type 0 where
@@ -53,20 +53,21 @@ module _ (rows : List ℤ) (ok : check rows ≡ none) where
   few = rows-limit rows ok
 
   -- ---- declarations
-  sums-small : (a : ℕ) → a < declarations rows → (sumBelow (cellsAt rows) a ≤ 1024) × (sumBelow (elementsAt rows) a ≤ 1024) × (sumBelow (capacityAt rows) a ≤ 1024)
+  sums-small : (a : ℕ) → a < declarations rows → (sumBelow (elementsAt rows) a ≤ 1024) × (sumBelow (capacityAt rows) a ≤ 1024)
   unfolding WithinLimits sumBelow
-  sums-small a d = let w = accepted rows .0 ok .3 a d in (omega (arith, w .0), omega (arith, w .1), omega (arith, w .4))
+  sums-small a d = let w = accepted rows .0 ok .3 a d in (omega (arith, w .1), omega (arith, w .4))
 
   module _ (a : ℕ) (d : a < declarations rows) where
-    variable-first : variableAt rows a .first ≤ 1024
-    unfolding variableAt
-    variable-first = go (isVariable rows a)
+    -- the cells of a variable are among 256
+    pub variable-within : variableAt rows a .first + variableAt rows a .size ≤ 256
+    unfolding variableAt WithinLimits sumBelow
+    variable-within = go (isVariable rows a)
       where
         v : Variable
         v = record { first = sumBelow (cellsAt rows) a; size = cellsAt rows a }
 
-        go : (t : Bool) → ifElse t v noVariable .first ≤ 1024
-        go true = sums-small a d .0
+        go : (t : Bool) → ifElse t v noVariable .first + ifElse t v noVariable .size ≤ 256
+        go true = accepted rows .0 ok .3 a d .0
         go false = omega arith
 
     channel-first : (role : ℕ) → channelAt role rows a .first ≤ 1024
@@ -77,7 +78,7 @@ module _ (rows : List ℤ) (ok : check rows ≡ none) where
         c = record { first = sumBelow (elementsAt rows) a; size = elementsAt rows a; host = hasRole role rows a; number = sumBelow (hostChannelsAt role rows) a; capacity = capacityAt rows a }
 
         go : (t : Bool) → ifElse t c noChannel .first ≤ 1024
-        go true = sums-small a d .1
+        go true = sums-small a d .0
         go false = omega arith
 
     sink-first : sinkAt rows a .first ≤ 1024
@@ -97,7 +98,7 @@ module _ (rows : List ℤ) (ok : check rows ≡ none) where
     declared-within = go (isVariable rows a) (hasRole 2 rows a)
       where
         go : (t u : Bool) → Within (ifElse t (variableRow (variableAt rows a)) (ifElse u (channelRow (sinkAt rows a) (stripOf rows (sinkAt rows a))) (channelRow (channelAt 1 rows a) 0)))
-        go true u = record { first = variable-first; second = λ l. absurd (omega arith); third = λ l. absurd (omega arith); next = omega arith }
+        go true u = record { first = omega (arith, variable-within); second = λ l. absurd (omega arith); third = λ l. absurd (omega arith); next = omega arith }
         go false true = record { first = sink-first; second = λ l. absurd (omega arith); third = λ l. absurd (omega arith); next = strip-small (sinkAt rows a) (sink-below rows a) }
         go false false = record { first = channel-first 1; second = λ l. absurd (omega arith); third = λ l. absurd (omega arith); next = omega arith }
 
@@ -131,7 +132,7 @@ module _ (rows : List ℤ) (ok : check rows ≡ none) where
 
   link-within : (s : Shape) → linkAfter rows s ≤ 1024
   link-within (Ending m f) = few
-  link-within (Repeating b) = few
+  link-within (Single b) = few
   link-within (Link q t) = in-table-within t
   link-within Neither = few
 
@@ -163,7 +164,7 @@ module _ (rows : List ℤ) (ok : check rows ≡ none) where
     what-least (isOutside e) = omega arith
     what-least (isSubscripted e) = omega arith
 
-    by-kind : (k : ℕ) (a b c d e f g x y : Bool) → kindIn rows r ≡ k → eqb k 11 ≡ b → eqb k 12 ≡ c → eqb k 13 ≡ d → eqb k 22 ≡ e → eqb k 23 ≡ f → eqb k 24 ≡ g
+    by-kind : (k : ℕ) (a b c d e f g h x y : Bool) → kindIn rows r ≡ k → eqb k 11 ≡ b → eqb k 12 ≡ c → eqb k 13 ≡ d → eqb k 22 ≡ e → eqb k 23 ≡ f → eqb k 24 ≡ g → eqb k 35 ≡ h
         → Within
         (ifElse a (literalRow (fieldAt rows r 1))
         (ifElse b (elementRow rows r)
@@ -172,34 +173,37 @@ module _ (rows : List ℤ) (ok : check rows ≡ none) where
         (ifElse e (assignedRow rows r (elementRow rows r))
         (ifElse f (keptRow rows r 23 (naturalAt rows r 1))
         (ifElse g (keptRow rows r 24 (naturalAt rows r 1))
+        (ifElse h (keptRow rows r 35 (naturalAt rows r 1))
         (ifElse x (declaredRow rows r)
         (ifElse y (keptRow rows r k (referredRow rows r 1))
-        noRow)))))))))
-    by-kind k true b c d e f g x y i p2 p3 p4 p5 p6 p7 = record { first = omega arith; second = λ l. absurd (omega arith); third = λ l. absurd (omega arith); next = omega arith }
-    by-kind k false true c d e f g x y i p2 p3 p4 p5 p6 p7 =
+        noRow))))))))))
+    by-kind k true b c d e f g h x y i p2 p3 p4 p5 p6 p7 p8 = record { first = omega arith; second = λ l. absurd (omega arith); third = λ l. absurd (omega arith); next = omega arith }
+    by-kind k false true c d e f g h x y i p2 p3 p4 p5 p6 p7 p8 =
         element-within (naturalAt rows r 1) (referredRow rows r 2) (names-inside 11 (λ z. omega arith) (λ h j. declaration-inside (element-names rows ok r h j .0)) (i ∙ eqb-true k 11 p2)) (refers 2)
-    by-kind k false false true d e f g x y i p2 p3 p4 p5 p6 p7 =
+    by-kind k false false true d e f g h x y i p2 p3 p4 p5 p6 p7 p8 =
         plain 5 (naturalAt rows r 1) (referredRow rows r 2) 0 (names-inside 12 (λ z. omega arith) (λ h j. omega (arith, monadic-number rows ok r h j)) (i ∙ eqb-true k 12 p3)) (refers 2) (omega arith)
-    by-kind k false false false true e f g x y i p2 p3 p4 p5 p6 p7 =
+    by-kind k false false false true e f g h x y i p2 p3 p4 p5 p6 p7 p8 =
         plain 6 (naturalAt rows r 1) (referredRow rows r 2) (referredRow rows r 3) (names-inside 13 (λ z. omega arith) (λ h j. omega (arith, dyadic-number rows ok r h j)) (i ∙ eqb-true k 13 p4)) (refers 2) (refers 3)
-    by-kind k false false false false true f g x y i p2 p3 p4 p5 p6 p7 =
+    by-kind k false false false false true f g h x y i p2 p3 p4 p5 p6 p7 p8 =
         let w = element-within (naturalAt rows r 1) (referredRow rows r 2) (names-inside 22 (λ z. omega arith) (λ h j. declaration-inside (assignment-names rows ok r h j .0)) (i ∙ eqb-true k 22 p5)) (refers 2) in
         record { first = w .first; second = λ l. w .second (what-least (element-what rows (naturalAt rows r 1) (referredRow rows r 2))); third = λ l. refers 3; next = next-within r }
-    by-kind k false false false false false true g x y i p2 p3 p4 p5 p6 p7 =
+    by-kind k false false false false false true g h x y i p2 p3 p4 p5 p6 p7 p8 =
         record { first = names-inside 23 (λ z. omega arith) (λ h j. declaration-inside (input-names rows ok r h j .0)) (i ∙ eqb-true k 23 p6); second = λ l. refers 2; third = λ l. refers 3; next = next-within r }
-    by-kind k false false false false false false true x y i p2 p3 p4 p5 p6 p7 =
+    by-kind k false false false false false false true h x y i p2 p3 p4 p5 p6 p7 p8 =
         record { first = names-inside 24 (λ z. omega arith) (λ h j. declaration-inside (output-names rows ok r h j .0)) (i ∙ eqb-true k 24 p7); second = λ l. refers 2; third = λ l. refers 3; next = next-within r }
-    by-kind k false false false false false false false true y i p2 p3 p4 p5 p6 p7 = declaration (decLt r (declarations rows))
+    by-kind k false false false false false false false true x y i p2 p3 p4 p5 p6 p7 p8 =
+        record { first = names-inside 35 (λ z. omega arith) (λ h j. declaration-inside (block-names rows ok r h j .0)) (i ∙ eqb-true k 35 p8); second = λ l. refers 2; third = λ l. refers 3; next = next-within r }
+    by-kind k false false false false false false false false true y i p2 p3 p4 p5 p6 p7 p8 = declaration (decLt r (declarations rows))
       where
         declaration : Dec (r < declarations rows) → Within (declaredRow rows r)
         declaration (yes d) = declared-within r d
         declaration (no d) = subst Within (sym (declared-past rows r (omega arith))) (plain 0 0 0 0 (omega arith) (omega arith) (omega arith))
-    by-kind k false false false false false false false false true i p2 p3 p4 p5 p6 p7 = record { first = refers 1; second = λ l. refers 2; third = λ l. refers 3; next = next-within r }
-    by-kind k false false false false false false false false false i p2 p3 p4 p5 p6 p7 = plain 0 0 0 0 (omega arith) (omega arith) (omega arith)
+    by-kind k false false false false false false false false false true i p2 p3 p4 p5 p6 p7 p8 = record { first = refers 1; second = λ l. refers 2; third = λ l. refers 3; next = next-within r }
+    by-kind k false false false false false false false false false false i p2 p3 p4 p5 p6 p7 p8 = plain 0 0 0 0 (omega arith) (omega arith) (omega arith)
 
     within : Within (rowAt rows r)
     unfolding rowAt
-    within = let k = kindIn rows r in by-kind k (eqb k 10) (eqb k 11) (eqb k 12) (eqb k 13) (eqb k 22) (eqb k 23) (eqb k 24) (ltb k 20) (ltb k 44) refl refl refl refl refl refl refl
+    within = let k = kindIn rows r in by-kind k (eqb k 10) (eqb k 11) (eqb k 12) (eqb k 13) (eqb k 22) (eqb k 23) (eqb k 24) (eqb k 35) (ltb k 20) (ltb k 44) refl refl refl refl refl refl refl refl
 
 module _ {rows : List ℤ} {code : List ℕ} (p : Prepared rows code) (r : ℕ) (h : r ≤ 1024) where
   pub first-inside : placeAt code r 1 ≤ 1024

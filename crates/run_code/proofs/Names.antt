@@ -1,7 +1,7 @@
 -- What number 1 of a row is in an accepted table: the row of a declaration that it names, or an operator; and the prepared rows of declarations.
-use mathlib.Core.Path.{_≡_, refl, sym, ap, subst, _∙_}
+use mathlib.Core.Path.{_≡_, refl, ap, _∙_}
 use mathlib.Core.Logic.{_⊎_, inl, inr}
-use mathlib.Core.Option.{none, some, Option·some-injective}
+use mathlib.Core.Option.{none, some}
 use mathlib.Core.List.{List, [], _∷_, List·Memᴰ, List·Memᴰ·head, List·Memᴰ·tail, List·Memᴰ·not-nil}
 use Prim.Native.Nat.{ℕ, _<_, _≤_}
 use native.Mathlib.Omega.{arith}
@@ -12,9 +12,10 @@ use borrow.Author.Tests.{lt-ltb}
 use Rattle.meaning.specs.Limits.{minNumber}
 use Rattle.meaning.specs.Rows.{rowCount, fieldAt, naturalOf, naturalAt, kindAt}
 use Rattle.meaning.specs.Kinds.{Shape, shapeOf, shapes, shapeIn}
-use Rattle.meaning.specs.Faults.{MayHold, WellFormed}
+use Rattle.meaning.specs.Faults.{MayHold}
 use Rattle.meaning.specs.Declarations.{declarations, channelAt, variableAt, sourceAt, sinkAt}
 use Rattle.meaning.specs.Answers.{check}
+use Rattle.meaning.proofs.FaultLaws.{holds-a}
 use Rattle.meaning.proofs.AnswerLaws.{accepted}
 use Rattle.run_code.specs.Prepared.{variableRow, channelRow, stripOf, declaredRow, rowAt}
 use Rattle.run_code.proofs.RowKinds.{declarations-few, row-of-kind, kind-in}
@@ -40,10 +41,7 @@ natural-most (negsuc m) n h k = absurd (h .le)
 
 module _ (rows : List ℤ) (ok : check rows ≡ none) (r : ℕ) (l : r < rowCount rows) where
   held : (k : ℕ) (s : Shape) → shapeOf k ≡ some s → kindAt rows r ≡ k → MayHold rows r (s .a) (fieldAt rows r 1)
-  unfolding WellFormed
-  held k s e i =
-      let w = accepted rows .0 ok .1 r l .1 in
-      subst (λ (u : Shape). MayHold rows r (u .a) (fieldAt rows r 1)) (Option·some-injective (w .0) s (sym (w .1) ∙ ap shapeOf i ∙ e)) (w .2)
+  held k s e i = holds-a rows r s (accepted rows .0 ok .1 r l) (ap shapeOf i ∙ e)
 
   pub literal-least : kindAt rows r ≡ 10 → minNumber ≤ℤ fieldAt rows r 1
   unfolding shapeOf shapes shapeIn MayHold
@@ -56,6 +54,10 @@ module _ (rows : List ℤ) (ok : check rows ≡ none) (r : ℕ) (l : r < rowCoun
   pub assignment-names : kindAt rows r ≡ 22 → DeclaresVariable rows (naturalAt rows r 1)
   unfolding shapeOf shapes shapeIn MayHold
   assignment-names i = let (q, (e, d, k)) = held 22 _ refl i in rw (ap naturalOf e) (d, k)
+
+  pub block-names : kindAt rows r ≡ 35 → DeclaresVariable rows (naturalAt rows r 1)
+  unfolding shapeOf shapes shapeIn MayHold
+  block-names i = let (q, (e, d, k)) = held 35 _ refl i in rw (ap naturalOf e) (d, k)
 
   pub input-names : kindAt rows r ≡ 23 → DeclaresChannel rows 1 (naturalAt rows r 1)
   unfolding shapeOf shapes shapeIn MayHold

@@ -6,7 +6,7 @@ use native.Mathlib.Omega.{arith}
 use native.Mathlib.Decide.{decLt}
 use lib.IntN.{ℤ}
 use Rattle.meaning.specs.declared.Node.{Node}
-use Rattle.meaning.specs.declared.Node.the-variants.{Literal, Element, Monadic, Dyadic, Stop, Skip, Assignment, Input, Output, Seq, Par, If, While, Alt, Member, Choice, OptionRow, Guard, Other}
+use Rattle.meaning.specs.declared.Node.the-variants.{Literal, Element, Monadic, Dyadic, Stop, Skip, Assignment, Input, Output, Seq, Par, If, While, Alt, Block, Member, Choice, OptionRow, Guard, Other}
 use Rattle.meaning.specs.Rows.{rowCount, kindAt}
 use Rattle.meaning.specs.Nodes.{nodeAt}
 use Rattle.meaning.specs.Tree.{empty, Content, noContent, contentOf, contentAt}
@@ -47,6 +47,7 @@ module _ {rows : List ℤ} {code : List ℕ} (p : Prepared rows code) (r : ℕ) 
     by-node (If a) f = neither (contentOf rows r (higherContent rows r) (If a)) refl refl refl
     by-node (While a b) f = neither (contentOf rows r (higherContent rows r) (While a b)) refl refl refl
     by-node (Alt a) f = neither (contentOf rows r (higherContent rows r) (Alt a)) refl refl refl
+    by-node (Block a b) f = neither (contentOf rows r (higherContent rows r) (Block a b)) refl refl refl
     by-node (Member a b) f = record { no-members = λ x y z. absurd (x (what 40 (f .0 .0))); no-choices = λ y. refl; no-options = λ z. refl }
     by-node (Choice a b c) f = record { no-members = λ x y z. absurd (y (what 41 (f .0 .0))); no-choices = λ y. absurd (y (what 41 (f .0 .0))); no-options = λ z. refl }
     by-node (OptionRow a b c) f = record { no-members = λ x y z. absurd (z (what 42 (f .0 .0))); no-choices = λ y. refl; no-options = λ z. absurd (z (what 42 (f .0 .0))) }

@@ -20,7 +20,7 @@ use Rattle.agreement.proofs.TreeRows.{process-kind}
 use Rattle.run_parents.specs.Members.{onlyProcess}
 use Rattle.run_parents.specs.Shapes.{shapeAt}
 use Rattle.run_parents.specs.declared.shape.Shape.{Shape}
-use Rattle.run_parents.specs.declared.shape.Shape.the-variants.{Ending, Repeating, Link, Neither}
+use Rattle.run_parents.specs.declared.shape.Shape.the-variants.{Ending, Single, Link, Neither}
 use Rattle.run_parents.proofs.Standing.{Stands, stands}
 use Rattle.machine.specs.Upward.{processRows, parentOf, processesAfter}
 use Rattle.machine.specs.RowSteps.{altOf}
@@ -91,23 +91,23 @@ module _ (rows : List ℤ) (r : ℕ) where
     where
       go : (s : Shape) → shapeAt rows f ≡ s → Stands rows f s → ((t : ℕ) → rowCount rows - t ≤ k → List·Memᴰ r (processRows (contentAt rows t .listed)) → After (contentAt rows t .listed)) → After (contentAt rows f .listed)
       go (Ending q g) e s rec = none-among (contentAt rows f .listed) (s .no-members) m
-      go (Repeating b) e s rec = none-among (contentAt rows f .listed) (s .no-members) m
+      go (Single b) e s rec = none-among (contentAt rows f .listed) (s .no-members) m
       go (Link p t) e s rec =
           subst After (sym (s .members-are))
           (at-link f p t (let l = s .fewer-next in omega arith) e (rec t (let l = s .fewer-next in omega arith)) (contentAt rows p .process) refl (subst (λ (ms : Processes). List·Memᴰ r (processRows ms)) (s .members-are) m))
       go Neither e s rec = none-among (contentAt rows f .listed) (s .no-members) m
 
-  -- the body of a WHILE
-  at-body : (w b : ℕ) → w < rowCount rows → shapeAt rows w ≡ Repeating b → (o : Maybe Process) → contentAt rows b .process ≡ o → List·Memᴰ r (processRows (onlyProcess o)) → After (onlyProcess o)
-  at-body w b l s none e m = none-among empty refl m
-  at-body w b l s (some x) e (List·Memᴰ·tail m) = none-among empty refl m
-  at-body w b l s (some x) e (List·Memᴰ·head i) =
+  -- the process of a WHILE or a block
+  at-single : (w b : ℕ) → w < rowCount rows → shapeAt rows w ≡ Single b → (o : Maybe Process) → contentAt rows b .process ≡ o → List·Memᴰ r (processRows (onlyProcess o)) → After (onlyProcess o)
+  at-single w b l s none e m = none-among empty refl m
+  at-single w b l s (some x) e (List·Memᴰ·tail m) = none-among empty refl m
+  at-single w b l s (some x) e (List·Memᴰ·head i) =
       let q : r ≡ b = i ∙ own-row rows b x e in
       record {
         found = x;
         stands-there = ap (λ (n : ℕ). contentAt rows n .process) q ∙ e;
         next = rowCount rows;
-        next-of = (rw q (row-alone rows b (ap isSome e) .1), inr (w, l, s ∙ ap Repeating (sym q), refl));
+        next-of = (rw q (row-alone rows b (ap isSome e) .1), inr (w, l, s ∙ ap Single (sym q), refl));
         after-it = none-past rows (rowCount rows) (omega arith) ∙ sym (ap (λ (t : Bool). ifElse t empty empty) (eq-eqb r (rowOf x) i));
       }
 
@@ -123,7 +123,7 @@ module _ (rows : List ℤ) (r : ℕ) where
 
       go : (s : Shape) → shapeAt rows q ≡ s → Stands rows q s → After (processesIn (processAt (program rows) q))
       go (Ending k f) e s = inner (is (s .process-is)) (from-link (rowCount rows) f (omega arith))
-      go (Repeating b) e s = inner (is (s .process-is)) (at-body q b (let l = s .fewer in omega arith) e (contentAt rows b .process) refl)
+      go (Single b) e s = inner (is (s .process-is)) (at-single q b (let l = s .fewer in omega arith) e (contentAt rows b .process) refl)
       go (Link p t) e s = inner (is (s .no-process)) (none-among empty refl)
       go Neither e s = inner (is (s .no-process)) (none-among empty refl)
 
@@ -140,6 +140,7 @@ process-kinds k (List·Memᴰ·tail (List·Memᴰ·tail (List·Memᴰ·tail (Lis
 process-kinds k (List·Memᴰ·tail (List·Memᴰ·tail (List·Memᴰ·tail (List·Memᴰ·tail (List·Memᴰ·tail (List·Memᴰ·tail (List·Memᴰ·tail (List·Memᴰ·head e)))))))) = (omega arith, omega arith)
 process-kinds k (List·Memᴰ·tail (List·Memᴰ·tail (List·Memᴰ·tail (List·Memᴰ·tail (List·Memᴰ·tail (List·Memᴰ·tail (List·Memᴰ·tail (List·Memᴰ·tail (List·Memᴰ·head e))))))))) = (omega arith, omega arith)
 process-kinds k (List·Memᴰ·tail (List·Memᴰ·tail (List·Memᴰ·tail (List·Memᴰ·tail (List·Memᴰ·tail (List·Memᴰ·tail (List·Memᴰ·tail (List·Memᴰ·tail (List·Memᴰ·tail (List·Memᴰ·head e)))))))))) = (omega arith, omega arith)
+process-kinds k (List·Memᴰ·tail (List·Memᴰ·tail (List·Memᴰ·tail (List·Memᴰ·tail (List·Memᴰ·tail (List·Memᴰ·tail (List·Memᴰ·tail (List·Memᴰ·tail (List·Memᴰ·tail (List·Memᴰ·tail (List·Memᴰ·head e))))))))))) = (omega arith, omega arith)
 
 -- a row has the two notes, or is no process, link or guard
 data Notes (owner next : ℕ) (low : Type 0) (w : Row) : Type 0 where
@@ -150,7 +151,7 @@ module _ (rows : List ℤ) (r : ℕ) where
   abbrev Low : ℕ → Type 0
   Low k = (20 ≤ k) × (k < 44) → ⊥
 
-  by-kind : (k : ℕ) (a b c d e f g x y : Bool) → eqb k 10 ≡ a → eqb k 11 ≡ b → eqb k 12 ≡ c → eqb k 13 ≡ d → eqb k 22 ≡ e → eqb k 23 ≡ f → eqb k 24 ≡ g → ltb k 20 ≡ x → ltb k 44 ≡ y
+  by-kind : (k : ℕ) (a b c d e f g h x y : Bool) → eqb k 10 ≡ a → eqb k 11 ≡ b → eqb k 12 ≡ c → eqb k 13 ≡ d → eqb k 22 ≡ e → eqb k 23 ≡ f → eqb k 24 ≡ g → eqb k 35 ≡ h → ltb k 20 ≡ x → ltb k 44 ≡ y
       → Notes (ownerNote rows k r) (nextNote rows r) (Low k)
       (ifElse a (literalRow (fieldAt rows r 1))
       (ifElse b (elementRow rows r)
@@ -159,23 +160,25 @@ module _ (rows : List ℤ) (r : ℕ) where
       (ifElse e (assignedRow rows r (elementRow rows r))
       (ifElse f (keptRow rows r 23 (naturalAt rows r 1))
       (ifElse g (keptRow rows r 24 (naturalAt rows r 1))
+      (ifElse h (keptRow rows r 35 (naturalAt rows r 1))
       (ifElse x (declaredRow rows r)
       (ifElse y (keptRow rows r k (referredRow rows r 1))
-      noRow)))))))))
-  by-kind k true b c d e f g x y p1 p2 p3 p4 p5 p6 p7 p8 p9 = notNoted (λ l. omega (arith, eqb-true k 10 p1, l .0))
-  by-kind k false true c d e f g x y p1 p2 p3 p4 p5 p6 p7 p8 p9 = notNoted (λ l. omega (arith, eqb-true k 11 p2, l .0))
-  by-kind k false false true d e f g x y p1 p2 p3 p4 p5 p6 p7 p8 p9 = notNoted (λ l. omega (arith, eqb-true k 12 p3, l .0))
-  by-kind k false false false true e f g x y p1 p2 p3 p4 p5 p6 p7 p8 p9 = notNoted (λ l. omega (arith, eqb-true k 13 p4, l .0))
-  by-kind k false false false false true f g x y p1 p2 p3 p4 p5 p6 p7 p8 p9 = noted (ap (λ (k : ℕ). ownerNote rows k r) (sym (eqb-true k 22 p5))) refl
-  by-kind k false false false false false true g x y p1 p2 p3 p4 p5 p6 p7 p8 p9 = noted (ap (λ (k : ℕ). ownerNote rows k r) (sym (eqb-true k 23 p6))) refl
-  by-kind k false false false false false false true x y p1 p2 p3 p4 p5 p6 p7 p8 p9 = noted (ap (λ (k : ℕ). ownerNote rows k r) (sym (eqb-true k 24 p7))) refl
-  by-kind k false false false false false false false true y p1 p2 p3 p4 p5 p6 p7 p8 p9 = notNoted (λ l. omega (arith, ltb-true k 20 p8, l .0))
-  by-kind k false false false false false false false false true p1 p2 p3 p4 p5 p6 p7 p8 p9 = noted refl refl
-  by-kind k false false false false false false false false false p1 p2 p3 p4 p5 p6 p7 p8 p9 = notNoted (λ l. omega (arith, ltb-false k 44 p9, l .1))
+      noRow))))))))))
+  by-kind k true b c d e f g h x y p1 p2 p3 p4 p5 p6 p7 p8 p9 p10 = notNoted (λ l. omega (arith, eqb-true k 10 p1, l .0))
+  by-kind k false true c d e f g h x y p1 p2 p3 p4 p5 p6 p7 p8 p9 p10 = notNoted (λ l. omega (arith, eqb-true k 11 p2, l .0))
+  by-kind k false false true d e f g h x y p1 p2 p3 p4 p5 p6 p7 p8 p9 p10 = notNoted (λ l. omega (arith, eqb-true k 12 p3, l .0))
+  by-kind k false false false true e f g h x y p1 p2 p3 p4 p5 p6 p7 p8 p9 p10 = notNoted (λ l. omega (arith, eqb-true k 13 p4, l .0))
+  by-kind k false false false false true f g h x y p1 p2 p3 p4 p5 p6 p7 p8 p9 p10 = noted (ap (λ (k : ℕ). ownerNote rows k r) (sym (eqb-true k 22 p5))) refl
+  by-kind k false false false false false true g h x y p1 p2 p3 p4 p5 p6 p7 p8 p9 p10 = noted (ap (λ (k : ℕ). ownerNote rows k r) (sym (eqb-true k 23 p6))) refl
+  by-kind k false false false false false false true h x y p1 p2 p3 p4 p5 p6 p7 p8 p9 p10 = noted (ap (λ (k : ℕ). ownerNote rows k r) (sym (eqb-true k 24 p7))) refl
+  by-kind k false false false false false false false true x y p1 p2 p3 p4 p5 p6 p7 p8 p9 p10 = noted (ap (λ (k : ℕ). ownerNote rows k r) (sym (eqb-true k 35 p8))) refl
+  by-kind k false false false false false false false false true y p1 p2 p3 p4 p5 p6 p7 p8 p9 p10 = notNoted (λ l. omega (arith, ltb-true k 20 p9, l .0))
+  by-kind k false false false false false false false false false true p1 p2 p3 p4 p5 p6 p7 p8 p9 p10 = noted refl refl
+  by-kind k false false false false false false false false false false p1 p2 p3 p4 p5 p6 p7 p8 p9 p10 = notNoted (λ l. omega (arith, ltb-false k 44 p10, l .1))
 
   notes-are : Notes (ownerNote rows (kindIn rows r) r) (nextNote rows r) (Low (kindIn rows r)) (rowAt rows r)
   unfolding rowAt
-  notes-are = let k = kindIn rows r in by-kind k (eqb k 10) (eqb k 11) (eqb k 12) (eqb k 13) (eqb k 22) (eqb k 23) (eqb k 24) (ltb k 20) (ltb k 44) refl refl refl refl refl refl refl refl refl
+  notes-are = let k = kindIn rows r in by-kind k (eqb k 10) (eqb k 11) (eqb k 12) (eqb k 13) (eqb k 22) (eqb k 23) (eqb k 24) (eqb k 35) (ltb k 20) (ltb k 44) refl refl refl refl refl refl refl refl refl refl
 
 module _ {rows : List ℤ} {code : List ℕ} (p : Prepared rows code) (r : ℕ) (h : r ≤ 1024) where
   process-kind-in : (x : Process) → contentAt rows r .process ≡ some x → (20 ≤ kindIn rows r) × (kindIn rows r < 42)

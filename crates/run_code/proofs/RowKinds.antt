@@ -93,7 +93,7 @@ kept-kind k l u =
     )
 
 module _ (rows : List ℤ) (r : ℕ) where
-  told : (k : ℕ) (a b c d e f g x y : Bool) → eqb k 10 ≡ a → eqb k 11 ≡ b → eqb k 12 ≡ c → eqb k 13 ≡ d → eqb k 22 ≡ e → eqb k 23 ≡ f → eqb k 24 ≡ g → ltb k 20 ≡ x → ltb k 44 ≡ y
+  told : (k : ℕ) (a b c d e f g h x y : Bool) → eqb k 10 ≡ a → eqb k 11 ≡ b → eqb k 12 ≡ c → eqb k 13 ≡ d → eqb k 22 ≡ e → eqb k 23 ≡ f → eqb k 24 ≡ g → eqb k 35 ≡ h → ltb k 20 ≡ x → ltb k 44 ≡ y
       → Told k
       (ifElse a (literalRow (fieldAt rows r 1))
       (ifElse b (elementRow rows r)
@@ -102,26 +102,28 @@ module _ (rows : List ℤ) (r : ℕ) where
       (ifElse e (assignedRow rows r (elementRow rows r))
       (ifElse f (keptRow rows r 23 (naturalAt rows r 1))
       (ifElse g (keptRow rows r 24 (naturalAt rows r 1))
+      (ifElse h (keptRow rows r 35 (naturalAt rows r 1))
       (ifElse x (declaredRow rows r)
       (ifElse y (keptRow rows r k (referredRow rows r 1))
-      noRow)))))))) .what)
-  told k true b c d e f g x y p1 p2 p3 p4 p5 p6 p7 p8 p9 = inr (sym (eqb-true k 10 p1))
-  told k false true c d e f g x y p1 p2 p3 p4 p5 p6 p7 p8 p9 = inr (sym (element-kind _ (element-what rows (naturalAt rows r 1) (referredRow rows r 2)) .0) ∙ sym (eqb-true k 11 p2))
-  told k false false true d e f g x y p1 p2 p3 p4 p5 p6 p7 p8 p9 = inr (sym (eqb-true k 12 p3))
-  told k false false false true e f g x y p1 p2 p3 p4 p5 p6 p7 p8 p9 = inr (sym (eqb-true k 13 p4))
-  told k false false false false true f g x y p1 p2 p3 p4 p5 p6 p7 p8 p9 = inr (sym (element-kind _ (element-what rows (naturalAt rows r 1) (referredRow rows r 2)) .1) ∙ sym (eqb-true k 22 p5))
-  told k false false false false false true g x y p1 p2 p3 p4 p5 p6 p7 p8 p9 = inr (sym (eqb-true k 23 p6))
-  told k false false false false false false true x y p1 p2 p3 p4 p5 p6 p7 p8 p9 = inr (sym (eqb-true k 24 p7))
-  told k false false false false false false false true y p1 p2 p3 p4 p5 p6 p7 p8 p9 = inl (declared-what rows r)
-  told k false false false false false false false false true p1 p2 p3 p4 p5 p6 p7 p8 p9 = inr (kept-kind k (ltb-false k 20 p8) (ltb-true k 44 p9))
-  told k false false false false false false false false false p1 p2 p3 p4 p5 p6 p7 p8 p9 = inl refl
+      noRow))))))))) .what)
+  told k true b c d e f g h x y p1 p2 p3 p4 p5 p6 p7 p8 p9 p10 = inr (sym (eqb-true k 10 p1))
+  told k false true c d e f g h x y p1 p2 p3 p4 p5 p6 p7 p8 p9 p10 = inr (sym (element-kind _ (element-what rows (naturalAt rows r 1) (referredRow rows r 2)) .0) ∙ sym (eqb-true k 11 p2))
+  told k false false true d e f g h x y p1 p2 p3 p4 p5 p6 p7 p8 p9 p10 = inr (sym (eqb-true k 12 p3))
+  told k false false false true e f g h x y p1 p2 p3 p4 p5 p6 p7 p8 p9 p10 = inr (sym (eqb-true k 13 p4))
+  told k false false false false true f g h x y p1 p2 p3 p4 p5 p6 p7 p8 p9 p10 = inr (sym (element-kind _ (element-what rows (naturalAt rows r 1) (referredRow rows r 2)) .1) ∙ sym (eqb-true k 22 p5))
+  told k false false false false false true g h x y p1 p2 p3 p4 p5 p6 p7 p8 p9 p10 = inr (sym (eqb-true k 23 p6))
+  told k false false false false false false true h x y p1 p2 p3 p4 p5 p6 p7 p8 p9 p10 = inr (sym (eqb-true k 24 p7))
+  told k false false false false false false false true x y p1 p2 p3 p4 p5 p6 p7 p8 p9 p10 = inr (sym (eqb-true k 35 p8))
+  told k false false false false false false false false true y p1 p2 p3 p4 p5 p6 p7 p8 p9 p10 = inl (declared-what rows r)
+  told k false false false false false false false false false true p1 p2 p3 p4 p5 p6 p7 p8 p9 p10 = inr (kept-kind k (ltb-false k 20 p9) (ltb-true k 44 p10))
+  told k false false false false false false false false false false p1 p2 p3 p4 p5 p6 p7 p8 p9 p10 = inl refl
 
   -- the kind of a row that is something
   pub kind-told : (n : ℕ) → rowAt rows r .what ≡ n → (n ≡ 0 → ⊥) → kindIn rows r ≡ kindFrom n
   unfolding rowAt
   kind-told n e z =
       let k = kindIn rows r in
-      go (told k (eqb k 10) (eqb k 11) (eqb k 12) (eqb k 13) (eqb k 22) (eqb k 23) (eqb k 24) (ltb k 20) (ltb k 44) refl refl refl refl refl refl refl refl refl)
+      go (told k (eqb k 10) (eqb k 11) (eqb k 12) (eqb k 13) (eqb k 22) (eqb k 23) (eqb k 24) (eqb k 35) (ltb k 20) (ltb k 44) refl refl refl refl refl refl refl refl refl refl)
     where
       go : Told (kindIn rows r) (rowOfKind rows r (kindIn rows r) .what) → kindIn rows r ≡ kindFrom n
       go (inl w) = absurd (z (sym e ∙ w))

@@ -10,7 +10,7 @@ use Rattle.base_layout.proofs.RowNodes.{nodeOf}
 use Rattle.run_parents.specs.Shapes.{higherRow, settlingShape}
 use Rattle.run_parents.specs.declared.shape.Mode.{Mode}
 use Rattle.run_parents.specs.declared.shape.Shape.{Shape}
-use Rattle.run_parents.specs.declared.shape.Shape.the-variants.{Ending, Repeating, Link}
+use Rattle.run_parents.specs.declared.shape.Shape.the-variants.{Ending, Single, Link}
 use Rattle.run_parents.proofs.Standing.{told, operand-is}
 use Rattle.run_code.specs.Prepared.{presentRow, referredRow, rowOfKind, Prepared, placeAt, shapeTo, shapeIn}
 use Rattle.run_code.proofs.RowKinds.{kindFrom}
@@ -29,7 +29,7 @@ module _ (rows : List ℤ) (r : ℕ) where
   none-there = present-past rows (length rows) (omega arith)
 
   module _ (l : r < rowCount rows) where
-    -- a process with no members, with those of a link, a WHILE, a link
+    -- a process with no members, with those of a link, a WHILE or a block, a link
     leaf-shape : (k : ℕ) (m : Mode) → kindAt rows r ≡ k
         → shapeTo rows (settlingShape rows r (nodeOf k (fieldAt rows r 1) (naturalAt rows r 1) (naturalAt rows r 2) (naturalAt rows r 3))) ≡ Ending m (presentRow rows (length rows)) → Ending m 1024 ≡ shapeIn rows r
     leaf-shape k m e i = ap (Ending m) (sym none-there) ∙ sym i ∙ sym (shape-of k l e)
@@ -39,8 +39,10 @@ module _ (rows : List ℤ) (r : ℕ) where
         → Ending m a ≡ shapeIn rows r
     inner-shape k m a e q i = ap (Ending m) (q ∙ refers 1) ∙ sym i ∙ sym (shape-of k l e)
 
-    while-shape : (b : ℕ) → kindAt rows r ≡ 33 → b ≡ referredRow rows r 2 → Repeating b ≡ shapeIn rows r
-    while-shape b e q = ap Repeating (q ∙ refers 2) ∙ sym (shape-of 33 l e)
+    single-shape : (k b : ℕ) → kindAt rows r ≡ k → b ≡ referredRow rows r 2
+        → shapeTo rows (settlingShape rows r (nodeOf k (fieldAt rows r 1) (naturalAt rows r 1) (naturalAt rows r 2) (naturalAt rows r 3))) ≡ Single (presentRow rows (higherRow rows r (naturalAt rows r 2)))
+        → Single b ≡ shapeIn rows r
+    single-shape k b e q i = ap Single (q ∙ refers 2) ∙ sym i ∙ sym (shape-of k l e)
 
     link-shape : (k a b : ℕ) → kindAt rows r ≡ k → a ≡ referredRow rows r 1 → b ≡ referredRow rows r 2
         → shapeTo rows (settlingShape rows r (nodeOf k (fieldAt rows r 1) (naturalAt rows r 1) (naturalAt rows r 2) (naturalAt rows r 3)))
@@ -65,5 +67,11 @@ module _ {rows : List ℤ} {code : List ℕ} (p : Prepared rows code) (r : ℕ) 
         → shapeBy (kindFrom n) ≡ Link (presentRow rows (higherRow rows r (naturalAt rows r 1))) (presentRow rows (higherRow rows r (naturalAt rows r 2))) → Link a b ≡ shapeIn rows r
     by-link q s i j = link-shape rows r (here p r h n e z) (kindFrom n) _ _ (kind-is p r h n e z) (q ∙ first-is p r h n e z ∙ i) (s ∙ second-is p r h n e z ∙ j)
 
-  pub by-while : placeAt code r 0 ≡ 33 → {b : ℕ} → b ≡ placeAt code r 2 → Repeating b ≡ shapeIn rows r
-  by-while e q = while-shape rows r (here p r h 33 e (λ z. omega arith)) _ (kind-is p r h 33 e (λ z. omega arith)) (q ∙ second-is p r h 33 e (λ z. omega arith))
+    by-single : {b : ℕ} → b ≡ placeAt code r 2 → rowOfKind rows r (kindFrom n) .second ≡ referredRow rows r 2 → shapeBy (kindFrom n) ≡ Single (presentRow rows (higherRow rows r (naturalAt rows r 2))) → Single b ≡ shapeIn rows r
+    by-single q i = single-shape rows r (here p r h n e z) (kindFrom n) _ (kind-is p r h n e z) (q ∙ second-is p r h n e z ∙ i)
+
+  pub by-while : placeAt code r 0 ≡ 33 → {b : ℕ} → b ≡ placeAt code r 2 → Single b ≡ shapeIn rows r
+  by-while e q = by-single 33 e (λ z. omega arith) q refl refl
+
+  pub by-block : placeAt code r 0 ≡ 35 → {b : ℕ} → b ≡ placeAt code r 2 → Single b ≡ shapeIn rows r
+  by-block e q = by-single 35 e (λ z. omega arith) q refl refl

@@ -3,6 +3,7 @@
 -- What a row is: 1 a literal: 2 and 3 the low and the high sixteen bits of its number plus 2,147,483,648; 2 a cell, its number; 3 a subscript outside its array;
 -- 4 an element: the row of the variable, the subscript's row; 5 a monadic and 6 a dyadic operator: its number and its operands' rows;
 -- 46, 47, 48 an assignment to a cell, outside the array, to an element: third the value's row; 23 an input and 24 an output: the row of the channel, the subscript's row, the row of the target or value;
+-- 35 a block: the row of the variable, its process's row;
 -- from 20 to 43 else the row's kind, with the rows of its fields; 0 a declaration or nothing that a run looks at.
 -- A declaration: 1 its first cell or element; 2 how many; 3 one more than its host channel number; 4 its capacity; 5 where its strip begins.
 use mathlib.Core.Path.{_≡_}
@@ -23,7 +24,7 @@ use Rattle.meaning.specs.State.{program}
 use Rattle.meaning.specs.Answers.{check}
 use Rattle.base_layout.specs.Operands.{operandAt}
 use Rattle.run_parents.specs.declared.shape.Shape.{Shape}
-use Rattle.run_parents.specs.declared.shape.Shape.the-variants.{Ending, Repeating, Link, Neither}
+use Rattle.run_parents.specs.declared.shape.Shape.the-variants.{Ending, Single, Link, Neither}
 use Rattle.run_parents.specs.Shapes.{shapeAt}
 use Rattle.machine.specs.Upward.{parentOf}
 use Rattle.machine.specs.RowSteps.{altOf}
@@ -125,9 +126,10 @@ module _ (rows : List ℤ) where
         (ifElse (eqb k 22) (assignedRow elementRow)
         (ifElse (eqb k 23) (keptRow 23 (naturalAt rows r 1))
         (ifElse (eqb k 24) (keptRow 24 (naturalAt rows r 1))
+        (ifElse (eqb k 35) (keptRow 35 (naturalAt rows r 1))
         (ifElse (ltb k 20) declaredRow
         (ifElse (ltb k 44) (keptRow k (referredRow r 1))
-        noRow))))))))
+        noRow)))))))))
 
   unfoldable pub rowAt : ℕ → Row
   rowAt r = rowOfKind r (kindIn r)
@@ -177,7 +179,7 @@ module _ (code : List ℕ) (r : ℕ) where
 -- a row's part in settling, where a row that is none is 1,024
 abbrev pub shapeTo : List ℤ → Shape → Shape
 shapeTo rows (Ending m f) = Ending m (presentRow rows f)
-shapeTo rows (Repeating b) = Repeating (presentRow rows b)
+shapeTo rows (Single b) = Single (presentRow rows b)
 shapeTo rows (Link p q) = Link (presentRow rows p) (presentRow rows q)
 shapeTo rows Neither = Neither
 

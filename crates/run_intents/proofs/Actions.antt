@@ -99,6 +99,6 @@ module _ {rows : List ℤ} {code : List ℕ} (p : Prepared rows code) (lines : �
         go (yes l) =
             sym (kind-cases (λ (m : Node). does (actionIn (contentOf rows r (higherContent rows r) m)) ≡ Waits) (kindAt rows r) _ _ _ _
             (λ e. refl) (λ e. refl) (λ e. refl) (λ e. refl) (λ e. refl) (λ e. refl) (λ k. absurd (no-assignment l k)) (λ k. absurd (d (e ∙ what-here p r h 23 l k))) (λ k. absurd (f (e ∙ what-here p r h 24 l k))) (λ e. refl)
-            (λ e. refl) (λ k. absurd (g (e ∙ what-here p r h 32 l k))) (λ k. absurd (i (e ∙ what-here p r h 33 l k))) (λ k. absurd (j (e ∙ what-here p r h 34 l k))) (λ e. refl) (λ e. refl) (λ e. refl) (λ e. refl) refl)
+            (λ e. refl) (λ k. absurd (g (e ∙ what-here p r h 32 l k))) (λ k. absurd (i (e ∙ what-here p r h 33 l k))) (λ k. absurd (j (e ∙ what-here p r h 34 l k))) (λ e. refl) (λ e. refl) (λ e. refl) (λ e. refl) (λ e. refl) refl)
             ∙ all-in (part-of-kind rows r (kindAt rows r) l refl)
         go (no l) = all-in (part-past rows r (omega arith))

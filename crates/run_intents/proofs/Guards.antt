@@ -83,7 +83,7 @@ module _ {rows : List ℤ} {code : List ℕ} (p : Prepared rows code) where
                 ap (λ (q : Content). q .guard) (part-of-kind rows g (kindAt rows g) l refl)
                 ∙ kind-cases (λ (k : Node). contentOf rows g (higherContent rows g) k .guard ≡ noGuard) (kindAt rows g) _ _ _ _
                 (λ e. refl) (λ e. refl) (λ e. refl) (λ e. refl) (λ e. refl) (λ k. absurd (a (e ∙ what-here p g h 21 l k))) (λ e. refl) (λ k. absurd (b (e ∙ what-here p g h 23 l k))) (λ e. refl) (λ e. refl)
-                (λ e. refl) (λ e. refl) (λ e. refl) (λ e. refl) (λ e. refl) (λ e. refl) (λ e. refl) (λ k. absurd (c (what-here p g h 43 l k))) refl
+                (λ e. refl) (λ e. refl) (λ e. refl) (λ e. refl) (λ e. refl) (λ e. refl) (λ e. refl) (λ e. refl) (λ k. absurd (c (what-here p g h 43 l k))) refl
             go (no l) = ap (λ (q : Content). q .guard) (part-past rows g (omega arith))
 
     module _ (j : ℕ) (h : j ≤ 1024) (is : placeAt code j 0 ≡ 42) where

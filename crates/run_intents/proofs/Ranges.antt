@@ -11,7 +11,7 @@ use lib.Dec.{ltb, eqb}
 use lib.ListN.{getD}
 use borrow.Author.Tests.{ltb-true}
 use Rattle.meaning.specs.declared.Node.{Node}
-use Rattle.meaning.specs.declared.Node.the-variants.{Literal, Element, Monadic, Dyadic, Stop, Skip, Assignment, Input, Output, Seq, Par, If, While, Alt, Member, Choice, OptionRow, Guard, Other}
+use Rattle.meaning.specs.declared.Node.the-variants.{Literal, Element, Monadic, Dyadic, Stop, Skip, Assignment, Input, Output, Seq, Par, If, While, Alt, Block, Member, Choice, OptionRow, Guard, Other}
 use Rattle.meaning.specs.declared.Value.{Value}
 use Rattle.meaning.specs.declared.Value.the-variants.{Number, Missing}
 use Rattle.meaning.specs.declared.Index.{Index}
@@ -23,7 +23,7 @@ use Rattle.meaning.specs.Faults.{WithinLimits, Leads}
 use Rattle.meaning.specs.Kinds.{Shape, processes, reference}
 use Rattle.meaning.specs.References.{Column, of-a, of-b, fieldOf, numberOf}
 use Rattle.meaning.specs.Nodes.{nodeAt}
-use Rattle.meaning.specs.Tree.{Expr, ChannelInput, IfChoice, AltOption, Action, stop, skip, sequence, parallel, assign, input, output, conditional, loop, alternation, Process, Content, noContent, contentOf, contentAt, orStop, actionOf}
+use Rattle.meaning.specs.Tree.{Expr, ChannelInput, IfChoice, AltOption, Action, stop, skip, sequence, parallel, assign, input, output, conditional, loop, alternation, block, Process, Content, noContent, contentOf, contentAt, orStop, actionOf}
 use Rattle.meaning.specs.Buffers.{numberIn, mark}
 use Rattle.meaning.specs.Values.{Message, isTrue, inArray, value, index, Sent, gives, lacking, passed}
 use Rattle.meaning.specs.State.{program, processAt}
@@ -137,6 +137,7 @@ module _ (rows : List ℤ) (ok : check rows ≡ none) where
   ActionFits (conditional ts) = TestsFit ts
   ActionFits (loop e b) = b < 1024
   ActionFits (alternation bs) = OptionsFit bs
+  ActionFits (block v) = Unit {0}
 
   abbrev ProcessFits : Option Process → Type 0
   ProcessFits none = Unit {0}
@@ -174,6 +175,7 @@ module _ (rows : List ℤ) (ok : check rows ≡ none) where
   part-fits r l at h (If a) f = (tt, tt, tt, h a .1)
   part-fits r l at h (While a b) f = (tt, tt, tt, held-row r 33 b while-shape of-b l (f .0) refl (f .1))
   part-fits r l at h (Alt a) f = (tt, tt, tt, h a .2)
+  part-fits r l at h (Block a b) f = nothing r
   part-fits r l at h (Member a b) f = nothing r
   part-fits r l at h (Choice a b c) f = (tt, (held-row r 41 a choice-shape of-a l (f .0) refl (f .1), h b .1), tt, tt)
   part-fits r l at h (OptionRow a b c) f = (tt, tt, (held-row r 42 a option-shape of-a l (f .0) refl (f .1), h c .0, h b .2), tt)
@@ -284,6 +286,7 @@ module _ (rows : List ℤ) (ok : check rows ≡ none) where
     action-in (conditional ts) k f = (choices-in ts f, tt)
     action-in (loop e b) k f = (tested-in b (value cells e) f, tt)
     action-in (alternation bs) k f = (tt, options-in bs k f)
+    action-in (block v) k f = (tt, tt)
 
     -- what row r would do, and its options
     pub row-in-range : (r : ℕ) → let a = actionOf (processAt (program rows) r) in InRange (doesOf lines cells places counts a) × NotesInRange (optionNotes lines cells places (optionsOf a))

@@ -14,7 +14,7 @@ use Rattle.meaning.specs.declared.Index.{Index}
 use Rattle.meaning.specs.declared.Index.the-variants.{At, Fails}
 use Rattle.meaning.specs.Basics.{ifElse, isSome}
 use Rattle.meaning.specs.Declarations.{Channel, hostChannels}
-use Rattle.meaning.specs.Tree.{Expr, ChannelInput, IfChoice, AltOption, Action, stop, skip, sequence, parallel, assign, input, output, conditional, loop, alternation, actionOf}
+use Rattle.meaning.specs.Tree.{Expr, ChannelInput, IfChoice, AltOption, Action, stop, skip, sequence, parallel, assign, input, output, conditional, loop, alternation, block, actionOf}
 use Rattle.meaning.specs.Buffers.{numberIn, mark, cellOf}
 use Rattle.meaning.specs.Values.{Message, isTrue, inArray, value, index, Sent, gives, lacking, passed}
 use Rattle.meaning.proofs.LentLaws.{cell-back}
@@ -201,6 +201,7 @@ module _ (rows : List ℤ) (sheet : Sheet) (x : Store) (readings : List ℤ) (gi
   action-stands (conditional ts) r h = tests-are r [] ts
   action-stands (loop e b) r h = rw (same e) (tested-is r [] b (value cells e))
   action-stands (alternation bs) r h = alt-stands r bs h
+  action-stands (block v) r h = refl
 
   abbrev action : ℕ → Action
   action r = actionOf (processAt (program rows) r)

@@ -11,7 +11,7 @@ use Rattle.meaning.specs.declared.Index.{Index}
 use Rattle.meaning.specs.declared.Index.the-variants.{At, Fails}
 use Rattle.meaning.specs.Basics.{ifElse}
 use Rattle.meaning.specs.Declarations.{Channel}
-use Rattle.meaning.specs.Tree.{Expr, ChannelInput, IfChoice, AltGuard, AltOption, Action, stop, skip, sequence, parallel, assign, input, output, conditional, loop, alternation}
+use Rattle.meaning.specs.Tree.{Expr, ChannelInput, IfChoice, AltGuard, AltOption, Action, stop, skip, sequence, parallel, assign, input, output, conditional, loop, alternation, block}
 use Rattle.meaning.specs.Buffers.{numberIn, mark}
 use Rattle.meaning.specs.Values.{Message, isTrue, value, index, Sent, gives, lacking, passed}
 use Rattle.run_code.specs.Prepared.{hostNote}
@@ -103,3 +103,4 @@ module _ (lines : ℕ) (cells : List Message) (places : List ℕ) where
   doesOf counts (conditional ts) = choicesDo cells ts
   doesOf counts (loop e b) = tested b (value cells e)
   doesOf counts (alternation bs) = Selects
+  doesOf counts (block v) = Waits

@@ -3,7 +3,7 @@ use mathlib.Core.Option.{Option, none, some}
 use mathlib.Core.List.{List, [], _∷_, _++_, map, flatten}
 use Prim.Native.Nat.{ℕ, suc}
 use lib.ListN.{getD}
-use Rattle.meaning.specs.Tree.{AltOption, Action, stop, skip, sequence, parallel, assign, input, output, conditional, loop, alternation}
+use Rattle.meaning.specs.Tree.{AltOption, Action, stop, skip, sequence, parallel, assign, input, output, conditional, loop, alternation, block}
 use Rattle.meaning.specs.Values.{Message}
 use Rattle.meaning.specs.State.{Store, Write, writeCell, writePlace, writeOutput}
 use Rattle.meaning.specs.Readings.{Sheet}
@@ -31,6 +31,7 @@ optionsOf (output c e f) = []
 optionsOf (conditional ts) = []
 optionsOf (loop e b) = []
 optionsOf (alternation bs) = bs
+optionsOf (block v) = []
 
 -- what an option would do, with its rows
 abbrev pub optionNote : ℕ → List Message → List ℕ → AltOption → OptionNote

@@ -9,7 +9,7 @@ use native.Mathlib.Decide.{decLt}
 use native.Mathlib.Omega.{arith}
 use lib.IntN.{ℤ}
 use Rattle.meaning.specs.declared.Node.{Node}
-use Rattle.meaning.specs.declared.Node.the-variants.{Literal, Element, Monadic, Dyadic, Stop, Skip, Assignment, Input, Output, Seq, Par, If, While, Alt, Member, Choice, OptionRow, Guard, Other}
+use Rattle.meaning.specs.declared.Node.the-variants.{Literal, Element, Monadic, Dyadic, Stop, Skip, Assignment, Input, Output, Seq, Par, If, While, Alt, Block, Member, Choice, OptionRow, Guard, Other}
 use Rattle.meaning.specs.Rows.{rowCount, naturalAt, kindAt}
 use Rattle.meaning.specs.Declarations.{elementsAt, sourceAt, sinkAt}
 use Rattle.meaning.specs.Nodes.{nodeAt}
@@ -25,7 +25,7 @@ use Rattle.agreement.proofs.UsageNumbers.{Numbers, numbers-one}
 use Rattle.agreement.proofs.UsageNames.{elements-is}
 use Rattle.agreement.proofs.TableTree.{process-is, part-past}
 use Rattle.agreement.proofs.TreeRows.{process-kind}
-use Rattle.agreement.proofs.TreeExact.{beneath-rows}
+use Rattle.agreement.proofs.TreeBeneath.{beneath-rows}
 use Rattle.run_kept.specs.ReadyClaims.{OptionOf, option-first, option-next, GuardInput, input-alone, input-guarded, ChannelOf, named-by-input, named-by-output, named-by-guard}
 
 module _ (rows : List ℤ) (A : RightRows rows) where
@@ -135,6 +135,7 @@ module _ (rows : List ℤ) (A : RightRows rows) where
     node-named r l (While a b) e h = no-element h
     node-named r l (Alt a) e (inl h) = options-named r (rowCount rows) a (omega arith) (option-first e) (fits-by r (Alt a) l e .1) h
     node-named r l (Alt a) e (inr h) = absurd (List·Memᴰ·not-nil h)
+    node-named r l (Block a b) e h = no-element h
     node-named r l (Member a b) e h = no-element h
     node-named r l (Choice a b c) e h = no-element h
     node-named r l (OptionRow a b c) e h = no-element h

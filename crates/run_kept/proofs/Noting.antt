@@ -18,6 +18,7 @@ use Rattle.meaning.specs.Ready.{intentAt, after}
 use Rattle.meaning.specs.Order.{OrderOf}
 use Rattle.meaning.specs.Answers.{check}
 use Rattle.meaning.proofs.LowestLaws.{lowest-is}
+use Rattle.meaning.proofs.NoFault.{or-turn}
 use Rattle.meaning.proofs.Decides.{Decides, holding, failing, decides-eq}
 use Rattle.agreement.proofs.Active.{RowOf, offerAt, Active}
 use Rattle.machine.specs.RowSteps.{isOutputTo, altOf, waitingAt}
@@ -117,12 +118,6 @@ module _ (i : Intent) (r : ℕ) (f g : ℕ → Option ℕ) (h : (e : ℕ) → g 
   offer-met (some (openOffer j q ws)) = refl
   offer-met (some (inputOffer j q e a)) = met e
 
-shuffle : (a b c d : Bool) → ((a || b) || (c || d)) ≡ ((a || c) || (b || d))
-shuffle true b c d = refl
-shuffle false true true d = refl
-shuffle false true false d = refl
-shuffle false false c d = refl
-
 module _ (n : ℕ) (alt : ℕ → Option ℕ) (v w : ℕ → Intent) (r : ℕ) (below : r < n) (bare : w r ≡ waits) (under : (q : ℕ) → (w q ≡ v q) ⊎ (w q ≡ waits))
     (one : (e a b : ℕ) → T (isOutputTo e (v a)) → T (isOutputTo e (v b)) → a ≡ b) where
   -- a row that is not noted, nor its ALT, has its bit as before, or it is woken: the row that is noted outputs where it wants a sender
@@ -133,7 +128,7 @@ module _ (n : ℕ) (alt : ℕ → Option ℕ) (v w : ℕ → Intent) (r : ℕ) (
       ap₂ (λ (a : Intent) (b : Intent). ownReady (outputNoted n alt (noted r (v r) w)) a || offerReady (outputNoted n alt (noted r (v r) w)) (offerOf j b)) (noted-other r (v r) w j h) (other (alt j) k)
       ∙ ap₂ (λ (a b : Bool). a || b) (own-met (v r) r (outputNoted n alt w) (outputNoted n alt (noted r (v r) w)) told (w j))
       (offer-met (v r) r (outputNoted n alt w) (outputNoted n alt (noted r (v r) w)) told (offerOf j (noteOf n alt w (alt j))))
-      ∙ shuffle (ownReady (outputNoted n alt w) (w j)) (outputsToElement (v r) (wantedElement (w j))) (offerReady (outputNoted n alt w) (offerOf j (noteOf n alt w (alt j)))) (outputsToElement (v r) (offerWants (offerOf j (noteOf n alt w (alt j)))))
+      ∙ or-turn (ownReady (outputNoted n alt w) (w j)) (outputsToElement (v r) (wantedElement (w j))) (offerReady (outputNoted n alt w) (offerOf j (noteOf n alt w (alt j)))) (outputsToElement (v r) (offerWants (offerOf j (noteOf n alt w (alt j)))))
     where
       told : (e : ℕ) → outputNoted n alt (noted r (v r) w) e ≡ ifElse (isOutputTo e (v r)) (some r) (outputNoted n alt w e)
       told e = sender-noted n v w r below bare under alt e (one e)

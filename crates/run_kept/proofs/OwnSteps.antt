@@ -10,12 +10,12 @@ use lib.ListN.{getD}
 use lib.Dec.{eqb}
 use Rattle.meaning.specs.Basics.{ifElse}
 use Rattle.meaning.specs.Rows.{rowCount}
-use Rattle.meaning.specs.Tree.{Action, stop, skip, sequence, parallel, assign, input, output, conditional, loop, alternation, Process, node, Processes, empty, also, actionOf, processesIn, rowsBeneath}
+use Rattle.meaning.specs.Tree.{Action, stop, skip, sequence, parallel, assign, input, output, conditional, loop, alternation, block, Process, node, Processes, empty, also, actionOf, processesIn, rowsBeneath}
 use Rattle.meaning.specs.Usage.{inputElements, outputElements}
-use Rattle.meaning.specs.State.{Store, State, Program, program, processAt, whole, Effect}
+use Rattle.meaning.specs.State.{State, Program, program, processAt, whole, Effect}
 use Rattle.meaning.specs.Labels.{Label}
 use Rattle.meaning.specs.Readings.{Sheet}
-use Rattle.meaning.specs.Intent.{waits, moves, intent}
+use Rattle.meaning.specs.Intent.{Intent, waits, moves, intent}
 use Rattle.meaning.specs.Ready.{allIdle, isLive, intentAt, after}
 use Rattle.meaning.specs.Order.{OrderOf}
 use Rattle.meaning.specs.Answers.{check}
@@ -65,6 +65,7 @@ bare d (output c e f) m (also p ms) h = absurd h
 bare d (conditional ts) m ms h = absurd (List·Memᴰ·not-nil m)
 bare d (loop e b) m ms h = absurd (List·Memᴰ·not-nil m)
 bare d (alternation bs) m ms h = absurd (List·Memᴰ·not-nil m)
+bare d (block v) m ms h = absurd (List·Memᴰ·not-nil m)
 
 no-child : (q : ℕ) (ms : Processes) → ms ≡ empty → Child q ms → ⊥
 no-child q ms e c = List·Memᴰ·not-nil (subst (λ (u : Processes). List·Memᴰ q (rowsBeneath u)) e (child-in c))
@@ -169,7 +170,7 @@ module _ (rows : List ℤ) (ok : check rows ≡ none) (sheet : Sheet) (l : List 
           go : (b : Bool) → isLive P sheet r s ≡ b → intentAt P sheet t r ≡ intentAt P sheet s r
           go b z =
               intent-is rows sheet t r b (live-kept ∙ z)
-              ∙ ap (λ (y : Store). ifElse b (intent sheet (actionOf (processAt P r)) r y) waits) g
+              ∙ ap (λ (w : Intent). ifElse b w waits) (subst (λ (k : Action). intent sheet k r (t .store) ≡ intent sheet k r (s .store)) (sym (ap actionOf (F .placed (C .action) r (C .listed) (C .sub)))) g)
               ∙ sym (intent-is rows sheet s r b z)
 
   -- the owner's steps are the same

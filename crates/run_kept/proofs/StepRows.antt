@@ -17,20 +17,21 @@ use Rattle.meaning.specs.declared.Index.the-variants.{At, Fails}
 use Rattle.meaning.specs.Basics.{ifElse}
 use Rattle.meaning.specs.Rows.{rowCount}
 use Rattle.meaning.specs.Declarations.{Channel}
-use Rattle.meaning.specs.Tree.{IfChoice, Action, stop, skip, sequence, parallel, assign, input, output, conditional, loop, alternation}
+use Rattle.meaning.specs.Tree.{IfChoice, Action, stop, skip, sequence, parallel, assign, input, output, conditional, loop, alternation, block}
 use Rattle.meaning.specs.Values.{Message, isTrue, value, index, Sent, gives, lacking, passed}
-use Rattle.meaning.specs.Settle.{endsWhenClosed, settle, settled}
-use Rattle.meaning.specs.State.{Store, State, Program, program, whole, Write, writeAll, changeStates, Effect}
+use Rattle.meaning.specs.Settle.{endsWhenClosed, settle, settled, begun}
+use Rattle.meaning.specs.State.{Store, State, Program, program, whole, Write, writeAll, changeStates, Effect, changed, unsetAll}
 use Rattle.meaning.specs.Labels.{Label, own}
 use Rattle.meaning.specs.Readings.{Sheet}
-use Rattle.meaning.specs.Intent.{Offer, openOffer, inputOffer, Intent, waits, moves, inputsFrom, outputsTo, selects, assigning, testing, choosing, hostWrite, outputting, InputResult, lacks, notYet, reads, fromElement, inputting, OptionsResult, fails, offers, selecting, inputResult, tests, optionsResult, intent}
-use Rattle.meaning.specs.Ready.{optionRow, intentAt, after}
+use Rattle.meaning.specs.Intent.{openOffer, inputOffer, Intent, waits, moves, inputsFrom, outputsTo, selects, assigning, testing, choosing, hostWrite, outputting, InputResult, lacks, notYet, reads, fromElement, inputting, OptionsResult, fails, offers, selecting, inputResult, tests, optionsResult, intent}
+use Rattle.meaning.specs.Ready.{intentAt, after}
 use Rattle.meaning.specs.Order.{OrderOf}
 use Rattle.meaning.specs.Answers.{check}
+use Rattle.agreement.proofs.Freedom.{unset-does}
 use Rattle.agreement.proofs.Commute.{Child, Legal, own as itself, child, child-in}
 use Rattle.agreement.proofs.Fit.{Fit}
 use Rattle.agreement.proofs.OptionRows.{optionRows}
-use Rattle.agreement.proofs.Proper.{ProperOffer, offer-proper}
+use Rattle.agreement.proofs.Proper.{offer-proper}
 use Rattle.agreement.proofs.Active.{RowOf, of-own, of-input, of-output, of-alt, of-alt-input, of-alt-output, offerAt-is, Active, acts-alone, passes-on, takes-open, takes-input, output-selects}
 use Rattle.agreement.proofs.Working.{acts, Inv, Works, works, works-proper}
 use Rattle.agreement.proofs.Separate.{table-inv}
@@ -102,6 +103,7 @@ calm sheet x r (output c e f) = calm-send r c (x .outputs) (index (x .cells) (c 
 calm sheet x r (conditional ts) = calm-tests sheet x r ts
 calm sheet x r (loop e b) = calm-test r b (value (x .cells) e)
 calm sheet x r (alternation bs) = calm-select r (optionsResult sheet bs x)
+calm sheet x r (block v) = tt
 
 -- ---- states that a step sets
 
@@ -131,6 +133,7 @@ options-end (output c e f) j m = refl
 options-end (conditional ts) j m = refl
 options-end (loop e b) j m = absurd (List·Memᴰ·not-nil m)
 options-end (alternation bs) j m = refl
+options-end (block v) j m = refl
 
 module _ (rows : List ℤ) (ok : check rows ≡ none) (sheet : Sheet) (l : List Label) (s : State) (o : OrderOf rows sheet l s) where
   abbrev P : Program
@@ -151,17 +154,22 @@ module _ (rows : List ℤ) (ok : check rows ≡ none) (sheet : Sheet) (l : List 
   unfolding settled
   states-after {x} {e} A = ap (λ (u : State). u .states) (after-effect P sheet s x e (active-effect W A))
 
-  pub store-after : {x : Label} {e : Effect} → Active (intentAt (program rows) sheet s) x e → after (program rows) sheet x s .store ≡ writeAll (e .writes) (s .store)
+  -- a step that writes nothing leaves what a row at work would do by its action
+  does-after : {x : Label} {e : Effect} → Active (intentAt (program rows) sheet s) x e → e .writes ≡ [] → (r : ℕ) (B : Works (program rows) (rowCount rows) (fit rows ok) sheet s r)
+      → intent sheet (B .action) r (after (program rows) sheet x s .store) ≡ intent sheet (B .action) r (s .store)
   unfolding settled
-  store-after {x} {e} A = ap (λ (u : State). u .store) (after-effect P sheet s x e (active-effect W A))
+  does-after {x} {e} A q r B =
+      ap (intent sheet (B .action) r) (ap (λ (u : State). u .store) (after-effect P sheet s x e (active-effect W A)) ∙ ap (λ (us : List Write). unsetAll (begun (whole P) false (changed e s .states)) (writeAll us (s .store))) q)
+      ∙ unset-does P (rowCount rows) F sheet s inv A r B
 
   over : {x : Label} {e : Effect} → Active (intentAt (program rows) sheet s) x e → (y : ℕ) → 2 ≤ getD (changeStates (e .changes) (s .states)) y 0 → getD (after (program rows) sheet x s .states) y 0 ≢ 1
   over {x} {e} A y h = rw (states-after A) (settle-not (whole P) (rowCount rows) (F .sound) false (changeStates (e .changes) (s .states)) y h)
 
-  -- what becomes of a row of the step: it is over; or it started its member q by a test and wrote nothing; or it is an ALT that started its member q
+  -- what becomes of a row of the step: it is over; or it started its member q by a test, and would do the same by its action; or it is an ALT that started its member q
   pub data Left (x : Label) (p : ℕ) : Type 0 where
     is-over : Works (program rows) (rowCount rows) (fit rows ok) sheet s p → getD (after (program rows) sheet x s .states) p 0 ≢ 1 → Left x p
-    by-test : (B : Works (program rows) (rowCount rows) (fit rows ok) sheet s p) (q : ℕ) → Child q (B .listed) → intentAt (program rows) sheet s p ≡ moves q 1 [] → after (program rows) sheet x s .store ≡ s .store → Left x p
+    by-test : (B : Works (program rows) (rowCount rows) (fit rows ok) sheet s p) (q : ℕ) → Child q (B .listed) → intentAt (program rows) sheet s p ≡ moves q 1 []
+        → intent sheet (B .action) p (after (program rows) sheet x s .store) ≡ intent sheet (B .action) p (s .store) → Left x p
     by-option : (B : Works (program rows) (rowCount rows) (fit rows ok) sheet s p) (q j : ℕ) → Child q (B .listed) → List·Memᴰ j (optionRows (B .action))
         → (getD (after (program rows) sheet x s .states) p 0 ≢ 1) ⊎ (getD (after (program rows) sheet x s .states) q 0 ≢ 0) → Left x p
 
@@ -179,10 +187,6 @@ module _ (rows : List ℤ) (ok : check rows ≡ none) (sheet : Sheet) (l : List 
   other : (r q : ℕ) (B : Works (program rows) (rowCount rows) (fit rows ok) sheet s r) → Child q (B .listed) → r ≢ q
   other r q B c e = let z = B .idle q (child-in c) in let y = B .runs in let w = ap (λ (k : ℕ). getD (s .states) k 0) e in omega arith
 
-  option-of : (k : Action) (ms : _) (p : Offer) → ProperOffer (F .source) (F .sink) k ms p → List·Memᴰ (optionRow p) (optionRows k)
-  option-of k ms (openOffer j q ws) h = h .0
-  option-of k ms (inputOffer j q e a) h = h .0
-
   pub step-leaves : {x : Label} {e : Effect} → Active (intentAt (program rows) sheet s) x e → (p : ℕ) → RowOf x p → Left x p
   step-leaves (acts-alone {r} {x = y} {v} {ws} h) p of-own = go (works-proper P (rowCount rows) F sheet s r B h .0)
     where
@@ -194,7 +198,7 @@ module _ (rows : List ℤ) (ok : check rows ≡ none) (sheet : Sheet) (l : List 
 
       go : Legal y v r (B .listed) → Left (own r) r
       go (itself i a b) = is-over B (over (acts-alone h) r (rw (a, b, getD-set-same (s .states) r (suc (suc i)) 0 (runs-below r B)) (omega arith)))
-      go (child c b) = by-test B y c (h ∙ ap (λ (k : ℕ). moves y k ws) b ∙ ap (moves y 1) (quiet b)) (store-after (acts-alone h) ∙ ap (λ (us : List Write). writeAll us (s .store)) (quiet b))
+      go (child c b) = by-test B y c (h ∙ ap (λ (k : ℕ). moves y k ws) b ∙ ap (moves y 1) (quiet b)) (does-after (acts-alone h) (quiet b) r B)
   step-leaves (passes-on {i} {o = q} h g) p of-input =
       is-over (works P (rowCount rows) F sheet s i inv (ap acts h)) (over (passes-on h g) i (set-over (set (s .states) i 2) q i (rw (getD-set-same (s .states) i 2 0 (runs-below i (works P (rowCount rows) F sheet s i inv (ap acts h)))) (omega arith))))
   step-leaves (passes-on {i} {o = q} h g) p of-output =

@@ -13,7 +13,7 @@ use Rattle.meaning.specs.declared.Index.{Index}
 use Rattle.meaning.specs.declared.Index.the-variants.{At, Fails}
 use Rattle.meaning.specs.Basics.{ifElse}
 use Rattle.meaning.specs.Declarations.{Channel}
-use Rattle.meaning.specs.Tree.{ChannelInput, IfChoice, AltOption, Action, stop, skip, sequence, parallel, assign, input, output, conditional, loop, alternation, actionOf}
+use Rattle.meaning.specs.Tree.{ChannelInput, IfChoice, AltOption, Action, stop, skip, sequence, parallel, assign, input, output, conditional, loop, alternation, block, actionOf}
 use Rattle.meaning.specs.Values.{Message, isTrue, value, index, Sent, gives, lacking}
 use Rattle.meaning.specs.Values as values
 use Rattle.meaning.specs.Buffers.{numberIn, mark}
@@ -167,6 +167,7 @@ module _ (sheet : Sheet) (x : Store) where
   intent-fits r (conditional ts) h g = tests-fit r ts
   intent-fits r (loop e b) h g = while-fits r b (value (x .cells) e)
   intent-fits r (alternation bs) h g = select-fits r bs (optionsResult sheet bs x) (looked bs g)
+  intent-fits r (block v) h g = tt
 
 -- what a row would do
 pub row-fits : (rows : List ℤ) → check rows ≡ none → (sheet : Sheet) (s : State) (r : ℕ) → Fits (optionsAt rows r) (intentAt (program rows) sheet s r)

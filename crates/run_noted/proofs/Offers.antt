@@ -10,7 +10,7 @@ use lib.IntN.{ℤ}
 use lib.Dec.{eqb}
 use Rattle.meaning.specs.Basics.{ifElse, anyPasses, among}
 use Rattle.meaning.specs.Rows.{rowCount}
-use Rattle.meaning.specs.Tree.{AltOption, Action, stop, skip, sequence, parallel, assign, input, output, conditional, loop, alternation, actionOf}
+use Rattle.meaning.specs.Tree.{AltOption, Action, stop, skip, sequence, parallel, assign, input, output, conditional, loop, alternation, block, actionOf}
 use Rattle.meaning.specs.State.{Write, writeCell, writePlace, writeOutput, program, processAt}
 use Rattle.meaning.specs.Intent.{Offer, openOffer, inputOffer}
 use Rattle.meaning.specs.Ready.{optionRow}
@@ -49,6 +49,7 @@ rising-options n (output c e f) h = tt
 rising-options n (conditional ts) h = tt
 rising-options n (loop e b) h = tt
 rising-options n (alternation bs) h = h
+rising-options n (block v) h = tt
 
 option-rows : (k : Action) → rowsOfOptions (optionsOf k) ≡ optionRows k
 option-rows stop = refl
@@ -61,6 +62,7 @@ option-rows (output c e f) = refl
 option-rows (conditional ts) = refl
 option-rows (loop e b) = refl
 option-rows (alternation bs) = refl
+option-rows (block v) = refl
 
 -- tests that agree on a list
 pub any-same : (p q : ℕ → Bool) (l : List ℕ) → ((i : ℕ) → List·Memᴰ i l → p i ≡ q i) → anyPasses p l ≡ anyPasses q l

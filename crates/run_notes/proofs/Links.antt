@@ -6,7 +6,7 @@ use native.Mathlib.Omega.{arith}
 use native.Mathlib.Decide.{decLt}
 use lib.IntN.{ℤ}
 use Rattle.meaning.specs.Rows.{rowCount}
-use Rattle.meaning.specs.Tree.{Action, stop, skip, sequence, parallel, assign, input, output, conditional, loop, alternation, Content, contentAt, orStop, actionOf}
+use Rattle.meaning.specs.Tree.{Action, stop, skip, sequence, parallel, assign, input, output, conditional, loop, alternation, block, Content, contentAt, orStop, actionOf}
 use Rattle.meaning.specs.State.{program, processAt}
 use Rattle.agreement.specs.RowsOfSteps.{optionRows}
 use Rattle.agreement.proofs.TableTree.{part-past, process-is}
@@ -64,6 +64,7 @@ module _ {rows : List ℤ} {code : List ℕ} (p : Prepared rows code) where
         none-in (loop e b) h = refl
         none-in (alternation []) h = refl
         none-in (alternation (b ∷ bs)) h = let z : _≡_ {A = ℕ} 0 1 = cc in absurd (omega arith)
+        none-in (block v) h = refl
 
         go : Dec (m < rowCount rows) → optionRows (actionOf (processAt (program rows) m)) ≡ []
         go (yes i) = no-options rows m i (λ k. h (e ∙ what-at p m l ∙ ap (λ (w : Row). w .what) (row-of-kind rows m 34 (kind-in rows m 34 i k))))

@@ -20,8 +20,8 @@ use Rattle.run_parents.specs.Members.{onlyProcess}
 use Rattle.run_parents.specs.Shapes.{shapeAt}
 use Rattle.run_parents.specs.declared.shape.Mode as code
 use Rattle.run_parents.specs.declared.shape.Shape.{Shape}
-use Rattle.run_parents.specs.declared.shape.Shape.the-variants.{Ending, Repeating, Link, Neither}
-use Rattle.run_parents.proofs.Standing.{EndingAt, RepeatingAt, LinkAt, Stands, stands}
+use Rattle.run_parents.specs.declared.shape.Shape.the-variants.{Ending, Single, Link, Neither}
+use Rattle.run_parents.proofs.Standing.{EndingAt, SingleAt, LinkAt, Stands, stands}
 use Rattle.machine.specs.Upward.{processRows, parentOf}
 use Rattle.run_parents.specs.Marks.{rowNote, firstNote}
 use Rattle.run_parents.proofs.Below.{lowest-none, lowest-next}
@@ -48,7 +48,7 @@ module _ (rows : List ℤ) where
     where
       go : (s : Shape) → Stands rows p s → isSome (contentAt rows p .process) ≡ true → (processRows (onlyProcess (contentAt rows p .process)) ≡ p ∷ []) × (p < rowCount rows)
       go (Ending m f) h e = (ap (λ (o : Option Process). processRows (onlyProcess o)) (h .process-is), omega (arith, h .fewer))
-      go (Repeating b) h e = (ap (λ (o : Option Process). processRows (onlyProcess o)) (h .process-is), omega (arith, h .fewer))
+      go (Single b) h e = (ap (λ (o : Option Process). processRows (onlyProcess o)) (h .process-is), omega (arith, h .fewer))
       go (Link q t) h e = let z : _≡_ {A = Bool} true false = sym e ∙ ap isSome (h .no-process) in absurd (true≢false z)
       go Neither h e = let z : _≡_ {A = Bool} true false = sym e ∙ ap isSome (h .no-process) in absurd (true≢false z)
 
@@ -129,8 +129,8 @@ module _ (rows : List ℤ) (r : ℕ) (parents parents₁ : List ℕ) where
   pub ending-noted : {m : code.Mode} {f : ℕ} → EndingAt rows r m f → ProcessesNoted (contentAt rows f .listed) (r + 1) parents parents₁ → RowNoted rows r parents parents₁
   ending-noted {m} {f} h = row-is (contentAt rows f .listed) (ap (λ (o : Option Process). processesIn (orStop o)) (h .process-is))
 
-  pub repeating-noted : {b : ℕ} → RepeatingAt rows r b → ProcessNoted rows b (r + 1) parents parents₁ → RowNoted rows r parents parents₁
-  repeating-noted {b} h = row-is (onlyProcess (contentAt rows b .process)) (ap (λ (o : Option Process). processesIn (orStop o)) (h .process-is))
+  pub single-noted : {b : ℕ} → SingleAt rows r b → ProcessNoted rows b (r + 1) parents parents₁ → RowNoted rows r parents parents₁
+  single-noted {b} h = row-is (onlyProcess (contentAt rows b .process)) (ap (λ (o : Option Process). processesIn (orStop o)) (h .process-is))
 
 pub bare-noted : (rows : List ℤ) (r : ℕ) (parents : List ℕ) → contentAt rows r .process ≡ none → RowNoted rows r parents parents
 bare-noted rows r parents e = row-is rows r parents parents empty (ap (λ (o : Option Process). processesIn (orStop o)) e) (none-noted [] (r + 1) parents refl)

@@ -12,7 +12,7 @@ use lib.Seq.{getD-set-same, getD-set-other}
 use lib.Dec.{T, ltb, eqb, eqb→eq}
 use borrow.Author.Tests.{le-ltb, lt-leb, eqb-true, eqb-false, eq-eqb}
 use Rattle.meaning.specs.declared.Node.{Node}
-use Rattle.meaning.specs.declared.Node.the-variants.{Literal, Element, Monadic, Dyadic, Stop, Skip, Assignment, Input, Output, Seq, Par, If, While, Alt, Member, Choice, OptionRow, Guard, Other}
+use Rattle.meaning.specs.declared.Node.the-variants.{Literal, Element, Monadic, Dyadic, Stop, Skip, Assignment, Input, Output, Seq, Par, If, While, Alt, Block, Member, Choice, OptionRow, Guard, Other}
 use Rattle.meaning.specs.Basics.{ifElse, lowest, Lowest}
 use Rattle.meaning.specs.Rows.{rowCount}
 use Rattle.meaning.specs.Nodes.{nodeAt}
@@ -22,11 +22,11 @@ use Rattle.meaning.specs.Answers.{check}
 use Rattle.meaning.proofs.AnswerLaws.{RightRows, accepted}
 use Rattle.meaning.proofs.LowestLaws.{lowest-is}
 use Rattle.meaning.proofs.ReferenceCounts.{a-not-b}
-use Rattle.agreement.proofs.TableReferences.{while-shape, member-shape, choice-shape, option-shape, Fields, fields-are, refers-to, once}
+use Rattle.agreement.proofs.TableReferences.{while-shape, block-shape, member-shape, choice-shape, option-shape, Fields, fields-are, refers-to, once}
 use Rattle.run_parents.specs.declared.shape.Mode.{Mode}
 use Rattle.run_parents.specs.declared.shape.Mode.the-variants.{InTurn, Together, ByStep}
 use Rattle.run_parents.specs.declared.shape.Shape.{Shape}
-use Rattle.run_parents.specs.declared.shape.Shape.the-variants.{Ending, Repeating, Link, Neither}
+use Rattle.run_parents.specs.declared.shape.Shape.the-variants.{Ending, Single, Link, Neither}
 use Rattle.run_parents.specs.Shapes.{higherRow, settlingShape, shapeAt}
 use Rattle.machine.specs.Upward.{parentOf}
 use Rattle.run_parents.specs.Marks.{rowNote}
@@ -81,7 +81,7 @@ module _ (rows : List ℤ) (p t note next : ℕ) (parents nexts : List ℕ) (her
   pub member-numbered : (parents₁ nexts₁ : List ℕ) → parents₁ ≡ whereFree parents p parents note → nexts₁ ≡ whereFree parents p nexts next → ParentsNumbered (NextIs rows p t) parents nexts parents₁ nexts₁
   member-numbered parents₁ nexts₁ i k = rw (i, k) one-numbered
 
--- ---- the rows that a link and a WHILE refer to
+-- ---- the rows that a link, a WHILE and a block refer to
 
 module _ (rows : List ℤ) (A : RightRows rows) where
   -- a row in the table that a row's field holds
@@ -97,21 +97,25 @@ module _ (rows : List ℤ) (A : RightRows rows) where
     abbrev Links : Shape → Type 0
     Links s = (q : ℕ) → s ≡ Link p q → Refers rows t of-a p
 
-    abbrev Repeats : Shape → Type 0
-    Repeats s = s ≡ Repeating p → Refers rows t of-b p
+    abbrev Holds : Shape → Type 0
+    Holds s = s ≡ Single p → Refers rows t of-b p
 
-    -- neither a link nor a WHILE
-    ends : (m : Mode) (f : ℕ) → Links (Ending m f) × Repeats (Ending m f)
+    -- neither a link nor a WHILE or block
+    ends : (m : Mode) (f : ℕ) → Links (Ending m f) × Holds (Ending m f)
     ends m f = (λ q e. absurd (let z : _≡_ {A = ℕ} 0 1 = cc in omega arith), λ e. absurd (let z : _≡_ {A = ℕ} 0 1 = cc in omega arith))
 
-    neither : Links Neither × Repeats Neither
+    neither : Links Neither × Holds Neither
     neither = (λ q e. absurd (let z : _≡_ {A = ℕ} 0 1 = cc in omega arith), λ e. absurd (let z : _≡_ {A = ℕ} 0 1 = cc in omega arith))
 
     -- a link
-    links : (a b : ℕ) → (a ≡ p → Refers rows t of-a p) → Links (Link a b) × Repeats (Link a b)
+    links : (a b : ℕ) → (a ≡ p → Refers rows t of-a p) → Links (Link a b) × Holds (Link a b)
     links a b f = (λ q e. let i : a ≡ p = cc in f i, λ e. absurd (let z : _≡_ {A = ℕ} 0 1 = cc in omega arith))
 
-    by-node : (k : Node) → Fields rows t k → Links (settlingShape rows t k) × Repeats (settlingShape rows t k)
+    -- a WHILE or a block
+    single : (b : ℕ) → (b ≡ p → Refers rows t of-b p) → Links (Single b) × Holds (Single b)
+    single b f = (λ q e. absurd (let z : _≡_ {A = ℕ} 0 1 = cc in omega arith), λ e. let i : b ≡ p = cc in f i)
+
+    by-node : (k : Node) → Fields rows t k → Links (settlingShape rows t k) × Holds (settlingShape rows t k)
     by-node (Literal x) f = neither
     by-node (Element a b) f = neither
     by-node (Monadic a b) f = neither
@@ -124,9 +128,9 @@ module _ (rows : List ℤ) (A : RightRows rows) where
     by-node (Seq a) f = ends InTurn (higherRow rows t a)
     by-node (Par a) f = ends Together (higherRow rows t a)
     by-node (If a) f = ends ByStep (higherRow rows t a)
-    by-node (While a b) f =
-        (λ q e. absurd (let z : _≡_ {A = ℕ} 0 1 = cc in omega arith), λ e. let i : higherRow rows t b ≡ p = cc in refers-to rows A t 33 p while-shape of-b l (f .0) tt (f .1 ∙ holds t b p i lp) lp)
+    by-node (While a b) f = single (higherRow rows t b) (λ i. refers-to rows A t 33 p while-shape of-b l (f .0) tt (f .1 ∙ holds t b p i lp) lp)
     by-node (Alt a) f = ends ByStep (higherRow rows t a)
+    by-node (Block a b) f = single (higherRow rows t b) (λ i. refers-to rows A t 35 p block-shape of-b l (f .0) tt (f .1 ∙ holds t b p i lp) lp)
     by-node (Member a b) f = links (higherRow rows t a) (higherRow rows t b) (λ i. refers-to rows A t 40 p member-shape of-a l (f .0) tt (f .1 ∙ holds t a p i lp) lp)
     by-node (Choice a b c) f = links (higherRow rows t a) (higherRow rows t b) (λ i. refers-to rows A t 41 p choice-shape of-a l (f .0) tt (f .1 ∙ holds t a p i lp) lp)
     by-node (OptionRow a b c) f = links (higherRow rows t a) (higherRow rows t b) (λ i. refers-to rows A t 42 p option-shape of-a l (f .0) tt (f .1 ∙ holds t a p i lp) lp)
@@ -140,24 +144,24 @@ module _ (rows : List ℤ) (A : RightRows rows) where
     link-refers : (q : ℕ) → shapeAt rows t ≡ Link p q → Refers rows t of-a p
     link-refers q e = by-node (nodeAt rows t) (fields-are rows t) .0 q (sym shape-is ∙ e)
 
-    body-refers : shapeAt rows t ≡ Repeating p → Refers rows t of-b p
-    body-refers e = by-node (nodeAt rows t) (fields-are rows t) .1 (sym shape-is ∙ e)
+    single-refers : shapeAt rows t ≡ Single p → Refers rows t of-b p
+    single-refers e = by-node (nodeAt rows t) (fields-are rows t) .1 (sym shape-is ∙ e)
 
--- what is noted of a link's member, and of the body of a WHILE
+-- what is noted of a link's member, and of the process of a WHILE or a block
 module _ (rows : List ℤ) (t p : ℕ) (l : t < rowCount rows) where
   pub link-next : (q : ℕ) → shapeAt rows t ≡ Link p q → (j n : ℕ) → NextIs rows p q j n → NextOf rows j n
   link-next q e j n h = (rw (h .0) (h .1), inl (t, q, l, e ∙ ap (λ (x : ℕ). Link x q) (sym (h .0)), h .2))
 
-  pub body-next : shapeAt rows t ≡ Repeating p → (j n : ℕ) → NextIs rows p (length rows) j n → NextOf rows j n
-  body-next e j n h =
+  pub single-next : shapeAt rows t ≡ Single p → (j n : ℕ) → NextIs rows p (length rows) j n → NextOf rows j n
+  single-next e j n h =
       let past : inTable rows (length rows) ≡ rowCount rows = rw (le-ltb (length rows) (rowCount rows) (omega arith)) in
-      (rw (h .0) (h .1), inr (t, l, e ∙ ap Repeating (sym (h .0)), h .2 ∙ past))
+      (rw (h .0) (h .1), inr (t, l, e ∙ ap Single (sym (h .0)), h .2 ∙ past))
 
 -- ---- each row has one next link
 
 link-of : (j : ℕ) (s : Shape) → T (isLinkTo j s) → (q : ℕ) × (s ≡ Link j q)
 link-of j (Ending m f) h = absurd h
-link-of j (Repeating b) h = absurd h
+link-of j (Single b) h = absurd h
 link-of j (Link p q) h = (q, ap (λ (x : ℕ). Link x q) (eqb→eq p j h))
 link-of j Neither h = absurd h
 
@@ -181,17 +185,17 @@ module _ (rows : List ℤ) (A : RightRows rows) (j : ℕ) (lj : j < rowCount row
           let same : u ≡ t = once rows A u t j of-a of-a (found-refers u (f .0) (f .1)) (link-refers rows A t j l lj q e) .0 in
           sym (ap (linkAfter rows) (ap (shapeAt rows) same ∙ e))
 
-  after-body : (w : ℕ) → w < rowCount rows → shapeAt rows w ≡ Repeating j → rowCount rows ≡ nextLink rows j
+  after-single : (w : ℕ) → w < rowCount rows → shapeAt rows w ≡ Single j → rowCount rows ≡ nextLink rows j
   unfolding nextLink
-  after-body w l e = go (lowest test (rowCount rows)) (lowest-is test (rowCount rows))
+  after-single w l e = go (lowest test (rowCount rows)) (lowest-is test (rowCount rows))
     where
       go : (o : Option ℕ) → Lowest (λ i. T (test i)) (rowCount rows) o → rowCount rows ≡ linkAfterRow rows o
       go none f = refl
-      go (some u) f = absurd (a-not-b (once rows A u w j of-a of-b (found-refers u (f .0) (f .1)) (body-refers rows A w j l lj e) .1))
+      go (some u) f = absurd (a-not-b (once rows A u w j of-a of-b (found-refers u (f .0) (f .1)) (single-refers rows A w j l lj e) .1))
 
 pub next-is : (rows : List ℤ) → RightRows rows → (j n : ℕ) → NextOf rows j n → n ≡ nextLink rows j
 next-is rows A j n (lj, inl (t, q, l, e, i)) = i ∙ after-link rows A j lj t q l e
-next-is rows A j n (lj, inr (w, l, e, i)) = i ∙ after-body rows A j lj w l e
+next-is rows A j n (lj, inr (w, l, e, i)) = i ∙ after-single rows A j lj w l e
 
 -- ---- all notes of an accepted table
 

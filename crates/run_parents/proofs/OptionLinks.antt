@@ -43,7 +43,7 @@ module _ (rows : List ℤ) where
         ap (λ (p : Content). rowsOfOptions (p .options)) (part-of-kind rows t (kindAt rows t) h refl)
         ∙ kind-cases (λ (m : Node). rowsOfOptions (contentOf rows t (higherContent rows t) m .options) ≡ []) (kindAt rows t) _ _ _ _
         (λ e. refl) (λ e. refl) (λ e. refl) (λ e. refl) (λ e. refl) (λ e. refl) (λ e. refl) (λ e. refl) (λ e. refl) (λ e. refl)
-        (λ e. refl) (λ e. refl) (λ e. refl) (λ e. refl) (λ e. refl) (λ e. refl) (λ e. absurd (n e)) (λ e. refl) refl
+        (λ e. refl) (λ e. refl) (λ e. refl) (λ e. refl) (λ e. refl) (λ e. refl) (λ e. refl) (λ e. absurd (n e)) (λ e. refl) refl
 
     -- an ALT has those from its first option on, any other row none
     pub alt-options : kindAt rows t ≡ 34 → optionRows (actionOf (processAt (program rows) t)) ≡ optionsFrom (operandAt rows t 1)
@@ -56,4 +56,4 @@ module _ (rows : List ℤ) where
         rw (process-is rows t) (ap (λ (p : Content). optionRows (actionOf (orStop (p .process)))) (part-of-kind rows t (kindAt rows t) h refl)
         ∙ kind-cases (λ (m : Node). optionRows (actionOf (orStop (contentOf rows t (higherContent rows t) m .process))) ≡ []) (kindAt rows t) _ _ _ _
         (λ e. refl) (λ e. refl) (λ e. refl) (λ e. refl) (λ e. refl) (λ e. refl) (λ e. refl) (λ e. refl) (λ e. refl) (λ e. refl)
-        (λ e. refl) (λ e. refl) (λ e. refl) (λ e. absurd (n e)) (λ e. refl) (λ e. refl) (λ e. refl) (λ e. refl) refl)
+        (λ e. refl) (λ e. refl) (λ e. refl) (λ e. absurd (n e)) (λ e. refl) (λ e. refl) (λ e. refl) (λ e. refl) (λ e. refl) refl)

@@ -10,12 +10,12 @@ use lib.ListN.{length}
 use lib.Dec.{ltb, leb, eqb}
 use borrow.Author.Tests.{ltb-true, leb-true, leb-false, le-leb, lt-leb, ne-eqb}
 use Rattle.meaning.specs.declared.Node.{Node}
-use Rattle.meaning.specs.declared.Node.the-variants.{Literal, Element, Monadic, Dyadic, Stop, Skip, Assignment, Input, Output, Seq, Par, If, While, Alt, Member, Choice, OptionRow, Guard, Other}
+use Rattle.meaning.specs.declared.Node.the-variants.{Literal, Element, Monadic, Dyadic, Stop, Skip, Assignment, Input, Output, Seq, Par, If, While, Alt, Block, Member, Choice, OptionRow, Guard, Other}
 use Rattle.meaning.specs.Rows.{rowCount, fieldAt, naturalAt, kindAt}
 use Rattle.meaning.specs.Basics.{ifElse}
 use Rattle.meaning.specs.Declarations.{variableAt, sinkAt}
 use Rattle.meaning.specs.Nodes.{nodeAt}
-use Rattle.meaning.specs.Tree.{Expr, Action, stop, skip, sequence, parallel, assign, input, output, conditional, loop, alternation, Process, node, Processes, empty, Content, noContent, andProcess, inputOf, contentOf, contentAt}
+use Rattle.meaning.specs.Tree.{Action, stop, skip, sequence, parallel, assign, input, output, conditional, loop, alternation, block, Process, node, Processes, empty, Content, noContent, andProcess, inputOf, contentOf, contentAt}
 use Rattle.meaning.specs.Settle.{mode, endsWhenClosed}
 use Rattle.meaning.specs.ContentClaims.{higherContent}
 use Rattle.agreement.proofs.TableTree.{part-at, part-past}
@@ -24,7 +24,7 @@ use Rattle.base_layout.proofs.RowNodes.{nodeOf, node-of-kind}
 use Rattle.run_parents.specs.declared.shape.Mode as code
 use Rattle.run_parents.specs.declared.shape.Mode.the-variants.{InTurn, Together, ByStep}
 use Rattle.run_parents.specs.declared.shape.Shape.{Shape}
-use Rattle.run_parents.specs.declared.shape.Shape.the-variants.{Ending, Repeating, Link, Neither}
+use Rattle.run_parents.specs.declared.shape.Shape.the-variants.{Ending, Single, Link, Neither}
 use Rattle.run_parents.specs.Shapes.{higherRow, settlingShape, shapeAt}
 use Rattle.run_parents.specs.Members.{modeOf, onlyProcess}
 
@@ -56,11 +56,10 @@ module _ (rows : List ℤ) where
     pub ends : endsWhenClosed action ≡ true
     pub fewer : rowCount rows - f < rowCount rows - r
 
-  -- at row r a WHILE, with the body of row b
-  pub record RepeatingAt (r b : ℕ) : Type 0 where
-    pub test : Expr
-    pub named : ℕ
-    pub process-is : contentAt rows r .process ≡ some (node (loop test named) r (onlyProcess (contentAt rows b .process)))
+  -- at row r a WHILE or a block, with the process of row b
+  pub record SingleAt (r b : ℕ) : Type 0 where
+    pub action : Action
+    pub process-is : contentAt rows r .process ≡ some (node action r (onlyProcess (contentAt rows b .process)))
     pub no-members : contentAt rows r .listed ≡ empty
     pub fewer : rowCount rows - b < rowCount rows - r
 
@@ -78,7 +77,7 @@ module _ (rows : List ℤ) where
 
   abbrev pub Stands : ℕ → Shape → Type 0
   Stands r (Ending m f) = EndingAt r m f
-  Stands r (Repeating b) = RepeatingAt r b
+  Stands r (Single b) = SingleAt r b
   Stands r (Link p q) = LinkAt r p q
   Stands r Neither = NeitherAt r
 
@@ -113,6 +112,16 @@ module _ (rows : List ℤ) where
           fewer = higher-left r b l;
         }
 
+    -- a process with that of row b alone
+    single : (a : Action) (b : ℕ) → contentAt rows r .process ≡ some (node a r (onlyProcess (higherContent rows r b .process))) → contentAt rows r .listed ≡ empty → SingleAt r (higherRow rows r b)
+    single a b e n =
+        record {
+          action = a;
+          process-is = e ∙ ap (λ (o : Maybe Process). some (node a r (onlyProcess o))) (processes (higher-part r b));
+          no-members = n;
+          fewer = higher-left r b l;
+        }
+
     link : (a b : ℕ) → contentAt rows r .process ≡ none → contentAt rows r .listed ≡ andProcess (higherContent rows r a .process) (higherContent rows r b .listed) → LinkAt r (higherRow rows r a) (higherRow rows r b)
     link a b n e =
         record {
@@ -138,15 +147,9 @@ module _ (rows : List ℤ) where
     by-node (Seq a) e = inner sequence InTurn a (processes e) (members e) refl refl
     by-node (Par a) e = inner parallel Together a (processes e) (members e) refl refl
     by-node (If a) e = inner (conditional (higherContent rows r a .tests)) ByStep a (processes e) (members e) refl refl
-    by-node (While a b) e =
-        record {
-          test = higherContent rows r a .expr;
-          named = b;
-          process-is = processes e ∙ ap (λ (o : Maybe Process). some (node (loop (higherContent rows r a .expr) b) r (onlyProcess o))) (processes (higher-part r b));
-          no-members = members e;
-          fewer = higher-left r b l;
-        }
+    by-node (While a b) e = single (loop (higherContent rows r a .expr) b) b (processes e) (members e)
     by-node (Alt a) e = inner (alternation (higherContent rows r a .options)) ByStep a (processes e) (members e) refl refl
+    by-node (Block a b) e = single (block (variableAt rows a)) b (processes e) (members e)
     by-node (Member a b) e = link a b (processes e) (members e)
     by-node (Choice a b c) e = link a b (processes e) (members e)
     by-node (OptionRow a b c) e = link a b (processes e) (members e)
@@ -196,8 +199,8 @@ module _ (rows : List ℤ) where
 
   -- a kind that is none of a process or a link
   pub told-neither : (r k : ℕ) → r < rowCount rows → kindAt rows r ≡ k → (k ≡ 20 → ⊥) → (k ≡ 21 → ⊥) → (k ≡ 22 → ⊥) → (k ≡ 23 → ⊥) → (k ≡ 24 → ⊥)
-      → (k ≡ 30 → ⊥) → (k ≡ 31 → ⊥) → (k ≡ 32 → ⊥) → (k ≡ 33 → ⊥) → (k ≡ 34 → ⊥) → (k ≡ 40 → ⊥) → (k ≡ 41 → ⊥) → (k ≡ 42 → ⊥) → Neither ≡ shapeAt rows r
-  told-neither r k l e a b c d f g h i j m n o p =
-      sym (simp (ne-eqb k 20 a, ne-eqb k 21 b, ne-eqb k 22 c, ne-eqb k 23 d, ne-eqb k 24 f, ne-eqb k 30 g, ne-eqb k 31 h, ne-eqb k 32 i, ne-eqb k 33 j, ne-eqb k 34 m, ne-eqb k 40 n, ne-eqb k 41 o, ne-eqb k 42 p)
+      → (k ≡ 30 → ⊥) → (k ≡ 31 → ⊥) → (k ≡ 32 → ⊥) → (k ≡ 33 → ⊥) → (k ≡ 34 → ⊥) → (k ≡ 35 → ⊥) → (k ≡ 40 → ⊥) → (k ≡ 41 → ⊥) → (k ≡ 42 → ⊥) → Neither ≡ shapeAt rows r
+  told-neither r k l e a b c d f g h i j m q n o p =
+      sym (simp (ne-eqb k 20 a, ne-eqb k 21 b, ne-eqb k 22 c, ne-eqb k 23 d, ne-eqb k 24 f, ne-eqb k 30 g, ne-eqb k 31 h, ne-eqb k 32 i, ne-eqb k 33 j, ne-eqb k 34 m, ne-eqb k 35 q, ne-eqb k 40 n, ne-eqb k 41 o, ne-eqb k 42 p)
       (no-part r (fieldAt rows r 1) (naturalAt rows r 1) (naturalAt rows r 2) (naturalAt rows r 3) (eqb k 10) (eqb k 11) (eqb k 12) (eqb k 13) (eqb k 43)))
       ∙ told r k l e

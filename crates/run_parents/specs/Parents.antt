@@ -14,7 +14,7 @@ use Rattle.meaning.specs.Tree.{Processes, contentAt, processesIn}
 use Rattle.meaning.specs.Usage.{numbersFrom}
 use Rattle.meaning.specs.State.{program, processAt}
 use Rattle.run_parents.specs.declared.shape.Shape.{Shape}
-use Rattle.run_parents.specs.declared.shape.Shape.the-variants.{Ending, Repeating, Link, Neither}
+use Rattle.run_parents.specs.declared.shape.Shape.the-variants.{Ending, Single, Link, Neither}
 use Rattle.run_parents.specs.Members.{onlyProcess}
 use Rattle.run_parents.specs.Shapes.{shapeAt}
 use Rattle.machine.specs.Upward.{processRows, parentOf}
@@ -27,14 +27,14 @@ inTable rows t = ifElse (ltb t (rowCount rows)) t (rowCount rows)
 -- is a row, by its part in settling, the link to the member of row p
 abbrev pub isLinkTo : ℕ → Shape → Bool
 isLinkTo p (Ending m f) = false
-isLinkTo p (Repeating b) = false
+isLinkTo p (Single b) = false
 isLinkTo p (Link q t) = eqb q p
 isLinkTo p Neither = false
 
 -- the link after a link
 abbrev pub linkAfter : List ℤ → Shape → ℕ
 linkAfter rows (Ending m f) = rowCount rows
-linkAfter rows (Repeating b) = rowCount rows
+linkAfter rows (Single b) = rowCount rows
 linkAfter rows (Link q t) = inTable rows t
 linkAfter rows Neither = rowCount rows
 
@@ -42,7 +42,7 @@ abbrev pub linkAfterRow : List ℤ → Option ℕ → ℕ
 linkAfterRow rows none = rowCount rows
 linkAfterRow rows (some t) = linkAfter rows (shapeAt rows t)
 
--- the link after the one to the member of row p; the row after the last where there is none, or p is the body of a WHILE
+-- the link after the one to the member of row p; the row after the last where there is none, or p is the process of a WHILE or a block
 unfoldable pub nextLink : List ℤ → ℕ → ℕ
 nextLink rows p = linkAfterRow rows (lowest (λ t. isLinkTo p (shapeAt rows t)) (rowCount rows))
 
@@ -76,9 +76,9 @@ pub record ParentsNumbered (At : ℕ → ℕ → Type 0) (parents nexts parentsL
   pub number : (j : ℕ) → ((getD parentsLeft j 0 ≡ getD parents j 0) × (getD nextsLeft j 0 ≡ getD nexts j 0)) ⊎ ((getD parentsLeft j 0 ≡ 0 → ⊥) × At j (getD nextsLeft j 0))
 
 module _ (rows : List ℤ) where
-  -- the link after the one to row j, or the row after the last if j is the body of a WHILE
+  -- the link after the one to row j, or the row after the last if j is the process of a WHILE or a block
   abbrev pub NextOf : ℕ → ℕ → Type 0
-  NextOf j n = (j < rowCount rows) × (((t q : ℕ) × (t < rowCount rows) × (shapeAt rows t ≡ Link j q) × (n ≡ inTable rows q)) ⊎ ((w : ℕ) × (w < rowCount rows) × (shapeAt rows w ≡ Repeating j) × (n ≡ rowCount rows)))
+  NextOf j n = (j < rowCount rows) × (((t q : ℕ) × (t < rowCount rows) × (shapeAt rows t ≡ Link j q) × (n ≡ inTable rows q)) ⊎ ((w : ℕ) × (w < rowCount rows) × (shapeAt rows w ≡ Single j) × (n ≡ rowCount rows)))
 
   -- link t at row p
   abbrev pub NextIs : ℕ → ℕ → ℕ → ℕ → Type 0

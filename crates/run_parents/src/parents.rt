@@ -64,7 +64,7 @@ fn note_members(rows: &[i32], m: usize, note: u16, parents: &mut [u16], nexts: &
             Shape::Ending(_, _) => {
                 return;
             }
-            Shape::Repeating(_) => {
+            Shape::Single(_) => {
                 return;
             }
             Shape::Link(p, next) => {
@@ -91,8 +91,8 @@ fn note_row(rows: &[i32], r: usize, parents: &mut [u16], nexts: &mut [u16])
         Shape::Ending(_, first) => {
             note_members(rows, first, (r + 1) as u16, parents, nexts);
         }
-        Shape::Repeating(body) => {
-            note_member(rows, body, rows.len(), (r + 1) as u16, parents, nexts);
+        Shape::Single(process) => {
+            note_member(rows, process, rows.len(), (r + 1) as u16, parents, nexts);
         }
         Shape::Link(_, _) => {}
         Shape::Neither => {}

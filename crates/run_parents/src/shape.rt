@@ -17,8 +17,8 @@ pub enum Mode {
 pub enum Shape {
     // a process that ends when it closes: how it starts its members, and the first link to them
     Ending(Mode, usize),
-    // a WHILE: the row of its body
-    Repeating(usize),
+    // a WHILE or a block: the row of its process
+    Single(usize),
     // a link to members: the row of one, and the next link
     Link(usize, usize),
     Neither,
@@ -43,8 +43,9 @@ pub fn shape_at(rows: &[i32], r: usize) -> Shape
         30 => Shape::Ending(Mode::InTurn, a),
         31 => Shape::Ending(Mode::Together, a),
         32 => Shape::Ending(Mode::ByStep, a),
-        33 => Shape::Repeating(b),
+        33 => Shape::Single(b),
         34 => Shape::Ending(Mode::ByStep, a),
+        35 => Shape::Single(b),
         40 => Shape::Link(a, b),
         41 => Shape::Link(a, b),
         42 => Shape::Link(a, b),
@@ -59,7 +60,7 @@ pub fn is_process(rows: &[i32], r: usize) -> bool
     let s = shape_at(rows, r);
     match s {
         Shape::Ending(_, _) => true,
-        Shape::Repeating(_) => true,
+        Shape::Single(_) => true,
         Shape::Link(_, _) => false,
         Shape::Neither => false,
     }

@@ -1,7 +1,6 @@
 -- A prepared row, as the code comes to it.
 use mathlib.Core.Path.{_≡_, refl, sym, ap, _∙_}
 use mathlib.Core.Bool.{Bool, true, false}
-use mathlib.Core.Option.{none}
 use mathlib.Core.List.{List}
 use Prim.Native.Nat.{ℕ, _+_, _<_, _≤_}
 use native.Mathlib.Omega.{arith}
@@ -13,12 +12,9 @@ use Rattle.meaning.specs.declared.Value.the-variants.{Number, Missing}
 use Rattle.meaning.specs.declared.Index.the-variants.{At, Fails}
 use Rattle.meaning.specs.Basics.{ifElse}
 use Rattle.meaning.specs.Rows.{rowCount, fieldAt, naturalAt, kindAt}
-use Rattle.meaning.specs.Declarations.{declarations, sumBelow, variableAt}
-use Rattle.meaning.specs.Faults.{WithinLimits}
+use Rattle.meaning.specs.Declarations.{declarations, variableAt}
 use Rattle.meaning.specs.State.{program}
 use Rattle.meaning.specs.Values.{inArray}
-use Rattle.meaning.specs.Answers.{check}
-use Rattle.meaning.proofs.AnswerLaws.{accepted}
 use Rattle.machine.specs.Upward.{parentOf}
 use Rattle.machine.specs.RowSteps.{altOf}
 use Rattle.run_parents.specs.Marks.{rowNote}
@@ -38,11 +34,6 @@ place-within first n i (Number (pos k)) e = go (ltb k n) refl e
     go false p q = absurd (let z : _≡_ {A = ℕ} 0 1 = cc in omega arith)
 place-within first n i (Number (negsuc k)) e = absurd (let z : _≡_ {A = ℕ} 0 1 = cc in omega arith)
 place-within first n i (Missing k) e = absurd (let z : _≡_ {A = ℕ} 0 1 = cc in omega arith)
-
--- the cells of a variable are few
-pub variable-small : (rows : List ℤ) → check rows ≡ none → (a : ℕ) → a < declarations rows → kindAt rows a ≡ 1 → variableAt rows a .first + variableAt rows a .size ≤ 256
-unfolding variableAt WithinLimits sumBelow
-variable-small rows ok a d k = rw (lt-ltb _ _ d, k) (accepted rows .0 ok .3 a d .0)
 
 module _ (rows : List ℤ) (a b : ℕ) {k : ℕ} (t : k ≡ kindIn rows b) where
   abbrev rowBy : Bool → Row
@@ -82,15 +73,15 @@ module _ (rows : List ℤ) (r : ℕ) where
     pub row-by-kind : (k : ℕ) → kindAt rows r ≡ k → rowOfKind rows r k ≡ rowAt rows r
     row-by-kind k e = sym (row-of-kind rows r k (kind-in rows r k l e))
 
-    module _ (k : ℕ) (e : kindAt rows r ≡ k) (a : k ≡ 10 → ⊥) (b : k ≡ 11 → ⊥) (c : k ≡ 12 → ⊥) (d : k ≡ 13 → ⊥) (f : k ≡ 22 → ⊥) (g : k ≡ 23 → ⊥) (h : k ≡ 24 → ⊥) where
+    module _ (k : ℕ) (e : kindAt rows r ≡ k) (a : k ≡ 10 → ⊥) (b : k ≡ 11 → ⊥) (c : k ≡ 12 → ⊥) (d : k ≡ 13 → ⊥) (f : k ≡ 22 → ⊥) (g : k ≡ 23 → ⊥) (h : k ≡ 24 → ⊥) (i : k ≡ 35 → ⊥) where
       pub low-row : declarations rows ≤ r → k < 20 → noRow ≡ rowAt rows r
-      low-row s l = sym (declared-past rows r s) ∙ (simp (ne-eqb k 10 a, ne-eqb k 11 b, ne-eqb k 12 c, ne-eqb k 13 d, ne-eqb k 22 f, ne-eqb k 23 g, ne-eqb k 24 h, lt-ltb k 20 l) at (row-by-kind k e))
+      low-row s l = sym (declared-past rows r s) ∙ (simp (ne-eqb k 10 a, ne-eqb k 11 b, ne-eqb k 12 c, ne-eqb k 13 d, ne-eqb k 22 f, ne-eqb k 23 g, ne-eqb k 24 h, ne-eqb k 35 i, lt-ltb k 20 l) at (row-by-kind k e))
 
       pub kept-row : 20 ≤ k → k < 44 → keptRow rows r k (referredRow rows r 1) ≡ rowAt rows r
-      kept-row l u = simp (ne-eqb k 10 a, ne-eqb k 11 b, ne-eqb k 12 c, ne-eqb k 13 d, ne-eqb k 22 f, ne-eqb k 23 g, ne-eqb k 24 h, le-ltb k 20 l, lt-ltb k 44 u) at (row-by-kind k e)
+      kept-row l u = simp (ne-eqb k 10 a, ne-eqb k 11 b, ne-eqb k 12 c, ne-eqb k 13 d, ne-eqb k 22 f, ne-eqb k 23 g, ne-eqb k 24 h, ne-eqb k 35 i, le-ltb k 20 l, lt-ltb k 44 u) at (row-by-kind k e)
 
       pub high-row : 20 ≤ k → 44 ≤ k → noRow ≡ rowAt rows r
-      high-row l u = simp (ne-eqb k 10 a, ne-eqb k 11 b, ne-eqb k 12 c, ne-eqb k 13 d, ne-eqb k 22 f, ne-eqb k 23 g, ne-eqb k 24 h, le-ltb k 20 l, le-ltb k 44 u) at (row-by-kind k e)
+      high-row l u = simp (ne-eqb k 10 a, ne-eqb k 11 b, ne-eqb k 12 c, ne-eqb k 13 d, ne-eqb k 22 f, ne-eqb k 23 g, ne-eqb k 24 h, ne-eqb k 35 i, le-ltb k 20 l, le-ltb k 44 u) at (row-by-kind k e)
 
   -- the note of a parent, and of an ALT
   pub parent-noted : (k : ℕ) → (k ≡ 42 → ⊥) → {n : ℕ} → n ≡ rowNote (parentOf (program rows) r) → n ≡ ownerNote rows k r

@@ -177,6 +177,14 @@ fn row_at(
             parents[r],
             nexts[r],
         ),
+        35 => kept_row(
+            rows,
+            r,
+            35,
+            nodes::natural(rows, r, 1) as u16,
+            parents[r],
+            nexts[r],
+        ),
         42 => kept_row(rows, r, 42, referred(rows, r, 1), owners[r], nexts[r]),
         _ => {
             if k < 20 {

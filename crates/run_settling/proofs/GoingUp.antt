@@ -1,17 +1,17 @@
 -- A process of a prepared table goes on after its member, and so on up, as the code goes.
 use mathlib.Core.Path.{_≡_, refl, sym, ap, ap₂, subst, _∙_}
 use mathlib.Core.Bool.{false}
-use mathlib.Core.Option.{none, some}
-use mathlib.Core.List.{List, [], List·Memᴰ, List·Memᴰ·not-nil}
+use mathlib.Core.Option.{Option, none, some}
+use mathlib.Core.List.{List, [], List·Memᴰ, List·Memᴰ·head, List·Memᴰ·tail, List·Memᴰ·not-nil}
 use Prim.Native.Nat.{ℕ, suc, _-_, _<_}
 use native.Mathlib.Omega.{arith}
 use native.Mathlib.Decide.{decLt}
 use lib.IntN.{ℤ}
 use lib.ListN.{getD}
-use borrow.Author.Tests.{ne-eqb}
+use borrow.Author.Tests.{eq-eqb, ne-eqb}
 use Rattle.meaning.specs.declared.Node.{Node}
-use Rattle.meaning.specs.Rows.{rowCount, kindAt}
-use Rattle.meaning.specs.Tree.{Process, Content, contentOf, contentAt, orStop, actionOf, processesIn}
+use Rattle.meaning.specs.Rows.{rowCount, naturalAt, kindAt}
+use Rattle.meaning.specs.Tree.{Expr, Action, loop, Process, node, Content, contentOf, contentAt, orStop, rowOf, actionOf, processesIn}
 use Rattle.meaning.specs.Settle.{isEnded, mode, endsWhenClosed}
 use Rattle.meaning.specs.State.{program, processAt}
 use Rattle.base_layout.proofs.Parts.{higherContent, part-past, part-of-kind}
@@ -19,11 +19,13 @@ use Rattle.run_parents.proofs.KindCases.{kind-cases}
 use Rattle.machine.specs.Upward.{processRows, processesAfter, reset, parentOf}
 use Rattle.machine.specs.Counts.{Kept, keptOf, comesTo, stateSet, remain, startMembers, goesOnCounted, goesOnCountedAt, upwardCounted, changeUpCounted, endUpCounted}
 use Rattle.machine.proofs.Parents.{parent-has, parent-below}
+use Rattle.machine.proofs.Starting.{start-none}
 use Rattle.machine.proofs.CountedClimbs.{counted-rests, counted-top, counted-goes, counted-enough}
 use Rattle.run_parents.specs.declared.shape.Mode.the-variants.{InTurn, Together}
+use Rattle.run_parents.specs.Members.{onlyProcess}
 use Rattle.run_code.specs.Prepared.{Prepared, placeAt}
 use Rattle.run_starting.specs.Parts.{startsIf}
-use Rattle.run_starting.proofs.Standing.{EndingIn, RepeatingIn, kind-place}
+use Rattle.run_starting.proofs.Standing.{EndingIn, SingleIn, kind-place}
 use Rattle.run_starting.proofs.Starting.{not-ended, process-there}
 use Rattle.run_starting.proofs.Resetting.{body-resets}
 
@@ -43,16 +45,24 @@ module _ (rows : List ℤ) (q r : ℕ) (k : Kept) where
   together-goes-on h g = of-process (h .process-is) (rw (h .mode-is) g)
 
   -- every row beneath a WHILE becomes idle, and it comes to work again
-  pub repeating-goes-on : {b : ℕ} {t c : List ℕ} → RepeatingIn rows q b → t ≡ reset (processAt (program rows) b) (k .states) → c ≡ comesTo q (k .came) → keptOf t (k .left) c ≡ goesOnCountedAt (program rows) q r k
-  repeating-goes-on h g i = of-process (h .process-is) (ap₂ (λ (t c : List ℕ). keptOf t (k .left) c) (body-resets rows q (k .states) h g) i)
+  pub repeating-goes-on : {b : ℕ} {t c : List ℕ} (h : SingleIn rows q b) {x : Expr} {n : ℕ} → h .action ≡ loop x n → t ≡ reset (processAt (program rows) b) (k .states) → c ≡ comesTo q (k .came)
+      → keptOf t (k .left) c ≡ goesOnCountedAt (program rows) q r k
+  repeating-goes-on {b} h a g i =
+      of-process (h .process-is ∙ ap (λ (y : Action). some (node y q (onlyProcess (contentAt rows b .process)))) a) (ap₂ (λ (t c : List ℕ). keptOf t (k .left) c) (body-resets rows q (k .states) h g) i)
 
--- an IF or ALT ends; no other row has a member
+-- an IF, an ALT or a block ends; no other row has a member
 module _ {rows : List ℤ} {list : List ℕ} (P : Prepared rows list) (q r : ℕ) (k : Kept) {n : ℕ} (e : n ≡ placeAt list q 0) (n30 : n ≡ 30 → ⊥) (n31 : n ≡ 31 → ⊥) (n33 : n ≡ 33 → ⊥) where
   abbrev Ends : Process → Type 0
   Ends p = List·Memᴰ r (processRows (processesIn p)) → stateSet q 2 k ≡ goesOnCounted (mode (actionOf p)) (endsWhenClosed (actionOf p)) q r (processesIn p) k
 
   none-in : {A : Type 0} → List·Memᴰ r [] → A
   none-in m = absurd (List·Memᴰ·not-nil m)
+
+  -- the process of a block is its only member
+  only-ends : (o : Option Process) → List·Memᴰ r (processRows (onlyProcess o)) → stateSet q 2 k ≡ startMembers (processesAfter r (onlyProcess o)) false q 0 k
+  only-ends none m = none-in m
+  only-ends (some p) (List·Memᴰ·head i) = rw (eq-eqb r (rowOf p) i, start-none false q 0 k)
+  only-ends (some p) (List·Memᴰ·tail m) = none-in m
 
   ends : Ends (processAt (program rows) q)
   ends = go (decLt q (rowCount rows))
@@ -64,7 +74,7 @@ module _ {rows : List ℤ} {list : List ℕ} (P : Prepared rows list) (q r : ℕ
           (kind-cases (λ (m : Node). Ends (orStop (contentOf rows q (higherContent rows q) m .process))) (kindAt rows q) _ _ _ _
           (λ i. none-in) (λ i. none-in) (λ i. none-in) (λ i. none-in) (λ i. none-in) (λ i. none-in) (λ i. none-in) (λ i. none-in) (λ i. none-in)
           (λ i. absurd (n30 (e ∙ kind-place P q 30 l i))) (λ i. absurd (n31 (e ∙ kind-place P q 31 l i))) (λ i m. refl) (λ i. absurd (n33 (e ∙ kind-place P q 33 l i))) (λ i m. refl)
-          (λ i. none-in) (λ i. none-in) (λ i. none-in) (λ i. none-in) none-in)
+          (λ i. only-ends (higherContent rows q (naturalAt rows q 2) .process)) (λ i. none-in) (λ i. none-in) (λ i. none-in) (λ i. none-in) none-in)
 
   pub other-goes-on : parentOf (program rows) r ≡ some q → stateSet q 2 k ≡ goesOnCountedAt (program rows) q r k
   other-goes-on i = ends (parent-has (program rows) r q i .1)

@@ -1,4 +1,4 @@
-// Settling upward over the prepared list, with counts: the row states, the members left of each running PAR, and the rows that come to work.
+// Settling upward over the prepared list, with counts: the row states, the members left of each running PAR, the rows that come to work and the blocks that start.
 ghost use mathlib.Core.Path.{_≡_};
 ghost use mathlib.Core.Option.{some};
 ghost use mathlib.Core.List.{List};
@@ -26,7 +26,7 @@ fn go_on(
     r: usize,
     states: &mut [u8; 1024],
     left: &mut [u16; 1024],
-    came: &mut [u16; 2049],
+    came: &mut [u16; 4098],
 )
     requires table { ⌜ ((rows : List ℤ) × Prepared rows (now code)) ⌝ }
     requires inside { ⌜ (q < 1024) × (r < 1024) ⌝ }
@@ -51,7 +51,7 @@ fn settle_up(
     r: usize,
     states: &mut [u8; 1024],
     left: &mut [u16; 1024],
-    came: &mut [u16; 2049],
+    came: &mut [u16; 4098],
 )
     requires table { ⌜ ((rows : List ℤ) × (Prepared rows (now code) × IsProcess rows r)) ⌝ }
     requires row { ⌜ r < 1024 ⌝ }
@@ -76,7 +76,7 @@ pub fn change_up(
     n: u8,
     states: &mut [u8; 1024],
     left: &mut [u16; 1024],
-    came: &mut [u16; 2049],
+    came: &mut [u16; 4098],
 )
     requires table { ⌜ ((rows : List ℤ) × (Prepared rows (now code) × IsProcess rows r)) ⌝ }
     requires row { ⌜ r < 1024 ⌝ }
@@ -87,7 +87,7 @@ pub fn change_up(
     settle_up(code, r, states, left, came);
 }
 
-// Row `at` gets state n, the sender of a note ends, and what follows from that settles. The rows that come to work by this are listed anew.
+// Row `at` gets state n, the sender of a note ends, and what follows from that settles. The rows that come to work and the blocks that start by this are listed anew.
 pub fn change_states(
     code: &[u16; 6150],
     at: usize,
@@ -95,13 +95,14 @@ pub fn change_states(
     sender: u16,
     states: &mut [u8; 1024],
     left: &mut [u16; 1024],
-    came: &mut [u16; 2049],
+    came: &mut [u16; 4098],
 )
     requires table { ⌜ ((rows : List ℤ) × (Prepared rows (now code) × AreProcesses rows at sender)) ⌝ }
     requires inside { ⌜ (at < 1024) × (sender ≤ 1024) ⌝ }
     ensures { λ _. ⌜ ((rows : List ℤ) → Prepared rows (now (code .entry)) → AreProcesses rows at sender → leftKept states left came ≡ statesChanged rows at n sender (lentKept states left came)) ⌝ }
 {
     came[0] = 0;
+    came[2049] = 0;
     change_up(code, at, n, states, left, came);
     if sender != 0 {
         let row = sender as usize - 1;
@@ -115,7 +116,7 @@ pub fn begin(
     root: usize,
     states: &mut [u8; 1024],
     left: &mut [u16; 1024],
-    came: &mut [u16; 2049],
+    came: &mut [u16; 4098],
 )
     requires table { ⌜ ((rows : List ℤ) × Prepared rows (now code)) ⌝ }
     requires row { ⌜ root < 1024 ⌝ }

@@ -9,7 +9,7 @@ use lib.IntN.{ℤ}
 use lib.ListN.{getD, set}
 use Rattle.meaning.specs.declared.Node.{Node}
 use Rattle.meaning.specs.Rows.{rowCount, kindAt}
-use Rattle.meaning.specs.Tree.{Action, stop, skip, loop, Process, node, Processes, empty, also, Content, contentOf, contentAt, orStop}
+use Rattle.meaning.specs.Tree.{Action, stop, skip, Process, node, Processes, empty, also, Content, contentOf, contentAt, orStop}
 use Rattle.meaning.specs.Settle.{Mode, inTurn, together, byStep, mode}
 use Rattle.meaning.specs.State.{program, processAt, stateOf}
 use Rattle.base_layout.proofs.Parts.{higherContent, part-past, part-of-kind}
@@ -21,7 +21,7 @@ use Rattle.run_parents.specs.Members.{modeOf, onlyProcess}
 use Rattle.run_parents.proofs.KindCases.{kind-cases}
 use Rattle.run_code.specs.Prepared.{Prepared, placeAt}
 use Rattle.run_starting.specs.Parts.{IsProcess}
-use Rattle.run_starting.proofs.Standing.{EndingIn, RepeatingIn, LinkIn, kind-place}
+use Rattle.run_starting.proofs.Standing.{EndingIn, SingleIn, LinkIn, kind-place}
 use Rattle.run_starting.proofs.Starting.{process-there}
 
 -- a process as the only member
@@ -34,6 +34,12 @@ started-one p s = go (stateOf s p) refl
     go : (n : ℕ) → stateOf s p ≡ n → resetStarted (also p empty) s ≡ reset p s
     go zero z = started-idle p empty s z ∙ started-none s ∙ sym (reset-idle p s z)
     go (suc n) z = started-other p empty s (λ u. omega arith)
+
+-- by mode
+only-one : (m : Mode) (p : Process) (s : List ℕ) → resetBy m (resetMembers (also p empty)) (resetStarted (also p empty)) s ≡ reset p s
+only-one inTurn p s = every-one p s
+only-one together p s = every-one p s
+only-one byStep p s = started-one p s
 
 -- no member, by mode
 no-more : (m : Mode) (s : List ℕ) → resetBy m (resetMembers empty) (resetStarted empty) s ≡ s
@@ -63,12 +69,12 @@ module _ (rows : List ℤ) (r : ℕ) (s : List ℕ) where
         → u ≡ reset (processAt (program rows) r) s
     ending-resets {f = f} h i = rw (process-there rows r (h .process-is), other (h .action) (contentAt rows f .listed), h .mode-is) i
 
-    -- a WHILE
-    pub repeating-resets : {b : ℕ} {u : List ℕ} → RepeatingIn rows r b → u ≡ reset (processAt (program rows) b) (set s r 0) → u ≡ reset (processAt (program rows) r) s
-    repeating-resets {b} h i =
-        let (p, e) = h .body-is in
-        let w = process-there rows r (h .process-is ∙ ap (λ (o : Option Process). some (node (loop (h .test) (h .named)) r (onlyProcess o))) e) in
-        i ∙ ap (λ (q : Process). reset q (set s r 0)) (process-there rows b e) ∙ sym (ap (λ (q : Process). reset q s) w ∙ other (loop (h .test) (h .named)) (also p empty) ∙ started-one p (set s r 0))
+    -- a WHILE or a block
+    pub single-resets : {b : ℕ} {u : List ℕ} → SingleIn rows r b → u ≡ reset (processAt (program rows) b) (set s r 0) → u ≡ reset (processAt (program rows) r) s
+    single-resets {b} h i =
+        let (p, e) = h .member-is in
+        let w = process-there rows r (h .process-is ∙ ap (λ (o : Option Process). some (node (h .action) r (onlyProcess o))) e) in
+        i ∙ ap (λ (q : Process). reset q (set s r 0)) (process-there rows b e) ∙ sym (ap (λ (q : Process). reset q s) w ∙ other (h .action) (also p empty) ∙ only-one (mode (h .action)) p (set s r 0))
 
     -- any other process has no member
     module _ {list : List ℕ} (P : Prepared rows list) {n : ℕ} (e : n ≡ placeAt list r 0) where
@@ -81,8 +87,8 @@ module _ (rows : List ℤ) (r : ℕ) (s : List ℕ) where
       alone : (k : Action) → set s r 0 ≡ reset (node k r empty) s
       alone k = sym (other k empty ∙ no-more (mode k) (set s r 0))
 
-      pub itself-resets : (n ≡ 30 → ⊥) → (n ≡ 31 → ⊥) → (n ≡ 32 → ⊥) → (n ≡ 33 → ⊥) → (n ≡ 34 → ⊥) → IsProcess rows r → set s r 0 ≡ reset (processAt (program rows) r) s
-      itself-resets n30 n31 n32 n33 n34 (p, i) = go (decLt r (rowCount rows))
+      pub itself-resets : (n ≡ 30 → ⊥) → (n ≡ 31 → ⊥) → (n ≡ 32 → ⊥) → (n ≡ 33 → ⊥) → (n ≡ 34 → ⊥) → (n ≡ 35 → ⊥) → IsProcess rows r → set s r 0 ≡ reset (processAt (program rows) r) s
+      itself-resets n30 n31 n32 n33 n34 n35 (p, i) = go (decLt r (rowCount rows))
         where
           of : {c : Content} → contentAt rows r ≡ c → Alone c → set s r 0 ≡ reset (processAt (program rows) r) s
           of w h = let v = ap (λ (c : Content). c .process) w in h p (sym v ∙ i) ∙ ap (λ (q : Process). reset q s) (sym (process-there rows r v))
@@ -94,7 +100,7 @@ module _ (rows : List ℤ) (r : ℕ) (s : List ℕ) where
               (kind-cases (λ (m : Node). Alone (contentOf rows r (higherContent rows r) m)) (kindAt rows r) _ _ _ _
               (λ i. no-process) (λ i. no-process) (λ i. no-process) (λ i. no-process) (λ i q j. alone stop) (λ i q j. alone skip) (λ i q j. alone _) (λ i q j. alone _) (λ i q j. alone _)
               (λ i. absurd (n30 (e ∙ kind-place P r 30 l i))) (λ i. absurd (n31 (e ∙ kind-place P r 31 l i))) (λ i. absurd (n32 (e ∙ kind-place P r 32 l i))) (λ i. absurd (n33 (e ∙ kind-place P r 33 l i)))
-              (λ i. absurd (n34 (e ∙ kind-place P r 34 l i))) (λ i. no-process) (λ i. no-process) (λ i. no-process) (λ i. no-process) no-process)
+              (λ i. absurd (n34 (e ∙ kind-place P r 34 l i))) (λ i. absurd (n35 (e ∙ kind-place P r 35 l i))) (λ i. no-process) (λ i. no-process) (λ i. no-process) (λ i. no-process) no-process)
 
   -- ---- link r
 
@@ -115,5 +121,5 @@ module _ (rows : List ℤ) (r : ℕ) (s : List ℕ) where
     link-stops z i = rw (h .members-are, started-other (h .member) (contentAt rows q .listed) s (λ y. z (sym member-row ∙ y)), ← process-there rows p (h .member-is)) i
 
 -- the body of a WHILE
-pub body-resets : (rows : List ℤ) (r : ℕ) (s : List ℕ) {b : ℕ} {t : List ℕ} → RepeatingIn rows r b → t ≡ reset (processAt (program rows) b) s → t ≡ resetMembers (onlyProcess (contentAt rows b .process)) s
-body-resets rows r s {b} h i = let (p, e) = h .body-is in rw (e, every-one p s, ← process-there rows b e) i
+pub body-resets : (rows : List ℤ) (r : ℕ) (s : List ℕ) {b : ℕ} {t : List ℕ} → SingleIn rows r b → t ≡ reset (processAt (program rows) b) s → t ≡ resetMembers (onlyProcess (contentAt rows b .process)) s
+body-resets rows r s {b} h i = let (p, e) = h .member-is in rw (e, every-one p s, ← process-there rows b e) i

@@ -12,34 +12,38 @@ use lib.ListN.{length}
 use lib.Dec.{ltb, leb}
 use borrow.Author.Tests.{lt-ltb, leb-false}
 use Rattle.meaning.specs.declared.Node.{Node}
-use Rattle.meaning.specs.declared.Node.the-variants.{Literal, Element, Monadic, Dyadic, Stop, Skip, Assignment, Input, Output, Seq, Par, If, While, Alt, Member, Choice, OptionRow, Guard, Other}
+use Rattle.meaning.specs.declared.Node.the-variants.{Literal, Element, Monadic, Dyadic, Stop, Skip, Assignment, Input, Output, Seq, Par, If, While, Alt, Block, Member, Choice, OptionRow, Guard, Other}
 use Rattle.meaning.specs.Basics.{ifElse}
-use Rattle.meaning.specs.Rows.{rowCount, naturalOf, kindAt}
+use Rattle.meaning.specs.Rows.{rowCount, fieldAt, naturalOf, naturalAt, kindAt}
+use Rattle.meaning.specs.Declarations.{variableAt}
 use Rattle.meaning.specs.Kinds as kinds
 use Rattle.meaning.specs.Kinds.{Field, reference, link, processes}
 use Rattle.meaning.specs.Nodes.{nodeAt}
 use Rattle.meaning.specs.References.{Column, of-a, of-b, fieldOf, numberOf}
 use Rattle.meaning.specs.Faults.{Leads}
-use Rattle.meaning.specs.Tree.{Expr, Action, loop, Process, node, empty, also, Content, andProcess, contentAt}
+use Rattle.meaning.specs.Tree.{Action, skip, sequence, parallel, loop, block, Process, node, Processes, empty, also, Content, andProcess, contentOf, contentAt, orStop, actionOf}
 use Rattle.meaning.specs.Settle.{mode}
 use Rattle.meaning.proofs.AnswerLaws.{RightRows, accepted}
 use Rattle.agreement.proofs.TableTree.{part-past}
-use Rattle.agreement.proofs.TableReferences.{few-rows, members-shape, while-shape, member-shape, choice-shape, option-shape, Shaped, Holding, Fields, fields-are, leads-at}
+use Rattle.agreement.proofs.TableReferences.{few-rows, members-shape, while-shape, block-shape, member-shape, choice-shape, option-shape, Shaped, Holding, Fields, fields-are, leads-at}
 use Rattle.agreement.proofs.TableStarts.{is-process}
 use Rattle.agreement.proofs.TableFit.{rows-limit}
+use Rattle.base_layout.proofs.RowNodes.{nodeOf}
+use Rattle.base_layout.proofs.Parts.{higherContent}
 use Rattle.run_parents.specs.declared.shape.Mode as code
 use Rattle.run_parents.specs.declared.shape.Mode.the-variants.{InTurn, Together, ByStep}
 use Rattle.run_parents.specs.declared.shape.Shape.{Shape}
-use Rattle.run_parents.specs.declared.shape.Shape.the-variants.{Ending, Repeating, Link, Neither}
+use Rattle.run_parents.specs.declared.shape.Shape.the-variants.{Ending, Single, Link, Neither}
 use Rattle.run_parents.specs.Shapes.{higherRow, settlingShape, shapeAt}
 use Rattle.run_parents.specs.Members.{modeOf, onlyProcess}
 use Rattle.run_parents.proofs.Standing.{NeitherAt, Stands, stands}
 use Rattle.run_code.specs.declared.Row.{Row}
 use Rattle.run_code.specs.Prepared.{Prepared, presentRow, rowOfKind, placeAt, shapeTo, shapeIn}
 use Rattle.run_code.proofs.Entries.{what-at}
-use Rattle.run_code.proofs.RowKinds.{row-of-kind, kind-in, nothing-past}
+use Rattle.run_code.proofs.RowKinds.{kindFrom, row-of-kind, kind-in, nothing-past}
+use Rattle.run_code.proofs.Codes.{content-is}
 use Rattle.run_code.proofs.Referred.{present-here, present-past, present-inside, present-part, present-above}
-use Rattle.run_code.proofs.Shapes.{by-leaf, by-inner, by-link, by-while}
+use Rattle.run_code.proofs.Shapes.{by-leaf, by-inner, by-link, by-while, by-block}
 use Rattle.run_code.proofs.NoLinks.{listed-none}
 use Rattle.run_starting.specs.Parts.{IsLink, Links, IsProcess}
 
@@ -53,7 +57,7 @@ module _ (rows : List ℤ) where
   -- of a row's part in settling
   abbrev Refers : Shape → Type 0
   Refers (Ending m f) = Linked f
-  Refers (Repeating b) = IsProcess rows b
+  Refers (Single b) = IsProcess rows b
   Refers (Link p q) = IsProcess rows p × Linked q
   Refers Neither = Unit {0}
 
@@ -96,6 +100,7 @@ module _ (rows : List ℤ) where
     refers-node (If a) f = field-link 32 a 41 (members-shape 32 41) of-a (f .0) refl (inr (inl refl)) (f .1)
     refers-node (While a b) f = field-process 33 b while-shape of-b (f .0) refl (f .1)
     refers-node (Alt a) f = field-link 34 a 42 (members-shape 34 42) of-a (f .0) refl (inr (inr refl)) (f .1)
+    refers-node (Block a b) f = field-process 35 b block-shape of-b (f .0) refl (f .1)
     refers-node (Member a b) f = (field-process 40 a member-shape of-a (f .0) refl (f .1), field-link 40 b 40 member-shape of-b (f .0) refl (inl refl) (f .2))
     refers-node (Choice a b c) f = (field-process 41 a choice-shape of-a (f .0) refl (f .1), field-link 41 b 41 choice-shape of-b (f .0) refl (inr (inl refl)) (f .2))
     refers-node (OptionRow a b c) f = (field-process 42 a option-shape of-a (f .0) refl (f .1), field-link 42 b 42 option-shape of-b (f .0) refl (inr (inr refl)) (f .2))
@@ -128,12 +133,11 @@ module _ (rows : List ℤ) where
     pub higher : r < f
     pub inside : f ≤ 1024
 
-  -- a WHILE, with the body of row b
-  pub record RepeatingIn (r b : ℕ) : Type 0 where
-    pub test : Expr
-    pub named : ℕ
-    pub process-is : contentAt rows r .process ≡ some (node (loop test named) r (onlyProcess (contentAt rows b .process)))
-    pub body-is : IsProcess rows b
+  -- a WHILE or a block, with the process of row b as its only member
+  pub record SingleIn (r b : ℕ) : Type 0 where
+    pub action : Action
+    pub process-is : contentAt rows r .process ≡ some (node action r (onlyProcess (contentAt rows b .process)))
+    pub member-is : IsProcess rows b
     pub higher : r < b
     pub inside : b < 1024
 
@@ -149,7 +153,7 @@ module _ (rows : List ℤ) where
 
   abbrev pub StandsIn : ℕ → Shape → Type 0
   StandsIn r (Ending m f) = EndingIn r m f
-  StandsIn r (Repeating b) = RepeatingIn r b
+  StandsIn r (Single b) = SingleIn r b
   StandsIn r (Link p q) = LinkIn r p q
   StandsIn r Neither = NeitherAt rows r
 
@@ -171,14 +175,13 @@ module _ (rows : List ℤ) where
           higher = higher;
           inside = inside;
         }
-    by-shape r (Repeating b) h u =
+    by-shape r (Single b) h u =
         let l = process-in b u in
         let i = present-here rows b l in
         record {
-          test = h .test;
-          named = h .named;
-          process-is = h .process-is ∙ ap (λ (c : Content). some (node (loop (h .test) (h .named)) r (onlyProcess (c .process)))) (there b);
-          body-is = rw i u;
+          action = h .action;
+          process-is = h .process-is ∙ ap (λ (c : Content). some (node (h .action) r (onlyProcess (c .process)))) (there b);
+          member-is = rw i u;
           higher = present-between r b (h .fewer) .0;
           inside = rw i (omega arith);
         }
@@ -206,7 +209,7 @@ found-in {rows} P r e i = rw (sym i ∙ e) (by-shape rows (rows-limit rows (P .a
 
 abbrev pub LinksTo : List ℕ → Shape → Type 0
 LinksTo list (Ending m f) = Links list f
-LinksTo list (Repeating b) = Unit {0}
+LinksTo list (Single b) = Unit {0}
 LinksTo list (Link p q) = Links list q
 LinksTo list Neither = Unit {0}
 
@@ -226,7 +229,7 @@ module _ {rows : List ℤ} {list : List ℕ} (P : Prepared rows list) where
 
   links-by : (s : Shape) → Refers rows s → LinksTo list (shapeTo rows s)
   links-by (Ending m f) u = links-there f u
-  links-by (Repeating b) u = tt
+  links-by (Single b) u = tt
   links-by (Link p q) u = links-there q (u .1)
   links-by Neither u = tt
 
@@ -280,5 +283,29 @@ module _ {rows : List ℤ} {list : List ℕ} (P : Prepared rows list) where
     pub alt-shape : n ≡ 34 → {a : ℕ} → a ≡ placeAt list r 1 → Ending ByStep a ≡ shapeIn rows r
     alt-shape i a = by-inner P r h 34 (sym e ∙ i) (λ z. omega arith) ByStep a refl refl
 
-    pub while-shape-in : n ≡ 33 → {b : ℕ} → b ≡ placeAt list r 2 → Repeating b ≡ shapeIn rows r
+    pub while-shape-in : n ≡ 33 → {b : ℕ} → b ≡ placeAt list r 2 → Single b ≡ shapeIn rows r
     while-shape-in i b = by-while P r h (sym e ∙ i) b
+
+    pub block-shape-in : n ≡ 35 → {b : ℕ} → b ≡ placeAt list r 2 → Single b ≡ shapeIn rows r
+    block-shape-in i b = by-block P r h (sym e ∙ i) b
+
+    -- what the process of this row does
+    module _ {a : Action} {ms : Processes} (p : contentAt rows r .process ≡ some (node a r ms)) where
+      action-at : (k : ℕ) → n ≡ k → (kindFrom k ≡ 0 → ⊥)
+          → a ≡ actionOf (orStop (contentOf rows r (higherContent rows r) (nodeOf (kindFrom k) (fieldAt rows r 1) (naturalAt rows r 1) (naturalAt rows r 2) (naturalAt rows r 3)) .process))
+      action-at k i z = ap (λ (o : Option Process). actionOf (orStop o)) (sym p ∙ ap (λ (c : Content). c .process) (content-is P r h k (sym e ∙ i) z))
+
+      pub skip-action : n ≡ 21 → a ≡ skip
+      skip-action i = action-at 21 i (λ z. omega arith)
+
+      pub seq-action : n ≡ 30 → a ≡ sequence
+      seq-action i = action-at 30 i (λ z. omega arith)
+
+      pub par-action : n ≡ 31 → a ≡ parallel
+      par-action i = action-at 31 i (λ z. omega arith)
+
+      pub while-action : n ≡ 33 → a ≡ loop (higherContent rows r (naturalAt rows r 1) .expr) (naturalAt rows r 2)
+      while-action i = action-at 33 i (λ z. omega arith)
+
+      pub block-action : n ≡ 35 → a ≡ block (variableAt rows (naturalAt rows r 1))
+      block-action i = action-at 35 i (λ z. omega arith)

@@ -27,6 +27,7 @@ pub fn reset(code: &[u16; 6150], r: usize, states: &mut [u8; 1024])
         32 => reset_started(code, place(code, r, 1) as usize, states),
         33 => reset(code, place(code, r, 2) as usize, states),
         34 => reset_started(code, place(code, r, 1) as usize, states),
+        35 => reset(code, place(code, r, 2) as usize, states),
         _ => {}
     }
 }

@@ -10,6 +10,7 @@ ghost use Rattle.machine.specs.Counts.{stateSet, startBeneath, startMembers};
 ghost use Rattle.machine.specs.Lending.{lentKept, leftKept};
 ghost use Rattle.run_code.specs.Prepared.{Prepared};
 ghost use Rattle.run_starting.specs.Parts.{Links, startsIf};
+use crate::counts::begins;
 use crate::counts::comes;
 use crate::counts::remain;
 use run_code::place;
@@ -20,7 +21,7 @@ pub fn start_row(
     r: usize,
     states: &mut [u8; 1024],
     left: &mut [u16; 1024],
-    came: &mut [u16; 2049],
+    came: &mut [u16; 4098],
 )
     requires table { ⌜ ((rows : List ℤ) × Prepared rows (now code)) ⌝ }
     requires row { ⌜ r < 1024 ⌝ }
@@ -36,7 +37,7 @@ pub fn start_beneath(
     r: usize,
     states: &mut [u8; 1024],
     left: &mut [u16; 1024],
-    came: &mut [u16; 2049],
+    came: &mut [u16; 4098],
 )
     requires table { ⌜ ((rows : List ℤ) × Prepared rows (now code)) ⌝ }
     requires row { ⌜ r < 1024 ⌝ }
@@ -64,6 +65,14 @@ pub fn start_beneath(
             left,
             came,
         ),
+        35 => {
+            begins(came, r);
+            let p = place(code, r, 2) as usize;
+            start_row(code, p, states, left, came);
+            if states[p] == 2 {
+                remain(states, left, r, 0);
+            }
+        }
         _ => comes(came, r),
     }
 }
@@ -77,7 +86,7 @@ pub fn start_members(
     n: u16,
     states: &mut [u8; 1024],
     left: &mut [u16; 1024],
-    came: &mut [u16; 2049],
+    came: &mut [u16; 4098],
 )
     requires table { ⌜ ((rows : List ℤ) × Prepared rows (now code)) ⌝ }
     requires inside { ⌜ (m ≤ 1024) × (r < 1024) × (n ≤ m) ⌝ }
@@ -107,7 +116,7 @@ pub fn start_next(
     r: usize,
     states: &mut [u8; 1024],
     left: &mut [u16; 1024],
-    came: &mut [u16; 2049],
+    came: &mut [u16; 4098],
 )
     requires table { ⌜ ((rows : List ℤ) × Prepared rows (now code)) ⌝ }
     requires inside { ⌜ (m ≤ 1024) × (r < 1024) ⌝ }
@@ -128,7 +137,7 @@ pub fn start_if(
     n: u8,
     states: &mut [u8; 1024],
     left: &mut [u16; 1024],
-    came: &mut [u16; 2049],
+    came: &mut [u16; 4098],
 )
     requires table { ⌜ ((rows : List ℤ) × Prepared rows (now code)) ⌝ }
     requires row { ⌜ r < 1024 ⌝ }

@@ -19,6 +19,7 @@ use run_turns::Put;
 use run_turns::leave_step;
 use run_turns::note_all;
 use run_turns::put_host;
+use run_turns::unset_blocks;
 use run_turns::written_by;
 use run_values::store::fresh;
 
@@ -74,7 +75,7 @@ pub fn take_steps<'a>(
     let mut counts = [0u32; 8];
     let mut output_marks = [0u8; 1024];
     let mut left = [0u16; 1024];
-    let mut came = [0u16; 2049];
+    let mut came = [0u16; 4098];
     let mut acts = [0u16; 3072];
     let mut sent = [0i32; 1024];
     let mut elements = [0u16; 512];
@@ -155,6 +156,9 @@ pub fn take_steps<'a>(
             &mut left,
             &mut came,
         );
+        if came[2049] != 0 {
+            state = unset_blocks(code, &came, state);
+        }
         note_all(
             code,
             &state.values,

@@ -5,6 +5,7 @@ pub mod Going
 pub mod Underway
 pub mod NotedInTurn
 pub mod TurnLaws
+pub mod Unsetting
 pub mod Turning
 pub mod ChangedRows
 pub mod Round

@@ -27,9 +27,9 @@ use Rattle.agreement.specs.RowsOfSteps.{RowOf}
 use Rattle.agreement.proofs.Active.{Active}
 use Rattle.agreement.proofs.TableFit.{rows-limit}
 use Rattle.machine.specs.RowSteps.{stepAt}
-use Rattle.machine.specs.Held.{HoldsState, blank, KeptReadings}
+use Rattle.machine.specs.Held.{HoldsState, blank, KeptReadings, putUnset}
 use Rattle.machine.specs.Counts.{Kept, keptOf, Counted, startRow, changeUpCounted, endUpCounted, forgotten}
-use Rattle.machine.specs.Came.{listedRows}
+use Rattle.machine.specs.Came.{listedRows, listedBlocks, localAt}
 use Rattle.machine.proofs.CameRows.{WorkListed, start-gathers}
 use Rattle.machine.proofs.CameLists.{listed-at}
 use Rattle.machine.proofs.CountedSteps.{start-counted}
@@ -39,6 +39,7 @@ use Rattle.machine.proofs.StepEffects.{active-effect}
 use Rattle.run_ready_bits.specs.Bits.{Shown, noRows}
 use Rattle.run_ready_bits.proofs.Raises.{shown-total}
 use Rattle.run_ready_bits.proofs.Splits.{few-below}
+use Rattle.run_code.specs.Prepared.{Prepared, placeAt}
 use Rattle.run_kept.specs.Kept.{readyRow}
 use Rattle.run_kept.specs.Noting.{off}
 use Rattle.run_values.specs.declared.store.State as store
@@ -54,11 +55,12 @@ use Rattle.run_turns.specs.Results.{ResultReached, arraysOf}
 use Rattle.run_turns.specs.Ending.{isLast, outcomeWith}
 use Rattle.run_turns.specs.Showing.{shownFromPlace}
 use Rattle.run_turns.specs.Turns.{leaveStep, noteListed}
-use Rattle.run_turns.specs.Fits.{RowsBelow}
+use Rattle.run_turns.specs.Fits.{RowsBelow, BlocksBelow}
 use Rattle.run_turns.specs.Machine.{machineOf, HeldAt, Underway, Stands}
 use Rattle.run_turns.proofs.Choosing.{total-counts, row-below, row-chosen}
 use Rattle.run_turns.proofs.Underway.{underway-start, run-ends, some-ready, one-further}
-use Rattle.run_turns.proofs.Turning.{turned-held, turned-listed}
+use Rattle.run_turns.proofs.Turning.{turned-held, turned-listed, turned-begins}
+use Rattle.run_turns.proofs.Unsetting.{block-place}
 use Rattle.run_turns.proofs.ChangedRows.{changed-processes}
 use Rattle.run_turns.proofs.Round.{NotesRight, start-noted-all, turn-noted-all}
 
@@ -76,7 +78,7 @@ pub rows-listed : (rows : List ℤ) (ok : check rows ≡ none) (sheet : Sheet) (
 rows-listed rows ok sheet Those t came W =
     record {
       room = W .few;
-      below = λ i h. let k = W .below (getD came (suc i) 0) (listed-at i came h) in let e : i + 1 ≡ suc i = omega arith in subst (λ (q : ℕ). getD came q 0 < 1024) (sym e) (omega (arith, k, rows-limit rows ok));
+      below = λ i h. let k = W .below (getD came (suc (0 + i)) 0) (listed-at 0 i came h) in let e : suc (0 + i) ≡ i + 1 = omega arith in subst (λ (q : ℕ). getD came q 0 < 1024) e (omega (arith, k, rows-limit rows ok));
     }
 
 module _ (rows : List ℤ) (ok : check rows ≡ none) (sheet : Sheet) (readings : List ℤ) (given : List ℕ) (lines : ℕ) (K : KeptReadings rows sheet readings given lines) (few : lines ≤ 128) (N : NoteLaws rows sheet lines)
@@ -151,8 +153,20 @@ module _ (rows : List ℤ) (ok : check rows ≡ none) (sheet : Sheet) (readings 
           pub came-below : RowsBelow cames
           came-below = rows-listed rows ok sheet (λ r. RowOf x r ⊎ (isLive (program rows) sheet r s ≡ false)) (after (program rows) sheet x s) cames listed
 
+          -- the blocks that started are rows of blocks
+          pub blocks-below : (code : List ℕ) → Prepared rows code → BlocksBelow code cames
+          blocks-below code p =
+              let B = turned-begins rows ok sheet (S .under .labels) s (S .under .order) b left came (S .held) readings given lines K few (m .acts) (m .sent) (m .elements) T j picked-below x step-is c c-change states lefts cames up in
+              record {
+                room = B .number;
+                block = λ i h.
+                    let (v, (ms, u)) = B .blocks (getD cames (suc (2049 + i)) 0) (listed-at 2049 i cames h) in
+                    let e : suc (2049 + i) ≡ 2050 + i = omega arith in
+                    subst (λ (k : ℕ). (getD cames k 0 < 1024) × (placeAt code (getD cames k 0) 0 ≡ 35)) e (block-place rows ok code p v (getD cames (suc (2049 + i)) 0) ms u);
+              }
+
           -- after the turn
-          pub stands-further : (d : Buffers) → d ≡ withStates states (putData readings given (c .written) b) → (h : Lists) → h ≡ leaveStep rows (c .owner) (c .sender) m
+          pub stands-further : (d : Buffers) → d ≡ putUnset (localAt (program rows) (listedBlocks cames)) (withStates states (putData readings given (c .written) b)) → (h : Lists) → h ≡ leaveStep rows (c .owner) (c .sender) m
               → (k : Lists) → k ≡ noteListed rows (cellsIn (d .cells) (d .marks)) (d .places) (d .counts) lines (listedRows cames) h
               → (next : TraceLists) → next ≡ record { readyCounts = set (lists .readyCounts) n count; takenRows = set (lists .takenRows) n j }
               → Stands rows sheet choices budget first (n + 1) next (machineOf d lefts cames k)
@@ -177,15 +191,15 @@ module _ (rows : List ℤ) (ok : check rows ≡ none) (sheet : Sheet) (readings 
 
   -- at the start: the root has started on arrays of zeros, and the rows that came to work are noted
   module _ (r : ℕ) (root-is : r ≡ root rows) (states left came : List ℕ)
-      (up : keptOf states left came ≡ startRow (processAt (program rows) r) (keptOf (replicate 1024 0) (replicate 1024 0) (replicate 2049 0))) where
-    begun : keptOf states left came ≡ startRow (whole (program rows)) (keptOf (replicate 1024 0) (replicate 1024 0) (replicate 2049 0))
+      (up : keptOf states left came ≡ startRow (processAt (program rows) r) (keptOf (replicate 1024 0) (replicate 1024 0) (replicate 4098 0))) where
+    begun : keptOf states left came ≡ startRow (whole (program rows)) (keptOf (replicate 1024 0) (replicate 1024 0) (replicate 4098 0))
     unfolding whole program
-    begun = up ∙ ap (λ (k : ℕ). startRow (processAt (program rows) k) (keptOf (replicate 1024 0) (replicate 1024 0) (replicate 2049 0))) root-is
+    begun = up ∙ ap (λ (k : ℕ). startRow (processAt (program rows) k) (keptOf (replicate 1024 0) (replicate 1024 0) (replicate 4098 0))) root-is
 
     started : WorkListed rows ok sheet (λ q. Unit {0}) (start (program rows)) came
     started =
         subst (λ (k : Kept). WorkListed rows ok sheet (λ q. Unit {0}) (start (program rows)) (k .came)) (sym begun)
-        (start-gathers rows ok sheet (replicate 1024 0) (replicate 2049 0) (omega (arith, length-replicate {A = ℕ} 1024 0)) refl (omega (arith, length-replicate {A = ℕ} 2049 0)))
+        (start-gathers rows ok sheet (replicate 1024 0) (replicate 4098 0) (omega (arith, length-replicate {A = ℕ} 1024 0)) refl refl (omega (arith, length-replicate {A = ℕ} 4098 0)))
 
     pub began-below : RowsBelow came
     began-below = rows-listed rows ok sheet (λ q. Unit {0}) (start (program rows)) came started
@@ -195,7 +209,7 @@ module _ (rows : List ℤ) (ok : check rows ≡ none) (sheet : Sheet) (readings 
         → Stands rows sheet choices budget first 0 first (machineOf d left came k)
     unfolding blank
     stands-start d d-is k k-is =
-        let Z = start-counted rows ok 1024 (rows-limit rows ok) (replicate 1024 0) (replicate 2049 0) (omega (arith, length-replicate {A = ℕ} 1024 0)) in
+        let Z = start-counted rows ok 1024 (rows-limit rows ok) (replicate 1024 0) (replicate 4098 0) (omega (arith, length-replicate {A = ℕ} 1024 0)) in
         let h : HoldsState rows (start (program rows)) d =
         d-is ∙ ap (λ (t : List ℕ). record { cells = replicate 256 (pos 0); marks = replicate 256 0; states = t; places = replicate 8 0; numbers = replicate 1024 (pos 0); counts = replicate 8 0; outputMarks = replicate 1024 0 }) (ap (λ (q : Kept). q .states) begun ∙ Z .states-are)
         ∙ start-held rows ok in

@@ -1,6 +1,6 @@
 -- A turn of a run, in records that grow with it: what the run is given, how it begins, where it stands, how many steps are ready, the row that it picks, the step's change, and the row states after it.
 -- What the laws of `Stands` say of them.
-use mathlib.Core.Path.{_≡_, sym, ap₂, _∙_}
+use mathlib.Core.Path.{_≡_, sym, ap, ap₂, _∙_}
 use mathlib.Core.Bool.{Bool, true, false}
 use mathlib.Core.Option.{none}
 use mathlib.Core.List.{List}
@@ -21,11 +21,12 @@ use Rattle.meaning.specs.Trace.{TraceLists, trace}
 use Rattle.meaning.specs.Buffers.{Buffers}
 use Rattle.meaning.specs.Answers.{check}
 use Rattle.agreement.proofs.TableFit.{rows-limit}
-use Rattle.machine.specs.Held.{KeptReadings}
+use Rattle.machine.specs.Held.{KeptReadings, putUnset}
 use Rattle.machine.specs.Counts.{keptOf, startRow, changeUpCounted, endUpCounted, forgotten}
-use Rattle.machine.specs.Came.{listedRows}
+use Rattle.machine.specs.Came.{listedRows, listedBlocks, localAt}
 use Rattle.machine.proofs.HeldLaws.{states-long}
 use Rattle.run_ready_bits.specs.Bits.{Shown, noRows}
+use Rattle.run_code.specs.Prepared.{Prepared}
 use Rattle.run_values.specs.declared.store.State as store
 use Rattle.run_values.specs.Cells.{cellsIn, unsetState}
 use Rattle.run_notes.specs.Notes.{Lists, listsOf}
@@ -36,11 +37,12 @@ use Rattle.run_turns.specs.declared.Put.{Put}
 use Rattle.run_turns.specs.Results.{ResultReached, arraysOf}
 use Rattle.run_turns.specs.Ending.{isLast, outcomeWith}
 use Rattle.run_turns.specs.Showing.{shownFromPlace, listsLent}
-use Rattle.run_turns.specs.Turns.{leaveStep, noteListed, written, withPut, Host, hostOf, hostPut}
-use Rattle.run_turns.specs.Fits.{RowsBelow, HostFits, ReadingFits}
+use Rattle.run_turns.specs.Turns.{leaveStep, noteListed, written, withPut, blocksUnset, Host, hostOf, hostPut}
+use Rattle.run_turns.specs.Fits.{RowsBelow, BlocksBelow, HostFits, ReadingFits}
 use Rattle.run_turns.specs.Machine.{machineOf, Stands}
 use Rattle.run_turns.proofs.Ending.{not-last}
 use Rattle.run_turns.proofs.TurnLaws as changes
+use Rattle.run_turns.proofs.Unsetting.{arrays-unset}
 use Rattle.run_turns.proofs.Stands as stands
 use Rattle.run_turns.proofs.Stands.{NoteLaws}
 use Rattle.run_turns.proofs.Laws.{note-laws}
@@ -67,7 +69,7 @@ pub record Begun : Type 0 where
   pub left : List ℕ
   pub came : List ℕ
   pub root-is : row ≡ root (setting .rows)
-  pub up : keptOf states left came ≡ startRow (processAt (program (setting .rows)) row) (keptOf (replicate 1024 0) (replicate 1024 0) (replicate 2049 0))
+  pub up : keptOf states left came ≡ startRow (processAt (program (setting .rows)) row) (keptOf (replicate 1024 0) (replicate 1024 0) (replicate 4098 0))
 
 -- a run stands after n steps
 pub record Standing : Type 0 where
@@ -226,14 +228,24 @@ came-below y =
     let g = t .setting in
     stands.came-below _ (g .accepted) _ _ _ _ (g .kept) (g .few) (laws g) _ _ _ _ _ _ _ _ _ (t .stands) _ (k .count-is) (more p .0) (more p .1) _ _ (p .choice-is) (p .row-is) (x .change) (x .change-is) _ _ _ (y .up)
 
--- after the turn: the host and a cell have what the change puts there, the rows of the step are left, and those that came to work are noted
+-- the blocks that started are rows of blocks
+pub blocks-below : (y : Settling) (code : List ℕ) → Prepared (y .changing .picking .counting .standing .setting .rows) code → BlocksBelow code (y .came)
+blocks-below y =
+    let x = y .changing in
+    let p = x .picking in
+    let k = p .counting in
+    let t = k .standing in
+    let g = t .setting in
+    stands.blocks-below _ (g .accepted) _ _ _ _ (g .kept) (g .few) (laws g) _ _ _ _ _ _ _ _ _ (t .stands) _ (k .count-is) (more p .0) (more p .1) _ _ (p .choice-is) (p .row-is) (x .change) (x .change-is) _ _ _ (y .up)
+
+-- after the turn: the host and a cell have what the change puts there, the cells of the blocks that started are unset, the rows of the step are left, and those that came to work are noted
 pub stands-further : (y : Settling) → let x = y .changing in let p = x .picking in let t = p .counting .standing in let g = t .setting in let b = t .arrays in
     (h : Host) → h ≡ hostPut (x .change .written) (hostOf (b .places) (b .numbers) (b .counts) (b .outputMarks)) → (w : Put) → w ≡ written (g .readings) (g .given) (b .places) (x .change .written)
-    → (s : store.State) → s ≡ withPut w (record { values = b .cells; marks = b .marks; places = h .places }) → (l : Lists) → l ≡ leaveStep (g .rows) (x .change .owner) (x .change .sender) (t .notes)
-    → (m : Lists) → m ≡ noteListed (g .rows) (cellsIn (s .values) (s .marks)) (s .places) (h .counts) (g .lines) (listedRows (y .came)) l
+    → (s : store.State) → s ≡ withPut w (record { values = b .cells; marks = b .marks; places = h .places }) → (z : store.State) → z ≡ blocksUnset (g .rows) (listedBlocks (y .came)) s → (l : Lists) → l ≡ leaveStep (g .rows) (x .change .owner) (x .change .sender) (t .notes)
+    → (m : Lists) → m ≡ noteListed (g .rows) (cellsIn (z .values) (z .marks)) (z .places) (h .counts) (g .lines) (listedRows (y .came)) l
     → (readied taken : List ℕ) → readied ≡ set (t .lists .readyCounts) (t .n) (p .counting .count) → taken ≡ set (t .lists .takenRows) (t .n) (p .row)
-    → Stands (g .rows) (g .sheet) (g .choices) (g .budget) (g .first) (t .n + 1) (listsLent readied taken) (machineOf (arraysOf s (y .states) (h .numbers) (h .counts) (h .outputMarks)) (y .left) (y .came) m)
-stands-further y h host-is w w-is s s-is l left-is m m-is readied taken readied-is taken-is =
+    → Stands (g .rows) (g .sheet) (g .choices) (g .budget) (g .first) (t .n + 1) (listsLent readied taken) (machineOf (arraysOf z (y .states) (h .numbers) (h .counts) (h .outputMarks)) (y .left) (y .came) m)
+stands-further y h host-is w w-is s s-is z z-is l left-is m m-is readied taken readied-is taken-is =
     let x = y .changing in
     let p = x .picking in
     let k = p .counting in
@@ -241,5 +253,6 @@ stands-further y h host-is w w-is s s-is l left-is m m-is readied taken readied-
     let g = t .setting in
     let b = t .arrays in
     stands.stands-further _ (g .accepted) _ _ _ _ (g .kept) (g .few) (laws g) _ _ _ _ _ _ _ _ _ (t .stands) _ (k .count-is) (more p .0) (more p .1) _ _ (p .choice-is) (p .row-is) (x .change) (x .change-is) _ _ _ (y .up)
-    _ (changes.turned-arrays (g .readings) (g .given) (record { values = b .cells; marks = b .marks; places = b .places }) (b .states) (b .numbers) (b .counts) (b .outputMarks) (y .states) (x .change .written) h host-is w w-is s s-is)
+    _ (ap (λ (v : store.State). arraysOf v (y .states) (h .numbers) (h .counts) (h .outputMarks)) z-is
+    ∙ arrays-unset (y .states) (h .numbers) (h .counts) (h .outputMarks) (localAt (program (g .rows)) (listedBlocks (y .came))) s ∙ ap (putUnset (localAt (program (g .rows)) (listedBlocks (y .came)))) (changes.turned-arrays (g .readings) (g .given) (record { values = b .cells; marks = b .marks; places = b .places }) (b .states) (b .numbers) (b .counts) (b .outputMarks) (y .states) (x .change .written) h host-is w w-is s s-is))
     l left-is m m-is _ (ap₂ listsLent readied-is taken-is)

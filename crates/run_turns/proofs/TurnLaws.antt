@@ -49,9 +49,12 @@ module _ (rows : List ℤ) (cells : List Message) (places counts : List ℕ) (li
   last-noted (q ∷ l) r m = last-noted l r (noteOne q m)
 
   -- one more row of the list is noted
-  pub one-more-noted : (came : List ℕ) (i : ℕ) (m : Lists) {l k : Lists} → l ≡ noteListed rows cells places counts lines (firstRows i came) m → k ≡ noteOne (getD came (i + 1) 0) l
-      → k ≡ noteListed rows cells places counts lines (firstRows (i + 1) came) m
-  one-more-noted came i m e f = rw (f, e, add-one i) (sym (last-noted (firstRows i came) (getD came (suc i) 0) m))
+  pub one-more-noted : (came : List ℕ) (i : ℕ) (m : Lists) {l k : Lists} → l ≡ noteListed rows cells places counts lines (firstRows 0 i came) m → k ≡ noteOne (getD came (i + 1) 0) l
+      → k ≡ noteListed rows cells places counts lines (firstRows 0 (i + 1) came) m
+  one-more-noted came i m e f =
+      let z : 0 + i ≡ i = omega arith in
+      rw (f, e, add-one i)
+      (sym (last-noted (firstRows 0 i came) (getD came (suc i) 0) m) ∙ ap (λ (k : ℕ). noteListed rows cells places counts lines (firstRows 0 i came ++ getD came (suc k) 0 ∷ []) m) (sym z))
 
 -- where a change of data is within the arrays, so it is at the host
 module _ (readings : List ℤ) (given : List ℕ) where

@@ -28,11 +28,11 @@ pub record Machine : Type 0 where
 abbrev pub machineOf : Buffers → List ℕ → List ℕ → Lists → Machine
 machineOf b l c m = record { arrays = b; left = l; came = c; notes = m }
 
--- the arrays hold state s, the counts of members left are right, and there is room for the rows that come to work
+-- the arrays hold state s, the counts of members left are right, and there is room for the rows that come to work and the blocks that start
 pub record HeldAt (rows : List ℤ) (s : State) (b : Buffers) (left came : List ℕ) : Type 0 where
   pub holds : HoldsState rows s b
   pub left-size : 1024 ≤ length left
-  pub came-size : 2049 ≤ length came
+  pub came-size : 4098 ≤ length came
   pub counted : Counted (whole (program rows)) (keptOf (b .states) left came)
 
 -- a run under way: after n steps it goes on from state s of an order, and the two lists of a traced run hold what the steps so far showed

@@ -1,4 +1,5 @@
--- What a turn of the run does to what the machine holds: the notes of the step's rows are taken off, the data changes, and the rows that came to work are noted.
+-- What a turn of the run does to what the machine holds: the notes of the step's rows are taken off, the data changes, the cells of the blocks that start become unset,
+-- and the rows that came to work are noted.
 use mathlib.Core.Option.{none, some}
 use mathlib.Core.List.{List, [], _∷_}
 use Prim.Native.Nat.{ℕ, zero, suc, _+_, _*_}
@@ -7,10 +8,13 @@ use lib.ListN.{getD, set}
 use lib.Dec.{eqb}
 use denote.Ref.{now}
 use Rattle.meaning.specs.Basics.{ifElse}
+use Rattle.meaning.specs.Declarations.{Variable}
+use Rattle.meaning.specs.State.{program}
 use Rattle.meaning.specs.Values.{Message}
 use Rattle.machine.specs.Lending.{Lent}
+use Rattle.machine.specs.Came.{localAt}
 use Rattle.run_values.specs.declared.store.State.{State}
-use Rattle.run_values.specs.Cells.{withCell}
+use Rattle.run_values.specs.Cells.{withCell, withUnset}
 use Rattle.run_notes.specs.Notes.{Lists, leaveRow}
 use Rattle.run_noting.specs.Noting.{rowNoted}
 use Rattle.run_changes.specs.declared.Data.{Data}
@@ -44,6 +48,15 @@ abbrev pub withPut : Put → State → State
 withPut Nowhere s = s
 withPut (Set a x) s = withCell s a (some x)
 withPut (Unset a) s = withCell s a none
+
+-- the state with all cells of variables unset
+abbrev pub variablesUnset : List Variable → State → State
+variablesUnset [] s = s
+variablesUnset (v ∷ vs) s = variablesUnset vs (withUnset (v .first) (v .size) s)
+
+-- of blocks, by their rows
+abbrev pub blocksUnset : List ℤ → List ℕ → State → State
+blocksUnset rows rs s = variablesUnset (localAt (program rows) rs) s
 
 -- what the host has given and been given: places in the readings, the strips' numbers, their counts, the numbers' marks
 pub record Host : Type 0 where

@@ -4,15 +4,17 @@ ghost use mathlib.Core.List.{List};
 ghost use Prim.Native.Nat.{_<_, _≤_};
 ghost use lib.IntN.{ℤ};
 ghost use Rattle.run_values.specs.Cells.{lentCells};
-ghost use Rattle.machine.specs.Came.{listedRows};
+ghost use Rattle.machine.specs.Came.{listedRows, listedBlocks};
 ghost use Rattle.run_code.specs.Prepared.{Prepared};
 ghost use Rattle.run_notes.specs.Notes.{lentNotes, leftNotes};
-ghost use Rattle.run_turns.specs.Turns.{leaveStep, noteListed, written, lentHost, leftHost, hostPut};
-ghost use Rattle.run_turns.specs.Fits.{RowsBelow, HostFits, ReadingFits};
+ghost use Rattle.run_turns.specs.Turns.{leaveStep, noteListed, written, blocksUnset, lentHost, leftHost, hostPut};
+ghost use Rattle.run_turns.specs.Fits.{RowsBelow, BlocksBelow, HostFits, ReadingFits};
 use run_changes::Data;
 use run_changes::put_output;
+use run_code::place;
 use run_notes::leave;
 use run_noting::note_row;
+use run_values::store::State;
 
 // What goes into a cell: nothing; a number; none, which makes it unset.
 pub enum Put {
@@ -41,6 +43,22 @@ pub fn leave_step(
     }
 }
 
+// The state with all cells of the blocks that started unset.
+pub fn unset_blocks(code: &[u16; 6150], came: &[u16; 4098], mut state: State) -> State
+    requires table { ⌜ ((rows : List ℤ) × Prepared rows (now code)) ⌝ }
+    requires listed { ⌜ BlocksBelow (now code) (now came) ⌝ }
+    ensures { λ s. ⌜ ((rows : List ℤ) → Prepared rows (now (code .entry)) → s ≡ blocksUnset rows (listedBlocks (now (came .entry))) state) ⌝ }
+{
+    let n = came[2049] as usize;
+    let mut i: usize = 0;
+    while i < n {
+        let v = place(code, came[2050 + i] as usize, 1) as usize;
+        state = state.unset_range(place(code, v, 1) as usize, place(code, v, 2) as usize);
+        i += 1;
+    }
+    state
+}
+
 // The rows that came to work are noted.
 pub fn note_all<'a>(
     code: &'a [u16; 6150],
@@ -49,7 +67,7 @@ pub fn note_all<'a>(
     places: &'a [u32; 8],
     counts: &'a [u32; 8],
     lines: usize,
-    came: &'a [u16; 2049],
+    came: &'a [u16; 4098],
     acts: &mut [u16; 3072],
     sent: &mut [i32; 1024],
     elements: &mut [u16; 512],

@@ -2,7 +2,8 @@
 use mathlib.Core.Path.{_≡_, refl, sym, ap, ap₂, _∙_}
 use mathlib.Core.Option.{none, some}
 use mathlib.Core.List.{List, [], _∷_}
-use Prim.Native.Nat.{ℕ, zero, suc, _<_, _≤_}
+use Prim.Native.Nat.{ℕ, zero, suc, _+_, _<_, _≤_}
+use native.Mathlib.Omega.{arith}
 use lib.IntN.{ℤ}
 use lib.ListN.{length, getD, set}
 use lib.Seq.{set-out}
@@ -16,7 +17,7 @@ use Rattle.meaning.specs.Tree.{Expr, literal, element, monadic, given, dyadic, 
 use Rattle.meaning.specs.Basics.{isSome}
 use Rattle.meaning.specs.Values.{Message, truth, monadicOf, whenNumber, dyadicOf, inArray, cellValue, readCell, givenValue, value, index, gives, cellSent, valueSent, passed}
 use Rattle.run_values.specs.declared.store.State.{State}
-use Rattle.run_values.specs.Cells.{stateCells, withCell}
+use Rattle.run_values.specs.Cells.{stateCells, withCell, withUnset}
 
 -- a change of number i and mark i changes cell i alone
 pub decoded-set : (xs : List ℤ) (ms : List ℕ) (i : ℕ) (x : ℤ) (m : ℕ) → decoded (set xs i x) (set ms i m) ≡ set (decoded xs ms) i (cellOf x m)
@@ -37,6 +38,16 @@ cells-with s i c = decoded-held (s .values) (s .marks) i c
 -- past the last cell nothing changes
 pub unchanged-past : (s : State) (i : ℕ) (c : Message) → length (s .values) ≤ i → length (s .marks) ≤ i → s ≡ withCell s i c
 unchanged-past s i c h k = rw (set-out (s .values) i (numberIn c) h, set-out (s .marks) i (mark c) k)
+
+-- one cell more becomes unset
+pub unset-next : (a n : ℕ) (s : State) → withUnset a (suc n) s ≡ withCell (withUnset a n s) (a + n) none
+unset-next a zero s = let e : a + 0 ≡ a = omega arith in ap (λ (i : ℕ). withCell s i none) (sym e)
+unset-next a (suc n) s =
+    let e : suc a + n ≡ a + suc n = omega arith in
+    unset-next (suc a) n (withCell s a none) ∙ ap (λ (i : ℕ). withCell (withUnset (suc a) n (withCell s a none)) i none) e
+
+pub unset-more : (a n : ℕ) (s : State) {t : State} → t ≡ withUnset a n s → withCell t (a + n) none ≡ withUnset a (n + 1) s
+unset-more a n s e = let q : n + 1 ≡ suc n = omega arith in ap (λ (u : State). withCell u (a + n) none) e ∙ sym (unset-next a n s) ∙ ap (λ (i : ℕ). withUnset a i s) (sym q)
 
 -- a cell that gives a number is set to it, and one that gives none is unset
 abbrev numberOf : Value → Message

@@ -9,7 +9,7 @@ use lib.IntN.{ℤ}
 use lib.Dec.{eqb}
 use borrow.Author.Tests.{eqb-true}
 use Rattle.meaning.specs.declared.Node.{Node}
-use Rattle.meaning.specs.declared.Node.the-variants.{Literal, Element, Monadic, Dyadic, Stop, Skip, Assignment, Input, Output, Seq, Par, If, While, Alt, Member, Choice, OptionRow, Guard, Other}
+use Rattle.meaning.specs.declared.Node.the-variants.{Literal, Element, Monadic, Dyadic, Stop, Skip, Assignment, Input, Output, Seq, Par, If, While, Alt, Block, Member, Choice, OptionRow, Guard, Other}
 use Rattle.meaning.specs.declared.Value.the-variants.{Missing}
 use Rattle.meaning.specs.declared.Index.the-variants.{Fails}
 use Rattle.meaning.specs.Basics.{ifElse}
@@ -43,6 +43,7 @@ Kind k (Par a) = Unit {0}
 Kind k (If a) = Unit {0}
 Kind k (While a b) = Unit {0}
 Kind k (Alt a) = Unit {0}
+Kind k (Block a b) = Unit {0}
 Kind k (Member a b) = Unit {0}
 Kind k (Choice a b c) = Unit {0}
 Kind k (OptionRow a b c) = Unit {0}
@@ -67,11 +68,12 @@ kind-of rows r =
     (if-else (Kind k) (eqb k 32) (λ e. tt)
     (if-else (Kind k) (eqb k 33) (λ e. tt)
     (if-else (Kind k) (eqb k 34) (λ e. tt)
+    (if-else (Kind k) (eqb k 35) (λ e. tt)
     (if-else (Kind k) (eqb k 40) (λ e. tt)
     (if-else (Kind k) (eqb k 41) (λ e. tt)
     (if-else (Kind k) (eqb k 42) (λ e. tt)
     (if-else (Kind k) (eqb k 43) (λ e. tt)
-    tt)))))))))))))))))
+    tt))))))))))))))))))
 
 -- a monadic operation passes its value
 value-passed : (cells : List Message) (op : ℕ) (c : Content) → valueSent (value cells (operation op c)) ≡ passed cells (operation op c)
@@ -129,6 +131,7 @@ module _ {rows : List ℤ} {code : List ℕ} (p : Prepared rows code) (r : ℕ) 
     by-node (If a) e = record { no-value = λ a b c d f g. refl; no-cell = λ b c d. refl; no-passing = λ b c d. refl; no-assignment = λ x y z. refl }
     by-node (While a b) e = record { no-value = λ a b c d f g. refl; no-cell = λ b c d. refl; no-passing = λ b c d. refl; no-assignment = λ x y z. refl }
     by-node (Alt a) e = record { no-value = λ a b c d f g. refl; no-cell = λ b c d. refl; no-passing = λ b c d. refl; no-assignment = λ x y z. refl }
+    by-node (Block a b) e = record { no-value = λ a b c d f g. refl; no-cell = λ b c d. refl; no-passing = λ b c d. refl; no-assignment = λ x y z. refl }
     by-node (Member a b) e = record { no-value = λ a b c d f g. refl; no-cell = λ b c d. refl; no-passing = λ b c d. refl; no-assignment = λ x y z. refl }
     by-node (Choice a b c) e = record { no-value = λ a b c d f g. refl; no-cell = λ b c d. refl; no-passing = λ b c d. refl; no-assignment = λ x y z. refl }
     by-node (OptionRow a b c) e = record { no-value = λ a b c d f g. refl; no-cell = λ b c d. refl; no-passing = λ b c d. refl; no-assignment = λ x y z. refl }

@@ -1,4 +1,5 @@
 -- The cells that the machine's arrays hold, and the run's state as it holds them: a state with one cell changed.
+use mathlib.Core.Option.{none}
 use mathlib.Core.List.{List, [], _∷_}
 use Prim.Native.Nat.{ℕ, zero, suc}
 use lib.IntN.{ℤ, pos}
@@ -33,3 +34,8 @@ unsetState = record { values = replicate 256 (pos 0); marks = replicate 256 0; p
 -- a state with cell i changed to c, as the lent buffers hold it; past the last cell nothing changes
 abbrev pub withCell : State → ℕ → Message → State
 withCell s i c = record { values = set (s .values) i (numberIn c); marks = set (s .marks) i (mark c); places = s .places }
+
+-- a state with n cells from a on unset
+abbrev pub withUnset : ℕ → ℕ → State → State
+withUnset a zero s = s
+withUnset a (suc n) s = withUnset (suc a) n (withCell s a none)

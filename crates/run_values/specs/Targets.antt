@@ -5,7 +5,7 @@ use lib.Dec.{eqb}
 use Rattle.meaning.specs.declared.Index.{Index}
 use Rattle.meaning.specs.declared.Index.the-variants.{At, Fails}
 use Rattle.meaning.specs.Basics.{ifElse}
-use Rattle.meaning.specs.Tree.{Target, Action, stop, skip, sequence, parallel, assign, input, output, conditional, loop, alternation}
+use Rattle.meaning.specs.Tree.{Target, Action, stop, skip, sequence, parallel, assign, input, output, conditional, loop, alternation, block}
 use Rattle.meaning.specs.Values.{Message, index}
 use Rattle.run_code.specs.Prepared.{placeAt}
 
@@ -25,6 +25,7 @@ assignedIndex cells (output c e f) = Fails 2
 assignedIndex cells (conditional l) = Fails 2
 assignedIndex cells (loop e b) = Fails 2
 assignedIndex cells (alternation l) = Fails 2
+assignedIndex cells (block v) = Fails 2
 
 -- the cell of an element of the prepared list whose subscript is a literal: 2 a cell, 3 a subscript outside its array; reason 0 where row r is neither
 abbrev pub fixedCellBy : List ℕ → ℕ → ℕ → Index

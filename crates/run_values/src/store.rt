@@ -2,7 +2,8 @@
 ghost use mathlib.Core.Path.{_≡_};
 ghost use mathlib.Core.Option.{none, some};
 ghost use lib.ListN as lists;
-ghost use Rattle.run_values.specs.Cells.{stateCells, withCell, unsetState};
+ghost use Prim.Native.Nat.{_+_, _≤_};
+ghost use Rattle.run_values.specs.Cells.{stateCells, withCell, withUnset, unsetState};
 
 // An unset cell has mark 0 and holds 0; a set one has mark 1. The place of a channel from the host is how many readings it has given.
 pub struct State {
@@ -47,6 +48,20 @@ impl State {
         if 256 > i {
             self.values[i] = 0;
             self.marks[i] = 0;
+        }
+        self
+    }
+
+    // The state with n cells from a on unset.
+    pub fn unset_range(mut self, a: usize, n: usize) -> State
+        requires { ⌜ a + n ≤ 256 ⌝ }
+        ensures { λ s. ⌜ s ≡ withUnset a n self ⌝ }
+    {
+        let mut i: usize = 0;
+        while i < n {
+            self.values[a + i] = 0;
+            self.marks[a + i] = 0;
+            i += 1;
         }
         self
     }

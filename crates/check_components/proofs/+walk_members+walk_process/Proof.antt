@@ -1,5 +1,5 @@
 -- The walk over processes and the walk over member lists, each of which calls the other, meet their contracts. The measure of both is the rows left to the table's end.
-use mathlib.Core.Path.{sym, _∙_}
+use mathlib.Core.Path.{sym, _∙_, subst}
 use Prim.Native.Nat.{_/_, _-_, ℕ, _<_}
 use native.Mathlib.Omega.{arith}
 use lib.ListN.{length}
@@ -11,7 +11,7 @@ use Rattle.base_layout.proofs.nodes.natural.Reads as natural-reads
 use Rattle.base_layout.proofs.nodes.operand.Reads as operand-reads
 use Rattle.base_sets.proofs.SetLaws.{no-call, one-call, two-calls}
 use Rattle.check_components.proofs.Links.{link-below, link-marks, no-link-marks}
-use Rattle.check_components.proofs.ProcessMarks.{past-process, all-of-seq, all-of-par, all-of-if, all-of-while, all-of-alt, all-alone}
+use Rattle.check_components.proofs.ProcessMarks.{Single, past-process, all-of-seq, all-of-par, all-of-if, all-of-single, all-of-alt, all-alone}
 use Rattle.check_components.proofs.+walk_members+walk_process.{statement}
 use Rattle.check_components.proofs.walk_members.Reads as walk-members
 use Rattle.check_components.proofs.walk_members.Kinds as walk-members-kinds
@@ -176,7 +176,7 @@ walk-process-same-length-4 t c = search needs
 walk-process-returns-5 : (t : ℕ) → walk-process-lts.Need-returns-5 (walk-process-claims t) (walk-process-at t) walk-process.Post
 walk-process-returns-5 t c =
     let s = c .before .before .before .before .before .before .before .before .before .before .before .before .before .before in
-    two-calls _ _ _ (c .before .before .before .before .before .before .before .before .before .action .ensures) (c .before .before .walk-process .ensures) (all-of-while (s .args .rows .now) (s .args .r) (c .before .before .before .before .before .before .before .before .before .before .before .if1 .left) (sym (c .before .before .before .before .before .before .natural .ensures) ∙ c .before .before .before .before .before .match .keys4) (c .before .before .before .before .operand4 .ensures))
+    two-calls _ _ _ (c .before .before .before .before .before .before .before .before .before .action .ensures) (c .before .before .walk-process .ensures) (all-of-single (s .args .rows .now) (s .args .r) (c .before .before .before .before .before .before .before .before .before .before .before .if1 .left) (subst Single (c .before .before .before .before .before .before .natural .ensures) (c .before .before .before .before .before .match .keys4)) (c .before .before .before .before .operand4 .ensures))
 
 walk-process-same-length-5 : (t : ℕ) → walk-process-lts.Need-same-length-5 (walk-process-claims t) (walk-process-at t) walk-process.Post
 walk-process-same-length-5 t c = search needs
@@ -192,7 +192,7 @@ walk-process-same-length-6 t c = search needs
 walk-process-returns-7 : (t : ℕ) → walk-process-lts.Need-returns-7 (walk-process-claims t) (walk-process-at t) walk-process.Post
 walk-process-returns-7 t c =
     let s = c .before .before .before .before .before .before .before .before .before in
-    one-call _ _ (c .before .before .before .before .action .ensures) (all-alone (s .args .rows .now) (s .args .r) (c .before .before .before .before .before .before .if1 .left) (λ q. c .match .rest .0 .0 .0 .0 .1 (c .before .natural .ensures ∙ q)) (λ q. c .match .rest .0 .0 .0 .1 (c .before .natural .ensures ∙ q)) (λ q. c .match .rest .0 .0 .1 (c .before .natural .ensures ∙ q)) (λ q. c .match .rest .0 .1 (c .before .natural .ensures ∙ q)) (λ q. c .match .rest .1 (c .before .natural .ensures ∙ q)))
+    one-call _ _ (c .before .before .before .before .action .ensures) (all-alone (s .args .rows .now) (s .args .r) (c .before .before .before .before .before .before .if1 .left) (λ q. c .match .rest .0 .0 .0 .0 .1 (c .before .natural .ensures ∙ q)) (λ q. c .match .rest .0 .0 .0 .1 (c .before .natural .ensures ∙ q)) (λ q. c .match .rest .0 .0 .1 (c .before .natural .ensures ∙ q)) (λ q. c .match .rest .0 .1 (subst Single (sym (c .before .natural .ensures)) q)) (λ q. c .match .rest .1 (c .before .natural .ensures ∙ q)))
 
 pub +walk-members+walk-process-spec : {M : Type 1} → statement M
 +walk-members+walk-process-spec = close μ-walk-members μ-walk-process (λ t. walk-members-lts.spec (walk-members-claims t) (walk-members-at t) walk-members.Post

@@ -14,8 +14,9 @@ use Rattle.agreement.proofs.TableFit.{rows-limit}
 use Rattle.run_code.specs.declared.Row.{Row}
 use Rattle.run_code.specs.Prepared.{variableRow, subscriptedRow, numbersOf, placeAt}
 use Rattle.run_code.proofs.Names.{variable-row}
+use Rattle.run_code.proofs.Inside.{variable-within}
 use Rattle.run_preparing.proofs.Filling.{filled-at}
-use Rattle.run_preparing.proofs.RowLaws.{variable-small, fixed-element, other-element}
+use Rattle.run_preparing.proofs.RowLaws.{fixed-element, other-element}
 use Rattle.run_preparing.proofs.element_row.Statement.{statement}
 use Rattle.run_preparing.proofs.element_row.Tie as tie
 
@@ -70,7 +71,7 @@ fixed-requires : tie.Need-fixed-requires
 fixed-requires c κs =
     let s = c .before .before .before .before .before .before .before in
     let n = c .before .before .before .before .before .before in
-    omega (arith, c .before .before .place .ensures ∙ there n 1 (omega arith), c .before .place2 .ensures ∙ there n 2 (omega arith), variable-small (s .args .rows .now) (s .pre .0) (naturalAt (s .args .rows .now) (s .args .r) 1) (s .pre .1 .1 .0) (s .pre .1 .1 .1))
+    omega (arith, c .before .before .place .ensures ∙ there n 1 (omega arith), c .before .place2 .ensures ∙ there n 2 (omega arith), variable-within (s .args .rows .now) (s .pre .0) (naturalAt (s .args .rows .now) (s .args .r) 1) (s .pre .1 .1 .0))
 
 returns : tie.Need-returns
 returns c =

@@ -9,7 +9,7 @@ use mir.ValLaws.{toZ-ofZ}
 use Rattle.meaning.specs.Rows.{rowCount, kindAt}
 use Rattle.agreement.proofs.TableFit.{rows-limit}
 use Rattle.run_code.specs.Prepared.{row, literalRow, ownerNote, nextNote, assignedRow, keptRow}
-use Rattle.run_code.proofs.Names.{element-names, assignment-names, input-names, output-names, monadic-number, dyadic-number}
+use Rattle.run_code.proofs.Names.{element-names, assignment-names, block-names, input-names, output-names, monadic-number, dyadic-number}
 use Rattle.run_preparing.proofs.RowLaws.{element-small, row-by-kind, low-row, kept-row, high-row, parent-noted, alt-noted}
 use Rattle.run_preparing.proofs.row_at.Statement.{statement}
 use Rattle.run_preparing.proofs.row_at.Tie as tie
@@ -146,8 +146,13 @@ element-copy-out-kept-row-4 c = inside (c .before .before .before .before)
 kept-row-requires-2 : tie.Need-kept-row-requires-2
 kept-row-requires-2 c κs = let s = c .before .before .before .before .before in (few s, (here s, noted s 24 (λ z. omega arith)))
 
-referred-requires-4 : tie.Need-referred-requires-4
-referred-requires-4 c κs = (few (c .before .before), (here (c .before .before), omega arith))
+natural-requires-6 : tie.Need-natural-requires-6
+natural-requires-6 c κs = search needs
+
+cast-kept-row-3 : tie.Need-cast-kept-row-3
+cast-kept-row-3 c =
+    let s = c .before .before .before in
+    record { fits = omega (arith, c .natural6 .ensures, block-names (s .args .rows .now) (s .pre .0) (s .args .r) (here s) (kind (c .before .before) 35 (c .before .match .keys8)) .0, s .pre .1 .0 .0, inside s) }
 
 mul-kept-row-5 : tie.Need-mul-kept-row-5
 mul-kept-row-5 c = search needs
@@ -162,7 +167,25 @@ element-copy-out-kept-row-6 : tie.Need-element-copy-out-kept-row-6
 element-copy-out-kept-row-6 c = inside (c .before .before .before .before)
 
 kept-row-requires-3 : tie.Need-kept-row-requires-3
-kept-row-requires-3 c κs =
+kept-row-requires-3 c κs = let s = c .before .before .before .before .before in (few s, (here s, noted s 35 (λ z. omega arith)))
+
+referred-requires-4 : tie.Need-referred-requires-4
+referred-requires-4 c κs = (few (c .before .before), (here (c .before .before), omega arith))
+
+mul-kept-row-7 : tie.Need-mul-kept-row-7
+mul-kept-row-7 c = search needs
+
+element-copy-out-kept-row-7 : tie.Need-element-copy-out-kept-row-7
+element-copy-out-kept-row-7 c = inside (c .before .before .before)
+
+mul-kept-row-8 : tie.Need-mul-kept-row-8
+mul-kept-row-8 c = search needs
+
+element-copy-out-kept-row-8 : tie.Need-element-copy-out-kept-row-8
+element-copy-out-kept-row-8 c = inside (c .before .before .before .before)
+
+kept-row-requires-4 : tie.Need-kept-row-requires-4
+kept-row-requires-4 c κs =
     let s = c .before .before .before .before .before in
     (few s, (here s, (alt-noted (s .args .rows .now) (s .args .r) (s .pre .1 .1 .owner (s .args .r) (here s)), s .pre .1 .1 .next (s .args .r) (here s))))
 
@@ -172,33 +195,33 @@ plain-requires-3 c κs = search needs
 returns : tie.Need-returns
 returns c =
     let s = c .before .before .before .before in
-    c .plain3 .ensures ∙ low-row (s .args .rows .now) (s .args .r) (here s) (c .before .before .before .natural .result) (sym (c .before .before .before .natural .ensures)) (c .before .before .match .rest .0 .0 .0 .0 .0 .0 .0 .1) (c .before .before .match .rest .0 .0 .0 .0 .0 .0 .1) (c .before .before .match .rest .0 .0 .0 .0 .0 .1) (c .before .before .match .rest .0 .0 .0 .0 .1) (c .before .before .match .rest .0 .0 .0 .1) (c .before .before .match .rest .0 .0 .1) (c .before .before .match .rest .0 .1) (s .pre .1 .0 .0) (c .before .if1 .taken)
+    c .plain3 .ensures ∙ low-row (s .args .rows .now) (s .args .r) (here s) (c .before .before .before .natural .result) (sym (c .before .before .before .natural .ensures)) (c .before .before .match .rest .0 .0 .0 .0 .0 .0 .0 .0 .1) (c .before .before .match .rest .0 .0 .0 .0 .0 .0 .0 .1) (c .before .before .match .rest .0 .0 .0 .0 .0 .0 .1) (c .before .before .match .rest .0 .0 .0 .0 .0 .1) (c .before .before .match .rest .0 .0 .0 .0 .1) (c .before .before .match .rest .0 .0 .0 .1) (c .before .before .match .rest .0 .0 .1) (c .before .before .match .rest .0 .1) (s .pre .1 .0 .0) (c .before .if1 .taken)
 
-cast-kept-row-3 : tie.Need-cast-kept-row-3
-cast-kept-row-3 c = search needs
+cast-kept-row-4 : tie.Need-cast-kept-row-4
+cast-kept-row-4 c = search needs
 
 referred-requires-5 : tie.Need-referred-requires-5
 referred-requires-5 c κs = (few (c .before .before .before .before), (here (c .before .before .before .before), omega arith))
 
-mul-kept-row-7 : tie.Need-mul-kept-row-7
-mul-kept-row-7 c = search needs
+mul-kept-row-9 : tie.Need-mul-kept-row-9
+mul-kept-row-9 c = search needs
 
-element-copy-out-kept-row-7 : tie.Need-element-copy-out-kept-row-7
-element-copy-out-kept-row-7 c = inside (c .before .before .before .before .before)
+element-copy-out-kept-row-9 : tie.Need-element-copy-out-kept-row-9
+element-copy-out-kept-row-9 c = inside (c .before .before .before .before .before)
 
-mul-kept-row-8 : tie.Need-mul-kept-row-8
-mul-kept-row-8 c = search needs
+mul-kept-row-10 : tie.Need-mul-kept-row-10
+mul-kept-row-10 c = search needs
 
-element-copy-out-kept-row-8 : tie.Need-element-copy-out-kept-row-8
-element-copy-out-kept-row-8 c = inside (c .before .before .before .before .before .before)
+element-copy-out-kept-row-10 : tie.Need-element-copy-out-kept-row-10
+element-copy-out-kept-row-10 c = inside (c .before .before .before .before .before .before)
 
-kept-row-requires-4 : tie.Need-kept-row-requires-4
-kept-row-requires-4 c κs = let s = c .before .before .before .before .before .before .before in (few s, (here s, noted s _ (c .before .before .before .before .before .match .rest .1)))
+kept-row-requires-5 : tie.Need-kept-row-requires-5
+kept-row-requires-5 c κs = let s = c .before .before .before .before .before .before .before in (few s, (here s, noted s _ (c .before .before .before .before .before .match .rest .1)))
 
 returns-2 : tie.Need-returns-2
 returns-2 c =
     let s = c .before .before .before .before .before .before .before .before in
-    c .kept-row4 .ensures ∙ ap (keptRow (s .args .rows .now) (s .args .r) (c .before .before .before .before .before .before .before .natural .result)) (c .before .before .before .referred5 .ensures) ∙ kept-row (s .args .rows .now) (s .args .r) (here s) (c .before .before .before .before .before .before .before .natural .result) (sym (c .before .before .before .before .before .before .before .natural .ensures)) (c .before .before .before .before .before .before .match .rest .0 .0 .0 .0 .0 .0 .0 .1) (c .before .before .before .before .before .before .match .rest .0 .0 .0 .0 .0 .0 .1) (c .before .before .before .before .before .before .match .rest .0 .0 .0 .0 .0 .1) (c .before .before .before .before .before .before .match .rest .0 .0 .0 .0 .1) (c .before .before .before .before .before .before .match .rest .0 .0 .0 .1) (c .before .before .before .before .before .before .match .rest .0 .0 .1) (c .before .before .before .before .before .before .match .rest .0 .1) (c .before .before .before .before .before .if1 .left) (c .before .before .before .before .if2 .taken)
+    c .kept-row5 .ensures ∙ ap (keptRow (s .args .rows .now) (s .args .r) (c .before .before .before .before .before .before .before .natural .result)) (c .before .before .before .referred5 .ensures) ∙ kept-row (s .args .rows .now) (s .args .r) (here s) (c .before .before .before .before .before .before .before .natural .result) (sym (c .before .before .before .before .before .before .before .natural .ensures)) (c .before .before .before .before .before .before .match .rest .0 .0 .0 .0 .0 .0 .0 .0 .1) (c .before .before .before .before .before .before .match .rest .0 .0 .0 .0 .0 .0 .0 .1) (c .before .before .before .before .before .before .match .rest .0 .0 .0 .0 .0 .0 .1) (c .before .before .before .before .before .before .match .rest .0 .0 .0 .0 .0 .1) (c .before .before .before .before .before .before .match .rest .0 .0 .0 .0 .1) (c .before .before .before .before .before .before .match .rest .0 .0 .0 .1) (c .before .before .before .before .before .before .match .rest .0 .0 .1) (c .before .before .before .before .before .before .match .rest .0 .1) (c .before .before .before .before .before .if1 .left) (c .before .before .before .before .if2 .taken)
 
 plain-requires-4 : tie.Need-plain-requires-4
 plain-requires-4 c κs = search needs
@@ -241,12 +264,17 @@ returns-9 c =
 returns-10 : tie.Need-returns-10
 returns-10 c =
     let s = c .before .before .before .before .before .before in
-    c .kept-row3 .ensures ∙ ap (keptRow (s .args .rows .now) (s .args .r) 42) (c .before .before .before .referred4 .ensures) ∙ row-by-kind (s .args .rows .now) (s .args .r) (here s) 42 (kind (c .before .before .before .before .before) 42 (c .before .before .before .before .match .keys8))
+    c .kept-row3 .ensures ∙ ap (keptRow (s .args .rows .now) (s .args .r) 35) (c .before .before .before .natural6 .ensures) ∙ row-by-kind (s .args .rows .now) (s .args .r) (here s) 35 (kind (c .before .before .before .before .before) 35 (c .before .before .before .before .match .keys8))
 
 returns-11 : tie.Need-returns-11
 returns-11 c =
+    let s = c .before .before .before .before .before .before in
+    c .kept-row4 .ensures ∙ ap (keptRow (s .args .rows .now) (s .args .r) 42) (c .before .before .before .referred4 .ensures) ∙ row-by-kind (s .args .rows .now) (s .args .r) (here s) 42 (kind (c .before .before .before .before .before) 42 (c .before .before .before .before .match .keys9))
+
+returns-12 : tie.Need-returns-12
+returns-12 c =
     let s = c .before .before .before .before .before in
-    c .plain4 .ensures ∙ high-row (s .args .rows .now) (s .args .r) (here s) (c .before .before .before .before .natural .result) (sym (c .before .before .before .before .natural .ensures)) (c .before .before .before .match .rest .0 .0 .0 .0 .0 .0 .0 .1) (c .before .before .before .match .rest .0 .0 .0 .0 .0 .0 .1) (c .before .before .before .match .rest .0 .0 .0 .0 .0 .1) (c .before .before .before .match .rest .0 .0 .0 .0 .1) (c .before .before .before .match .rest .0 .0 .0 .1) (c .before .before .before .match .rest .0 .0 .1) (c .before .before .before .match .rest .0 .1) (c .before .before .if1 .left) (c .before .if2 .left)
+    c .plain4 .ensures ∙ high-row (s .args .rows .now) (s .args .r) (here s) (c .before .before .before .before .natural .result) (sym (c .before .before .before .before .natural .ensures)) (c .before .before .before .match .rest .0 .0 .0 .0 .0 .0 .0 .0 .1) (c .before .before .before .match .rest .0 .0 .0 .0 .0 .0 .0 .1) (c .before .before .before .match .rest .0 .0 .0 .0 .0 .0 .1) (c .before .before .before .match .rest .0 .0 .0 .0 .0 .1) (c .before .before .before .match .rest .0 .0 .0 .0 .1) (c .before .before .before .match .rest .0 .0 .0 .1) (c .before .before .before .match .rest .0 .0 .1) (c .before .before .before .match .rest .0 .1) (c .before .before .if1 .left) (c .before .if2 .left)
 
 pub row-at-spec : {M : Type 1} → statement M
 row-at-spec =
@@ -285,21 +313,28 @@ row-at-spec =
     mul-kept-row-4
     element-copy-out-kept-row-4
     kept-row-requires-2
-    referred-requires-4
+    natural-requires-6
+    cast-kept-row-3
     mul-kept-row-5
     element-copy-out-kept-row-5
     mul-kept-row-6
     element-copy-out-kept-row-6
     kept-row-requires-3
-    plain-requires-3
-    returns
-    cast-kept-row-3
-    referred-requires-5
+    referred-requires-4
     mul-kept-row-7
     element-copy-out-kept-row-7
     mul-kept-row-8
     element-copy-out-kept-row-8
     kept-row-requires-4
+    plain-requires-3
+    returns
+    cast-kept-row-4
+    referred-requires-5
+    mul-kept-row-9
+    element-copy-out-kept-row-9
+    mul-kept-row-10
+    element-copy-out-kept-row-10
+    kept-row-requires-5
     returns-2
     plain-requires-4
     returns-3
@@ -310,4 +345,5 @@ row-at-spec =
     returns-8
     returns-9
     returns-10
-    returns-11)
+    returns-11
+    returns-12)

@@ -12,6 +12,9 @@ use Rattle.run_settling.proofs.change_up.Reads as change-up-reads
 element-write-came : tie.Need-element-write-came
 element-write-came c = search needs
 
+element-write-came-2 : tie.Need-element-write-came-2
+element-write-came-2 c = search needs
+
 change-up-requires : tie.Need-change-up-requires
 change-up-requires c κs =
     let start = c .before .before .before in
@@ -44,4 +47,11 @@ returns-2 c =
 pub change-states-spec : {M : Type 1} → statement M
 change-states-spec =
     tie.close
-    (tie.spec element-write-came change-up-requires sub-row change-up-requires-2 returns returns-2)
+    (tie.spec
+    element-write-came
+    element-write-came-2
+    change-up-requires
+    sub-row
+    change-up-requires-2
+    returns
+    returns-2)

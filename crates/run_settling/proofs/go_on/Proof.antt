@@ -1,6 +1,6 @@
--- `go_on` meets its contract, by what stands at the row: a SEQ, a PAR, a WHILE; an IF or ALT. No other row has a member.
+-- `go_on` meets its contract, by what stands at the row: a SEQ, a PAR, a WHILE; an IF, an ALT or a block. No other row has a member.
 use Rattle.run_settling.proofs.GoingUp.{in-turn-goes-on, together-goes-on, repeating-goes-on, other-goes-on}
-use Rattle.run_starting.proofs.Standing.{found-in, seq-shape, par-shape, while-shape-in}
+use Rattle.run_starting.proofs.Standing.{found-in, seq-shape, par-shape, while-shape-in, while-action}
 use Rattle.run_code.proofs.Owners.{next-members}
 use Rattle.run_code.proofs.Inside.{next-inside}
 use Rattle.machine.specs.Counts.{keptOf}
@@ -81,7 +81,8 @@ returns-3 c =
     let start = at-place .before in
     λ rows P i.
     let h = found-in P (start .args .q) (while-shape-in P (start .args .q) (omega (arith, start .pre .1 .0)) (at-place .place .ensures) (at-match .match .keys3) (at-place3 .place3 .ensures)) refl in
-    repeating-goes-on rows (start .args .q) (start .args .r) (keptOf (start .args .states .now) (start .args .left .now) (start .args .came .now)) h (at-reset .reset .ensures rows P (h .body-is)) (c .comes .ensures)
+    let a = while-action P (start .args .q) (omega (arith, start .pre .1 .0)) (at-place .place .ensures) (h .process-is) (at-match .match .keys3) in
+    repeating-goes-on rows (start .args .q) (start .args .r) (keptOf (start .args .states .now) (start .args .left .now) (start .args .came .now)) h a (at-reset .reset .ensures rows P (h .member-is)) (c .comes .ensures)
 
 returns-4 : tie.Need-returns-4
 returns-4 c =

@@ -18,7 +18,7 @@ use Rattle.run_turns.proofs.note_all.Tie as tie
 abbrev Inv-loop : tie.InvT-loop
 Inv-loop code values marks places counts lines came acts₀ sent₀ elements₀ bits₀ n i₀ acts sent elements bits i =
     (i ≤ n)
-    × ((rows : List ℤ) → Prepared rows code → listsOf acts sent elements bits ≡ noteListed rows (cellsIn values marks) places counts lines (firstRows i came) (listsOf acts₀ sent₀ elements₀ bits₀))
+    × ((rows : List ℤ) → Prepared rows code → listsOf acts sent elements bits ≡ noteListed rows (cellsIn values marks) places counts lines (firstRows 0 i came) (listsOf acts₀ sent₀ elements₀ bits₀))
 
 abbrev μ-loop : tie.MeasureT-loop
 μ-loop code values marks places counts lines came acts₀ sent₀ elements₀ bits₀ n i₀ acts sent elements bits i =

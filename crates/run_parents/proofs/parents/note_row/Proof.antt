@@ -3,9 +3,9 @@ use mathlib.Core.Path.{sym, _∙_}
 use lib.ListN.{length}
 use borrow.Author.Needs.{needs}
 use Rattle.run_parents.proofs.Standing.{found}
-use Rattle.run_parents.proofs.MemberNotes.{ending-noted, repeating-noted, bare-noted}
+use Rattle.run_parents.proofs.MemberNotes.{ending-noted, single-noted, bare-noted}
 use Rattle.run_parents.specs.Parents.{NextOf, NextIs}
-use Rattle.run_parents.proofs.NextLinks.{numbered-none, numbered-more, body-next}
+use Rattle.run_parents.proofs.NextLinks.{numbered-none, numbered-more, single-next}
 use Rattle.run_parents.proofs.parents.note_row.Statement.{statement}
 use Rattle.run_parents.proofs.parents.note_row.Tie as tie
 
@@ -69,8 +69,8 @@ returns-2 c =
     let at-shape = at-s .before .before in
     let a = at-shape .before .before .before .args in
     let b = at-s .s2 .given .0 .0 in (
-      repeating-noted (a .rows .now) (a .r) (a .parents .now) _ (found (a .rows .now) (a .r) (at-shape .shape-at .ensures) (at-s .s2 .given .1)) (at-note .note-member .ensures .0),
-      numbered-more (NextIs (a .rows .now) b (length (a .rows .now))) (NextOf (a .rows .now)) (a .parents .now) (a .nexts .now) _ _ (body-next (a .rows .now) (a .r) b (at-shape .before .before .before .pre .1 .1) (sym (at-shape .shape-at .ensures) ∙ at-s .s2 .given .1)) (at-note .note-member .ensures .1),
+      single-noted (a .rows .now) (a .r) (a .parents .now) _ (found (a .rows .now) (a .r) (at-shape .shape-at .ensures) (at-s .s2 .given .1)) (at-note .note-member .ensures .0),
+      numbered-more (NextIs (a .rows .now) b (length (a .rows .now))) (NextOf (a .rows .now)) (a .parents .now) (a .nexts .now) _ _ (single-next (a .rows .now) (a .r) b (at-shape .before .before .before .pre .1 .1) (sym (at-shape .shape-at .ensures) ∙ at-s .s2 .given .1)) (at-note .note-member .ensures .1),
     )
 
 returns-3 : tie.Need-returns-3

@@ -7,7 +7,7 @@ use borrow.Author.Needs.{needs}
 use Rattle.meaning.specs.Rows.{fieldAt, naturalAt}
 use Rattle.base_layout.proofs.RowNodes.{nodeOf}
 use Rattle.run_parents.specs.Shapes.{higherRow, settlingShape, shapeAt}
-use Rattle.run_parents.specs.declared.shape.Shape.the-variants.{Ending, Repeating, Link}
+use Rattle.run_parents.specs.declared.shape.Shape.the-variants.{Ending, Single, Link}
 use Rattle.run_parents.specs.declared.shape.Mode.the-variants.{InTurn, Together, ByStep}
 use Rattle.run_parents.proofs.Standing.{told, told-past, told-neither, operand-is}
 use Rattle.run_parents.proofs.shape.shape_at.Statement.{statement}
@@ -67,26 +67,29 @@ returns-9 : tie.Need-returns-9
 returns-9 c = ap (Ending ByStep) (first (c .before)) ∙ kind-told (c .before) 32 (c .match .keys8)
 
 returns-10 : tie.Need-returns-10
-returns-10 c = ap Repeating (second (c .before)) ∙ kind-told (c .before) 33 (c .match .keys9)
+returns-10 c = ap Single (second (c .before)) ∙ kind-told (c .before) 33 (c .match .keys9)
 
 returns-11 : tie.Need-returns-11
 returns-11 c = ap (Ending ByStep) (first (c .before)) ∙ kind-told (c .before) 34 (c .match .keys10)
 
 returns-12 : tie.Need-returns-12
-returns-12 c = ap₂ Link (first (c .before)) (second (c .before)) ∙ kind-told (c .before) 40 (c .match .keys11)
+returns-12 c = ap Single (second (c .before)) ∙ kind-told (c .before) 35 (c .match .keys11)
 
 returns-13 : tie.Need-returns-13
-returns-13 c = ap₂ Link (first (c .before)) (second (c .before)) ∙ kind-told (c .before) 41 (c .match .keys12)
+returns-13 c = ap₂ Link (first (c .before)) (second (c .before)) ∙ kind-told (c .before) 40 (c .match .keys12)
 
 returns-14 : tie.Need-returns-14
-returns-14 c = ap₂ Link (first (c .before)) (second (c .before)) ∙ kind-told (c .before) 42 (c .match .keys13)
+returns-14 c = ap₂ Link (first (c .before)) (second (c .before)) ∙ kind-told (c .before) 41 (c .match .keys13)
 
 returns-15 : tie.Need-returns-15
-returns-15 c =
+returns-15 c = ap₂ Link (first (c .before)) (second (c .before)) ∙ kind-told (c .before) 42 (c .match .keys14)
+
+returns-16 : tie.Need-returns-16
+returns-16 c =
     let at-natural = c .before in
     let at-if1 = at-natural .before .before .before in
     let args = at-if1 .before .args in
-    let a = args in told-neither (a .rows .now) (a .r) (at-natural .natural .result) (at-if1 .if1 .left) (sym (at-natural .natural .ensures)) (c .match .rest .0 .0 .0 .0 .0 .0 .0 .0 .0 .0 .0 .0 .1) (c .match .rest .0 .0 .0 .0 .0 .0 .0 .0 .0 .0 .0 .1) (c .match .rest .0 .0 .0 .0 .0 .0 .0 .0 .0 .0 .1) (c .match .rest .0 .0 .0 .0 .0 .0 .0 .0 .0 .1) (c .match .rest .0 .0 .0 .0 .0 .0 .0 .0 .1) (c .match .rest .0 .0 .0 .0 .0 .0 .0 .1) (c .match .rest .0 .0 .0 .0 .0 .0 .1) (c .match .rest .0 .0 .0 .0 .0 .1) (c .match .rest .0 .0 .0 .0 .1) (c .match .rest .0 .0 .0 .1) (c .match .rest .0 .0 .1) (c .match .rest .0 .1) (c .match .rest .1)
+    let a = args in told-neither (a .rows .now) (a .r) (at-natural .natural .result) (at-if1 .if1 .left) (sym (at-natural .natural .ensures)) (c .match .rest .0 .0 .0 .0 .0 .0 .0 .0 .0 .0 .0 .0 .0 .1) (c .match .rest .0 .0 .0 .0 .0 .0 .0 .0 .0 .0 .0 .0 .1) (c .match .rest .0 .0 .0 .0 .0 .0 .0 .0 .0 .0 .0 .1) (c .match .rest .0 .0 .0 .0 .0 .0 .0 .0 .0 .0 .1) (c .match .rest .0 .0 .0 .0 .0 .0 .0 .0 .0 .1) (c .match .rest .0 .0 .0 .0 .0 .0 .0 .0 .1) (c .match .rest .0 .0 .0 .0 .0 .0 .0 .1) (c .match .rest .0 .0 .0 .0 .0 .0 .1) (c .match .rest .0 .0 .0 .0 .0 .1) (c .match .rest .0 .0 .0 .0 .1) (c .match .rest .0 .0 .0 .1) (c .match .rest .0 .0 .1) (c .match .rest .0 .1) (c .match .rest .1)
 
 pub shape-at-spec : {M : Type 1} → statement M
 shape-at-spec =
@@ -109,4 +112,5 @@ shape-at-spec =
     returns-12
     returns-13
     returns-14
-    returns-15)
+    returns-15
+    returns-16)

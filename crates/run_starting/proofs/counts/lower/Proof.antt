@@ -12,12 +12,6 @@ mul-n c = search needs
 element-copy-out-n : tie.Need-element-copy-out-n
 element-copy-out-n c = search needs
 
-mul-left : tie.Need-mul-left
-mul-left c = search needs
-
-element-write-left : tie.Need-element-write-left
-element-write-left c = search needs
-
 element-write-states : tie.Need-element-write-states
 element-write-states c = search needs
 
@@ -29,11 +23,11 @@ returns c =
 sub-left : tie.Need-sub-left
 sub-left c = search needs
 
-mul-left-2 : tie.Need-mul-left-2
-mul-left-2 c = search needs
+mul-left : tie.Need-mul-left
+mul-left c = search needs
 
-element-write-left-2 : tie.Need-element-write-left-2
-element-write-left-2 c = search needs
+element-write-left : tie.Need-element-write-left
+element-write-left c = search needs
 
 returns-2 : tie.Need-returns-2
 returns-2 c =
@@ -46,11 +40,9 @@ lower-spec =
     (tie.spec
     mul-n
     element-copy-out-n
-    mul-left
-    element-write-left
     element-write-states
     returns
     sub-left
-    mul-left-2
-    element-write-left-2
+    mul-left
+    element-write-left
     returns-2)

@@ -1,6 +1,6 @@
 -- `reset`, `reset_members` and `reset_started` meet their contracts. The measure is what is left of 1,025 rows.
-use Rattle.run_starting.proofs.Resetting.{idle-resets, ending-resets, repeating-resets, itself-resets, none-reset, none-started, link-resets, link-passes, link-stops}
-use Rattle.run_starting.proofs.Standing.{found-in, links-in, no-members, link-in, next-links, seq-shape, par-shape, if-shape, alt-shape, while-shape-in}
+use Rattle.run_starting.proofs.Resetting.{idle-resets, ending-resets, single-resets, itself-resets, none-reset, none-started, link-resets, link-passes, link-stops}
+use Rattle.run_starting.proofs.Standing.{found-in, links-in, no-members, link-in, next-links, seq-shape, par-shape, if-shape, alt-shape, while-shape-in, block-shape-in}
 use native.Mathlib.Omega.{arith}
 use Prim.Native.Nat.{_-_}
 use mathlib.Core.Path.{refl}
@@ -167,6 +167,22 @@ reset-reset-started-requires-2 t c κs =
     let h = found-in (P .1) (start .args .r) s refl in
     (rw (← start .pre .0) (omega (arith, h .higher, start .pre .1 .1)), (P, (h .inside, links-in (P .1) (start .args .r) s refl)))
 
+reset-place-requires-7 : (t : ℕ) → reset-lts.Need-place-requires-7 (reset-claims t) (reset-at t) reset.Post
+reset-place-requires-7 t c κs = search needs
+
+reset-cast-reset-2 : (t : ℕ) → reset-lts.Need-cast-reset-2 (reset-claims t) (reset-at t) reset.Post
+reset-cast-reset-2 t c = search needs
+
+reset-reset-requires-2 : (t : ℕ) → reset-lts.Need-reset-requires-2 (reset-claims t) (reset-at t) reset.Post
+reset-reset-requires-2 t c κs =
+    let at-body = c .before in
+    let at-match = at-body .before in
+    let at-place = at-match .before in
+    let start = at-place .before .before .before in
+    let P = start .pre .1 .0 in
+    let h = found-in (P .1) (start .args .r) (block-shape-in (P .1) (start .args .r) (omega (arith, start .pre .1 .1)) (at-place .place .ensures) (at-match .match .keys6) (at-body .place7 .ensures)) refl in
+    (rw (← start .pre .0) (omega (arith, h .higher, start .pre .1 .1)), (P, h .inside))
+
 reset-returns-2 : (t : ℕ) → reset-lts.Need-returns-2 (reset-claims t) (reset-at t) reset.Post
 reset-returns-2 t c =
     let at-found = c .before .before in
@@ -203,7 +219,7 @@ reset-returns-5 t c =
     let start = at-if .before .before in
     λ rows P i.
     let h = found-in P (start .args .r) (while-shape-in P (start .args .r) (omega (arith, start .pre .1 .1)) (at-place .place .ensures) (at-match .match .keys4) (at-body .place5 .ensures)) refl in
-    repeating-resets rows (start .args .r) (start .args .states .now) (at-if .if1 .left) h (c .reset .ensures rows P (h .body-is))
+    single-resets rows (start .args .r) (start .args .states .now) (at-if .if1 .left) h (c .reset .ensures rows P (h .member-is))
 
 reset-returns-6 : (t : ℕ) → reset-lts.Need-returns-6 (reset-claims t) (reset-at t) reset.Post
 reset-returns-6 t c =
@@ -216,11 +232,22 @@ reset-returns-6 t c =
 
 reset-returns-7 : (t : ℕ) → reset-lts.Need-returns-7 (reset-claims t) (reset-at t) reset.Post
 reset-returns-7 t c =
+    let at-body = c .before .before in
+    let at-match = at-body .before in
+    let at-place = at-match .before in
+    let at-if = at-place .before in
+    let start = at-if .before .before in
+    λ rows P i.
+    let h = found-in P (start .args .r) (block-shape-in P (start .args .r) (omega (arith, start .pre .1 .1)) (at-place .place .ensures) (at-match .match .keys6) (at-body .place7 .ensures)) refl in
+    single-resets rows (start .args .r) (start .args .states .now) (at-if .if1 .left) h (c .reset2 .ensures rows P (h .member-is))
+
+reset-returns-8 : (t : ℕ) → reset-lts.Need-returns-8 (reset-claims t) (reset-at t) reset.Post
+reset-returns-8 t c =
     let at-place = c .before in
     let at-if = at-place .before in
     let start = at-if .before .before in
     let m = c .match .rest in
-    λ rows P. itself-resets rows (start .args .r) (start .args .states .now) (at-if .if1 .left) P (at-place .place .ensures) (m .0 .0 .0 .0 .1) (m .0 .0 .0 .1) (m .0 .0 .1) (m .0 .1) (m .1)
+    λ rows P. itself-resets rows (start .args .r) (start .args .states .now) (at-if .if1 .left) P (at-place .place .ensures) (m .0 .0 .0 .0 .0 .1) (m .0 .0 .0 .0 .1) (m .0 .0 .0 .1) (m .0 .0 .1) (m .0 .1) (m .1)
 
 reset-members-place-requires : (t : ℕ) → reset-members-lts.Need-place-requires (reset-members-claims t) (reset-members-at t) reset-members.Post
 reset-members-place-requires t c κs = search needs
@@ -386,12 +413,16 @@ pub +reset+reset-members+reset-started-spec : {M : Type 1} → statement M
     (reset-place-requires-6 t)
     (reset-cast-reset-started-2 t)
     (reset-reset-started-requires-2 t)
+    (reset-place-requires-7 t)
+    (reset-cast-reset-2 t)
+    (reset-reset-requires-2 t)
     (reset-returns-2 t)
     (reset-returns-3 t)
     (reset-returns-4 t)
     (reset-returns-5 t)
     (reset-returns-6 t)
-    (reset-returns-7 t))
+    (reset-returns-7 t)
+    (reset-returns-8 t))
     (λ t. reset-members-lts.spec (reset-members-claims t) (reset-members-at t) reset-members.Post
     (reset-members-place-requires t)
     (reset-members-returns t)

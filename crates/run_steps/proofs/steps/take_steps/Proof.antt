@@ -1,16 +1,20 @@
 -- `take_steps` meets its contract. The loop's invariant: on every sheet whose readings are kept the run stands at a state of its order, n steps taken. The measure is what is left of the budget.
-use mathlib.Core.Path.{_≡_, refl, sym, _∙_}
+use mathlib.Core.Path.{_≡_, refl, sym, ap, _∙_}
 use mathlib.Core.Logic.{⊎-elim}
+use mathlib.Core.List.{List}
 use Prim.Native.Nat.{ℕ, _≤_}
+use lib.IntN.{ℤ}
 use native.Mathlib.Omega.{arith}
 use borrow.Author.Needs.{needs}
 use mir.ValLaws.{toZ-ofZ}
 use mir.Val.{SFits}
 use mir.Syntax.{w32}
-use Rattle.run_turns.specs.Turns.{withPut}
+use Rattle.machine.specs.Came.{firstRows, listedBlocks}
+use Rattle.run_code.specs.Prepared.{Prepared}
+use Rattle.run_turns.specs.Turns.{withPut, blocksUnset}
 use Rattle.run_turns.proofs.ChangedRows.{root-below}
 use Rattle.run_turns.proofs.Turn as turn
-use Rattle.run_steps.proofs.steps.take_steps.Proof.Places.{Inv-loop, μ-loop, declared, began, looped, tested, chose, changed, put, settled, given, entry, first, outset, table, root-at, sheet}
+use Rattle.run_steps.proofs.steps.take_steps.Proof.Places.{Inv-loop, μ-loop, declared, began, looped, tested, chose, changed, put, joined, given, entry, first, outset, table, root-at, sheet}
 use Rattle.run_steps.proofs.steps.take_steps.Proof.Places.{begun, counting, settling, counts, picks, changes, host, left, noted}
 use Rattle.run_steps.proofs.steps.take_steps.Statement.{statement}
 use Rattle.run_steps.proofs.steps.take_steps.Tie as tie
@@ -80,14 +84,21 @@ change-states-requires c κs =
     let (rows, P) = table (outset d) in
     ((rows, (P, turn.change-processes (changes d))), (w .1, w .2))
 
+unset-blocks-requires : tie.Need-unset-blocks-requires Inv-loop μ-loop
+unset-blocks-requires c κs =
+    let e = c .before .before in
+    let s = outset (changed (put (e .before) .before)) in
+    (table s, turn.blocks-below (settling e (sheet s)) _ (table s .1))
+
 note-all-requires-2 : tie.Need-note-all-requires-2 Inv-loop μ-loop
 note-all-requires-2 c κs =
-    let s = outset (changed (put (settled c .before) .before)) in
-    (table s, turn.came-below (settling (settled c) (sheet s)))
+    let e = joined c .before in
+    let s = outset (changed (put (e .before) .before)) in
+    (table s, turn.came-below (settling e (sheet s)))
 
 -- the change of the turn that a place ends
 abbrev turned : tie.After-note-all2 Inv-loop μ-loop → tie.After-change-of Inv-loop μ-loop
-turned c = changed (put (settled (c .before) .before) .before)
+turned c = changed (put (joined (c .before) .before .before) .before)
 
 add-n : tie.Need-add-n Inv-loop μ-loop
 add-n c = turn.next-fits (changes (turned c) .picking) (outset (turned c) .fits .budget)
@@ -105,9 +116,18 @@ made c =
     (⊎-elim (λ b. let f : SFits w32 (b .1 .given .0 .1 .0) = search needs in rw (b .1 .given .1) (b .4 ∙ rw (toZ-ofZ w32 (b .1 .given .0 .1 .0) f) at (b .3 .ensures .0))) (λ b. rw (b .1 .given .1) (b .4 ∙ b .3 .ensures .0)))
     (c .match .came)
 
+-- the state after the cells of the blocks that started are unset, if there are any
+cleared : (c : tie.Joined2 Inv-loop μ-loop) (rows : List ℤ) → Prepared rows (outset (changed (put (c .before .before) .before)) .args .code .now)
+    → c .if2 .state ≡ blocksUnset rows (listedBlocks (settling (c .before) (sheet (outset (changed (put (c .before .before) .before)))) .came)) (c .before .before .before .before .before .match .state)
+cleared c rows P =
+    let s = outset (changed (put (c .before .before) .before)) in
+    let came = settling (c .before) (sheet s) .came in
+    ⊎-elim (λ a. a .3 ∙ a .2 .ensures rows P) (λ b. b .1 ∙ ap (λ (n : ℕ). blocksUnset rows (firstRows 2049 n came) (c .before .before .before .before .before .match .state)) (sym (b .0 .left))) (c .if2 .came)
+
 loop-again : tie.Need-loop-again Inv-loop μ-loop
 loop-again c =
-    let e = settled (c .before) in
+    let j = joined (c .before) in
+    let e = j .before in
     let h = put (e .before) in
     let k = h .before .before .before .before .before .before .before .before in
     let d = turned c in
@@ -116,7 +136,7 @@ loop-again c =
       turn.budget-left (changes d .picking) .0,
       d .before .before .before .before .before .before .before .before .before .readied .given ∙ l .inv .1,
       d .before .before .before .before .before .taken .given ∙ l .inv .2,
-      λ z K. turn.stands-further (settling e (z, K)) (host h) (h .put-host .ensures) _ (h .before .before .before .before .before .written-by .ensures) _ (made (e .before .before .before .before))
+      λ z K. turn.stands-further (settling e (z, K)) (host h) (h .put-host .ensures) _ (h .before .before .before .before .before .written-by .ensures) _ (made (e .before .before .before .before)) _ (cleared j rows P)
           (left k) (k .leave-step .ensures rows P) (noted c) (c .note-all2 .ensures rows P) _ _
           (d .before .before .before .before .before .before .before .before .before .before .show .ensures) (d .before .before .before .before .before .before .show2 .ensures),
     )
@@ -129,4 +149,4 @@ take-steps-spec =
     (λ c κs. tt) (λ c κs. tt) slice-aggregate-outcome-with outcome-with-requires cast-t57 same-length same-length-2 returns
     (λ c κs. tt) (λ c κs. tt) cast-show (λ c κs. tt) cast-show-2 (λ c κs. tt) change-of-requires leave-step-requires written-by-requires put-host-requires
     (λ c. search needs) (λ c. search needs) (λ c κs. tt) (λ c. search needs) (λ c κs. tt)
-    change-states-requires note-all-requires-2 add-n loop-less loop-again)
+    change-states-requires (λ c. search needs) unset-blocks-requires note-all-requires-2 add-n loop-less loop-again)

@@ -27,7 +27,7 @@ Inv-loop rows _ readings given lines choices budget readied₀ taken₀ _ _ _ _ 
 abbrev pub μ-loop : tie.MeasureT-loop
 μ-loop _ _ _ _ _ _ budget _ _ _ _ _ _ _ _ _ _ _ _ _ _ _ _ _ _ _ _ _ _ _ _ _ _ _ _ n = budget - n
 
--- From a place of the trace, an earlier one: after the call of `declarations`, `begin`, `is_last`, `choose`, `change_of`, `put_host` or `change_states`, the loop's head, or the entry.
+-- From a place of the trace, an earlier one: after the call of `declarations`, `begin`, `is_last`, `choose`, `change_of`, or `put_host`, where the two ways past the blocks that started meet, the loop's head, or the entry.
 abbrev pub declared : tie.After-came Inv-loop μ-loop → tie.After-declarations Inv-loop μ-loop
 declared c = c .before .before .before .before .before
 
@@ -49,8 +49,8 @@ changed c = c .before .before .before .before .before .before .before .before .b
 abbrev pub put : tie.After-came3 Inv-loop μ-loop → tie.After-put-host Inv-loop μ-loop
 put c = c .before .before .before .before
 
-abbrev pub settled : tie.After-bits5 Inv-loop μ-loop → tie.After-change-states Inv-loop μ-loop
-settled c = c .before .before .before .before .before .before .before .before .before .before
+abbrev pub joined : tie.After-bits5 Inv-loop μ-loop → tie.Joined2 Inv-loop μ-loop
+joined c = c .before .before .before .before .before .before .before .before .before .before
 
 abbrev pub given : tie.After-declarations Inv-loop μ-loop → tie.Start Inv-loop μ-loop
 given c = c .before .before .before .before .before

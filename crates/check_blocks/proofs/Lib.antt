@@ -1,0 +1,4 @@
+pub mod NamedRows
+pub mod LowestBlocks
+pub mod NumbersInside
+pub mod RowFaults
