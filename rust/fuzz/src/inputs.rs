@@ -22,7 +22,7 @@ fn base(seed: u64) -> Parts {
         0 => Some(Aim::Shape),
         1..=3 => Some(Aim::Accepted),
         4 => Some(Aim::Refusal(3)),
-        5 => Some(Aim::Refusal(6 + (seed / 16 % 4) as u8)),
+        5 => Some(Aim::Refusal([6, 7, 8, 9, 14][(seed / 16 % 5) as usize])),
         6 => Some(Aim::Mutated),
         _ => None,
     };

@@ -1,10 +1,10 @@
-//! What the inputs from seeds make runs do: GIVEN, and absences that pass to inputs, to options of
-//! an ALT and to the host, each in sufficient number.
+//! What the inputs from seeds make runs do: GIVEN, absences that pass to inputs, to options of an ALT
+//! and to the host, and blocks, whose start unsets cells that are set, each in sufficient number.
 
 use fuzz::inputs::versions;
 use fuzz::Given;
 use reference::check_bytes;
-use reference::kinds::{GIVEN, MONADIC};
+use reference::kinds::{BLOCK, GIVEN, MONADIC};
 use reference::sheet::readings_of_bytes;
 use reference::state::State;
 use reference::steps::{ready_steps, take_step, Step};
@@ -32,6 +32,18 @@ fn absence(step: &Step) -> Option<&'static str> {
     step.passes_absence().then_some(place)
 }
 
+/// Whether a block's start unsets a cell that is set; no step without an input unsets one otherwise.
+fn unsets(step: &Step, before: &State, after: &State) -> Option<&'static str> {
+    let takes = match step {
+        Step::Input { .. } => true,
+        Step::Option { passing, .. } => passing.is_some(),
+        _ => false,
+    };
+    let mut cells = before.cells.iter().zip(&after.cells);
+    let unset = cells.any(|(before, after)| before.is_some() && after.is_none());
+    (!takes && unset).then_some("block that unsets")
+}
+
 /// What the beginning of an input's run does; nothing if it is refused.
 fn deeds(given: &Given) -> Option<Vec<&'static str>> {
     let program = check_bytes(&given.table).ok()?;
@@ -39,6 +51,9 @@ fn deeds(given: &Given) -> Option<Vec<&'static str>> {
     let mut deeds = Vec::new();
     if program.rows.iter().any(is_given) {
         deeds.push("GIVEN");
+    }
+    if program.rows.iter().any(|row| row.kind == BLOCK) {
+        deeds.push("block");
     }
     let mut state = State::start(&program);
     let mut ready = Vec::new();
@@ -50,7 +65,9 @@ fn deeds(given: &Given) -> Option<Vec<&'static str>> {
             break;
         };
         deeds.extend(absence(step));
+        let before = state.clone();
         take_step(&program, &readings, &mut state, *step);
+        deeds.extend(unsets(step, &before, &state));
     }
     deeds.sort_unstable();
     deeds.dedup();
@@ -58,7 +75,7 @@ fn deeds(given: &Given) -> Option<Vec<&'static str>> {
 }
 
 #[test]
-fn absences_pass_and_given_asks() {
+fn absences_pass_and_blocks_begin_again() {
     let mut tally = Tally::new();
     for given in (0..SEEDS).flat_map(versions) {
         for deed in deeds(&given).unwrap_or_default() {
@@ -71,6 +88,8 @@ fn absences_pass_and_given_asks() {
         ("absence to an input", 200),
         ("absence to an option", 50),
         ("absence to the host", 400),
+        ("block", 2_000),
+        ("block that unsets", 400),
     ] {
         assert!(tally.get(deed) >= Some(&least), "{deed} in {tally:?}");
     }

@@ -50,7 +50,7 @@ fn answers_agree() {
     for outcome in ["ended", "stuck", "broken", "spent"] {
         assert!(tally.get(outcome) > Some(&500), "{outcome} in {tally:?}");
     }
-    for number in 1..=11 {
+    for number in (1..=11).chain([14]) {
         let name = format!("refused {number}");
         assert!(tally.get(&name) > Some(&100), "{name} in {tally:?}");
     }

@@ -10,8 +10,9 @@ use occam_table::{calls, Buffers, Machine, STACK};
 use std::process::{Command, Stdio};
 use std::thread;
 use tables::{
-    absences_everywhere, bytes, deep_alts, deep_expression, deep_given, deep_ifs, deep_loops,
-    deep_pars_in_a_loop, deep_subscript, deep_sum, largest, nested, readings, wide_in_a_loop,
+    absences_everywhere, blocks_of_all_cells, bytes, deep_alts, deep_blocks_in_a_loop,
+    deep_expression, deep_given, deep_ifs, deep_loops, deep_pars_in_a_loop, deep_subscript,
+    deep_sum, largest, nested, readings, wide_in_a_loop,
 };
 
 /// The stack of a call in KiB, for the tests; `OCCAM_STACK` asks for another one.
@@ -116,6 +117,18 @@ fn deep_loops_are_spent() {
 fn deep_pars_in_a_loop_are_spent() {
     let spent = answered(deep_pars_in_a_loop(), b"\n", 500);
     assert_eq!(spent, SPENT + 500 * 65_536);
+}
+
+#[test]
+fn deep_blocks_in_a_loop_are_spent() {
+    let spent = answered(deep_blocks_in_a_loop(), b"\n", 500);
+    assert_eq!(spent, SPENT + 500 * 65_536);
+}
+
+#[test]
+fn blocks_of_all_cells_are_spent() {
+    let spent = answered(blocks_of_all_cells(), b"\n", 5_000);
+    assert_eq!(spent, SPENT + 5_000 * 65_536);
 }
 
 #[test]

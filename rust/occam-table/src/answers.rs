@@ -2,13 +2,13 @@
 
 use std::fmt;
 
-/// One of the eleven numbered refusals of document 01, with its place.
+/// One of the numbered refusals of document 01, or 14 of document 02, with its place.
 ///
-/// The place is a line of the table (2), a line of the sheet (10), a row (4 to 9), the count of
-/// rows (3, and 5 if there is no root), or 0.
+/// The place is a line of the table (2), a line of the sheet (10), a row (4 to 9 and 14), the
+/// count of rows (3, and 5 if there is no root), or 0.
 #[derive(Clone, Copy, Debug, PartialEq, Eq, Hash)]
 pub struct Refusal {
-    /// The refusal's number, 1 to 11.
+    /// The refusal's number: 1 to 11, or 14.
     pub number: u8,
     /// The line or row at fault.
     pub place: u32,
@@ -23,7 +23,7 @@ impl fmt::Display for Refusal {
 
 impl std::error::Error for Refusal {}
 
-/// The verdict on a table: accepted, or the first of refusals 2 to 9.
+/// The verdict on a table: accepted, or the first of refusals 2 to 6, 14, and 7 to 9.
 pub type Verdict = Result<(), Refusal>;
 
 /// How a run came to its end.

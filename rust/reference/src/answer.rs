@@ -146,12 +146,12 @@ pub fn traced_rows(
     traced(|| rows_of_numbers(rows), asked)
 }
 
-/// The verdict on a table of bytes: the program, or the first of refusals 2 to 9.
+/// The verdict on a table of bytes: the program, or the first of refusals 2 to 9 and 14.
 pub fn check_bytes(table: &[u8]) -> Result<Program, Refusal> {
     Program::check(rows_of_bytes(table)?)
 }
 
-/// The verdict on rows lent as numbers: the program, or the first of refusals 3 to 9.
+/// The verdict on rows lent as numbers: the program, or the first of refusals 3 to 9 and 14.
 pub fn check_rows(rows: &[i32]) -> Result<Program, Refusal> {
     Program::check(rows_of_numbers(rows)?)
 }

@@ -19,6 +19,7 @@ pub const PAR: i32 = 31;
 pub const IF: i32 = 32;
 pub const WHILE: i32 = 33;
 pub const ALT: i32 = 34;
+pub const BLOCK: i32 = 35;
 pub const MEMBER: i32 = 40;
 pub const CHOICE: i32 = 41;
 pub const OPTION: i32 = 42;
@@ -28,7 +29,7 @@ pub const GUARD: i32 = 43;
 pub const EXPRESSION: &[i32] = &[LITERAL, ELEMENT, MONADIC, DYADIC];
 /// The kinds that are a process.
 pub const PROCESS: &[i32] = &[
-    STOP, SKIP, ASSIGNMENT, INPUT, OUTPUT, SEQ, PAR, IF, WHILE, ALT,
+    STOP, SKIP, ASSIGNMENT, INPUT, OUTPUT, SEQ, PAR, IF, WHILE, ALT, BLOCK,
 ];
 
 /// The monadic operator whose operand is an element, set or not.
@@ -87,6 +88,7 @@ pub fn fields_of(kind: i32) -> Option<[Field; 3]> {
         IF => [RefersOrNone(&[CHOICE]), Unused, Unused],
         WHILE => [Refers(EXPRESSION), Refers(PROCESS), Unused],
         ALT => [RefersOrNone(&[OPTION]), Unused, Unused],
+        BLOCK => [VariableName, Refers(PROCESS), Unused],
         MEMBER => [Refers(PROCESS), RefersOrNone(&[MEMBER]), Unused],
         CHOICE => [Refers(PROCESS), RefersOrNone(&[CHOICE]), Refers(EXPRESSION)],
         OPTION => [
@@ -97,6 +99,17 @@ pub fn fields_of(kind: i32) -> Option<[Field; 3]> {
         GUARD => [Refers(EXPRESSION), Refers(&[INPUT, SKIP]), Unused],
         _ => return None,
     })
+}
+
+/// The rows that a row refers to, if its references are right; names are not among them.
+pub fn rows_referred_to(row: &Row) -> impl Iterator<Item = usize> {
+    let fields = fields_of(row.kind).into_iter().flatten();
+    fields
+        .zip(row.fields())
+        .filter_map(|(field, number)| match field {
+            Refers(_) | RefersOrNone(_) => usize::try_from(number).ok(),
+            _ => None,
+        })
 }
 
 /// Whether a row is a declaration by its kind.

@@ -11,6 +11,7 @@ pub mod table;
 pub mod kinds;
 pub mod references;
 
+pub mod blocks;
 pub mod limits;
 pub mod usage;
 

@@ -27,6 +27,11 @@ impl Part {
         let subscript = usize::try_from(subscript).ok()?;
         (subscript < self.length).then_some(self.first + subscript)
     }
+
+    /// All positions in the store of this name.
+    pub fn cells(&self) -> std::ops::Range<usize> {
+        self.first..self.first + self.length
+    }
 }
 
 /// Where the cells, elements, readings and strips of the declarations lie, in row order.

@@ -1,7 +1,8 @@
 //! The program that an accepted table's rows form: one tree of processes from the root.
 
+use crate::blocks::check_blocks;
 use crate::kinds::{
-    check_kinds, declaration_count, ALT, CHOICE, IF, MEMBER, OPTION, PAR, SEQ, WHILE,
+    check_kinds, declaration_count, ALT, BLOCK, CHOICE, IF, MEMBER, OPTION, PAR, SEQ, WHILE,
 };
 use crate::limits::{check_limits, Layout, Part};
 use crate::references::check_references;
@@ -22,6 +23,8 @@ pub enum Above {
     Chooser { row: usize },
     /// A WHILE, of which this is the body.
     While { row: usize },
+    /// A block, which ends with this process.
+    Block { row: usize },
 }
 
 /// An accepted table, with what settling needs to know of its tree.
@@ -40,11 +43,12 @@ pub struct Program {
 }
 
 impl Program {
-    /// The program of a table's rows, or the first of refusals 4 to 9.
+    /// The program of a table's rows, or the first of refusals 4, 5, 6, 14, 7, 8 and 9.
     pub fn check(rows: Vec<Row>) -> Result<Program, Refusal> {
         check_kinds(&rows)?;
         check_references(&rows)?;
         let layout = check_limits(&rows)?;
+        check_blocks(&rows)?;
         check_usage(&rows, &layout)?;
         Ok(Program::of_accepted(rows, layout))
     }
@@ -86,6 +90,7 @@ impl Program {
                     },
                     PAR => Above::Par { par: row },
                     WHILE => Above::While { row },
+                    BLOCK => Above::Block { row },
                     _ => Above::Chooser { row },
                 };
             }
@@ -124,7 +129,7 @@ impl Program {
                 .list_of(row)
                 .map(|link| self.process_of(link))
                 .collect(),
-            WHILE => vec![self.rows[row].b as usize],
+            WHILE | BLOCK => vec![self.process_within(row)],
             _ => Vec::new(),
         }
     }
@@ -139,6 +144,12 @@ impl Program {
     pub fn process_of(&self, link: usize) -> usize {
         debug_assert!(matches!(self.rows[link].kind, MEMBER | CHOICE | OPTION));
         self.rows[link].a as usize
+    }
+
+    /// The body of a WHILE, or the process of a block.
+    pub fn process_within(&self, row: usize) -> usize {
+        debug_assert!(matches!(self.rows[row].kind, WHILE | BLOCK));
+        self.rows[row].b as usize
     }
 
     /// What stands directly above a process.

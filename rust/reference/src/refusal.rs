@@ -1,4 +1,4 @@
-//! The eleven numbered refusals, each with its place.
+//! The numbered refusals (1 to 11, and 14 of request 05), each with its place.
 
 use std::fmt;
 

@@ -1,6 +1,7 @@
 //! The state of a run, and settling, which takes no step.
 
-use crate::kinds::{ALT, ASSIGNMENT, IF, INPUT, OUTPUT, PAR, SEQ, SKIP, WHILE};
+use crate::kinds::{ALT, ASSIGNMENT, BLOCK, IF, INPUT, OUTPUT, PAR, SEQ, SKIP, WHILE};
+use crate::limits::Part;
 use crate::program::{Above, Program};
 use crate::table::ROWS;
 use crate::values::Reason;
@@ -129,7 +130,8 @@ impl State {
         }
     }
 
-    /// A started process is running; a SKIP ends, a SEQ starts its first member, a PAR starts all.
+    /// A started process is running; a SKIP ends, a SEQ starts its first member, a PAR starts all,
+    /// a block unsets the cells of its variable and starts its process.
     fn settle_started(&mut self, program: &Program, row: usize, pending: &mut Vec<Change>) {
         self.rows[row] = RUNNING;
         match program.rows[row].kind {
@@ -144,9 +146,18 @@ impl State {
                 let all = program.list_of(row);
                 pending.extend(all.map(|member| Change::Started(program.process_of(member))));
             }
+            BLOCK => {
+                self.unset_cells(program.part_named_by(row));
+                pending.push(Change::Started(program.process_within(row)));
+            }
             ASSIGNMENT | INPUT | OUTPUT | IF | WHILE | ALT => self.may_step.add(row),
             _ => {}
         }
+    }
+
+    /// "Starting it unsets all cells of the variable".
+    fn unset_cells(&mut self, variable: Part) {
+        self.cells[variable.cells()].fill(None);
     }
 
     /// An ended process lets what is above it go on: the next member, the end, or the next test.
@@ -165,7 +176,7 @@ impl State {
                     pending.push(Change::Ended(par));
                 }
             }
-            Above::Chooser { row } => pending.push(Change::Ended(row)),
+            Above::Chooser { row } | Above::Block { row } => pending.push(Change::Ended(row)),
             Above::While { row } => {
                 for &beneath in program.processes_beneath(row) {
                     self.rows[beneath] = IDLE;

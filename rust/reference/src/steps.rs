@@ -260,7 +260,7 @@ pub fn take_step(program: &Program, readings: &Readings, state: &mut State, step
         Step::Test { row } => match is_true(program, &state.cells, program.rows[row].a as usize) {
             Ok(true) => {
                 state.has_chosen(row);
-                state.start_process(program, program.rows[row].b as usize);
+                state.start_process(program, program.process_within(row));
             }
             Ok(false) => state.end_process(program, row),
             Err(reason) => state.stop_process(row, reason),

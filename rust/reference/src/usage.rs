@@ -1,6 +1,6 @@
 //! Usage in a PAR: no clash of cells, inputs or outputs between components (refusals 7, 8, 9).
 
-use crate::kinds::{fields_of, Field, ASSIGNMENT, ELEMENT, INPUT, LITERAL, OUTPUT, PAR};
+use crate::kinds::{rows_referred_to, ASSIGNMENT, ELEMENT, INPUT, LITERAL, OUTPUT, PAR};
 use crate::limits::{Layout, Part};
 use crate::refusal::Refusal;
 use crate::table::Row;
@@ -92,17 +92,6 @@ fn usages_of(rows: &[Row], layout: &Layout) -> Vec<Usage> {
         usages[index] = usage;
     }
     usages
-}
-
-/// The rows a row of an accepted tree refers to.
-fn rows_referred_to(row: &Row) -> impl Iterator<Item = usize> {
-    let fields = fields_of(row.kind).into_iter().flatten();
-    fields
-        .zip(row.fields())
-        .filter_map(|(field, number)| match field {
-            Field::Refers(_) | Field::RefersOrNone(_) => usize::try_from(number).ok(),
-            _ => None,
-        })
 }
 
 /// What the row itself changes, uses, inputs from or outputs to.

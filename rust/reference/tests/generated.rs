@@ -2,7 +2,7 @@
 
 use reference::explore::{explore, Finding};
 use reference::generate::{generate, input, small_input, Aim};
-use reference::kinds::{ALT, INNER, INPUT};
+use reference::kinds::{ALT, BLOCK, INNER, INPUT};
 use reference::printing::{printed, split_input};
 use reference::program::Program;
 use reference::sheet::{readings_of_bytes, Readings};
@@ -52,7 +52,10 @@ fn inputs_are_mixed_and_none_panics() {
         let (table, sheet, choices, budget) = input(seed);
         answer_bytes(&table, &sheet, &choices, budget, BUFFER_LENGTHS)
     });
-    assert_mixed(&count_answers(answers), &[2, 3, 4, 5, 6, 7, 8, 9, 10, 11]);
+    assert_mixed(
+        &count_answers(answers),
+        &[2, 3, 4, 5, 6, 7, 8, 9, 10, 11, 14],
+    );
 }
 
 #[test]
@@ -66,7 +69,7 @@ fn small_inputs_are_mixed_and_small() {
         }
         answer
     });
-    assert_mixed(&count_answers(answers), &[2, 4, 5, 6, 7, 8, 9, 10, 11]);
+    assert_mixed(&count_answers(answers), &[2, 4, 5, 6, 7, 8, 9, 10, 11, 14]);
 }
 
 #[test]
@@ -103,6 +106,11 @@ fn accepted(seed: u64, aim: Aim) -> Option<(Program, Readings)> {
 
 /// Takes the steps of one order, at most 40, and tells each.
 fn follow(program: &Program, readings: &Readings, mut tell: impl FnMut(Step)) {
+    follow_states(program, readings, |step, _| tell(step));
+}
+
+/// Takes the steps of one order, at most 40, and tells each with the state that it leaves.
+fn follow_states(program: &Program, readings: &Readings, mut tell: impl FnMut(Step, &State)) {
     let mut state = State::start(program);
     let mut ready = Vec::new();
     for step_number in 0..40 {
@@ -112,7 +120,7 @@ fn follow(program: &Program, readings: &Readings, mut tell: impl FnMut(Step)) {
         }
         let step = ready[step_number % ready.len()];
         take_step(program, readings, &mut state, step);
-        tell(step);
+        tell(step, &state);
     }
 }
 
@@ -153,6 +161,25 @@ fn passes_absence(program: &Program, readings: &Readings) -> bool {
     let mut passes = false;
     follow(program, readings, |step| passes |= step.passes_absence());
     passes
+}
+
+/// Whether a block's start unsets a cell that was set, in one order of at most 40 steps. No step
+/// without an input unsets a cell in any other way.
+fn begins_without_its_value(program: &Program, readings: &Readings) -> bool {
+    let mut before = State::start(program).cells;
+    let mut begins = false;
+    let mut seen = |step: Step, after: &State| {
+        let takes = match step {
+            Step::Input { .. } => true,
+            Step::Option { passing, .. } => passing.is_some(),
+            _ => false,
+        };
+        let mut cells = before.iter().zip(&after.cells);
+        begins |= !takes && cells.any(|(before, after)| before.is_some() && after.is_none());
+        before.clone_from(&after.cells);
+    };
+    follow_states(program, readings, &mut seen);
+    begins
 }
 
 /// The sort of a step.
@@ -267,7 +294,8 @@ fn without_alt_all_orders_agree() {
     let mut agreeing = 0;
     let mut with_choice = 0;
     let mut with_absence = 0;
-    for seed in 0..800 {
+    let mut with_block = 0;
+    for seed in 0..1_000 {
         let input = generate(seed, true, Some(Aim::WithoutAlt));
         let (table, sheet) = split_input(&input.bytes);
         let Some((program, readings)) = accepted(seed, Aim::WithoutAlt) else {
@@ -284,6 +312,7 @@ fn without_alt_all_orders_agree() {
                 agreeing += 1;
                 with_choice += u32::from(orders > 1);
                 with_absence += u32::from(orders > 1 && passes_absence(&program, &readings));
+                with_block += u32::from(orders > 1 && has_block(&program));
                 let run = answer_bytes(table, sheet, &[], BUDGET_LIMIT, BUFFER_LENGTHS);
                 let Answer::Ran(run) = run else {
                     panic!("refused after it was explored: seed {seed}");
@@ -294,9 +323,33 @@ fn without_alt_all_orders_agree() {
         }
     }
     assert!(
-        agreeing >= 300 && with_choice >= 100 && with_absence >= 40,
-        "{agreeing} {with_choice} {with_absence}"
+        agreeing >= 300 && with_choice >= 100 && with_absence >= 40 && with_block >= 60,
+        "{agreeing} {with_choice} {with_absence} {with_block}"
     );
+}
+
+/// Whether a table has a block.
+fn has_block(program: &Program) -> bool {
+    program.rows.iter().any(|row| row.kind == BLOCK)
+}
+
+#[test]
+fn generated_blocks_begin_again() {
+    let (mut blocks, mut beginning) = (0, 0);
+    for seed in 0..800 {
+        let aim = match seed % 2 {
+            0 => Aim::Accepted,
+            _ => Aim::WithoutAlt,
+        };
+        let Some((program, readings)) = accepted(seed, aim) else {
+            continue;
+        };
+        blocks += u32::from(has_block(&program));
+        let begins = begins_without_its_value(&program, &readings);
+        assert!(has_block(&program) || !begins, "seed {seed}");
+        beginning += u32::from(begins);
+    }
+    assert!(blocks >= 300 && beginning >= 40, "{blocks} {beginning}");
 }
 
 #[test]

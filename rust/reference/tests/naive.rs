@@ -3,8 +3,8 @@
 
 use reference::generate::{generate, Aim};
 use reference::kinds::{
-    fields_of, Field, ALT, ASSIGNMENT, ELEMENT, FROM_HOST, GUARD, IF, INNER, INPUT, OUTPUT, PAR,
-    SEQ, SKIP, TO_HOST, WHILE,
+    fields_of, Field, ALT, ASSIGNMENT, BLOCK, ELEMENT, FROM_HOST, GUARD, IF, INNER, INPUT, OUTPUT,
+    PAR, SEQ, SKIP, TO_HOST, WHILE,
 };
 use reference::printing::split_input;
 use reference::program::Program;
@@ -38,9 +38,28 @@ fn processes(program: &Program, row: usize) -> Vec<usize> {
         .collect()
 }
 
+/// The cells, and the state of each row.
+#[derive(Clone, PartialEq, Eq, Debug)]
+struct Both {
+    cells: Vec<Option<i32>>,
+    states: Vec<u8>,
+}
+
+/// Starts a process: it is running, and a block's start unsets all cells of its variable.
+fn start(program: &Program, both: &mut Both, process: usize) {
+    both.states[process] = 1;
+    if program.rows[process].kind == BLOCK {
+        let variable = program.part_named_by(process);
+        for number in 0..variable.length {
+            both.cells[variable.first + number] = None;
+        }
+    }
+}
+
 /// Applies one settling rule to one running row, if one applies.
-fn settle_once(program: &Program, states: &mut [u8]) -> bool {
-    for row in 0..states.len() {
+fn settle_once(program: &Program, both: &mut Both) -> bool {
+    for row in 0..both.states.len() {
+        let states = &mut both.states;
         if states[row] != 1 {
             continue;
         }
@@ -55,12 +74,12 @@ fn settle_once(program: &Program, states: &mut [u8]) -> bool {
             SEQ => {
                 let live = list.iter().find(|&&process| states[process] != 2);
                 match live {
-                    Some(&process) if states[process] == 0 => states[process] = 1,
+                    Some(&process) if states[process] == 0 => start(program, both, process),
                     _ => continue,
                 }
             }
             PAR => match list.iter().find(|&&process| states[process] == 0) {
-                Some(&process) => states[process] = 1,
+                Some(&process) => start(program, both, process),
                 None => continue,
             },
             IF | ALT if list.iter().any(|&process| states[process] == 2) => states[row] = 2,
@@ -68,6 +87,10 @@ fn settle_once(program: &Program, states: &mut [u8]) -> bool {
                 for lower in beneath(program, row) {
                     states[lower] = 0;
                 }
+            }
+            BLOCK if states[program.rows[row].b as usize] == 2 => states[row] = 2,
+            BLOCK if states[program.rows[row].b as usize] == 0 => {
+                start(program, both, program.rows[row].b as usize);
             }
             _ => continue,
         }
@@ -77,8 +100,8 @@ fn settle_once(program: &Program, states: &mut [u8]) -> bool {
 }
 
 /// Settles by the rules until none applies.
-fn settle(program: &Program, states: &mut [u8]) {
-    while settle_once(program, states) {}
+fn settle(program: &Program, both: &mut Both) {
+    while settle_once(program, both) {}
 }
 
 /// The role of the channel that an input or output names.
@@ -204,54 +227,87 @@ fn ready_rows(program: &Program, readings: &Readings, state: &State) -> Vec<usiz
     rows
 }
 
-/// The row states that a step leaves, before and after settling.
-fn states_after(program: &Program, state: &State, step: &Step) -> Vec<u8> {
-    let mut states = state.rows.clone();
+/// What an output passes: its element, set or not, or its expression's value.
+fn passed(program: &Program, cells: &[Option<i32>], output: usize) -> Option<i32> {
+    let expression = program.rows[output].c as usize;
+    match program.rows[expression].kind {
+        ELEMENT => number_named(program, cells, expression).map_or(None, |cell| cells[cell]),
+        _ => value(program, cells, expression).ok(),
+    }
+}
+
+/// An input takes place: its target gets a reading or what the other side passes, which ends.
+fn take_in(program: &Program, readings: &Readings, state: &State, both: &mut Both, input: usize) {
+    let target = number_named(program, &state.cells, program.rows[input].c as usize);
+    let target = target.expect("an input that takes place has its target");
+    if role(program, input) == FROM_HOST {
+        let channel = program.layout.host_number[program.rows[input].a as usize];
+        both.cells[target] = readings.reading(state.places[channel], channel);
+    }
+    for output in partners(program, state, input) {
+        both.cells[target] = passed(program, &state.cells, output);
+        both.states[output] = 2;
+    }
+}
+
+/// The cells and row states that a step leaves after settling.
+fn after(program: &Program, readings: &Readings, state: &State, step: &Step) -> Both {
+    let mut both = Both {
+        cells: state.cells.clone(),
+        states: state.rows.clone(),
+    };
     let cells = &state.cells;
     let stopped = |reason: Reason| 10 + reason.number();
     match *step {
         Step::Assignment { row } => {
-            let done = number_named(program, cells, row)
-                .and_then(|_| value(program, cells, program.rows[row].c as usize));
-            states[row] = done.map_or_else(stopped, |_| 2);
+            let done = number_named(program, cells, row).and_then(|cell| {
+                let value = value(program, cells, program.rows[row].c as usize)?;
+                both.cells[cell] = Some(value);
+                Ok(cell)
+            });
+            both.states[row] = done.map_or_else(stopped, |_| 2);
         }
         Step::Test { row } => match is_true(program, cells, program.rows[row].a as usize) {
-            Ok(true) => states[program.rows[row].b as usize] = 1,
-            Ok(false) => states[row] = 2,
-            Err(reason) => states[row] = stopped(reason),
+            Ok(true) => start(program, &mut both, program.rows[row].b as usize),
+            Ok(false) => both.states[row] = 2,
+            Err(reason) => both.states[row] = stopped(reason),
         },
-        Step::Choice { process, .. } => states[process] = 1,
+        Step::Choice { process, .. } => start(program, &mut both, process),
         Step::Input { row, .. } => {
-            states[row] = 2;
-            for output in partners(program, state, row) {
-                states[output] = 2;
-            }
+            take_in(program, readings, state, &mut both, row);
+            both.states[row] = 2;
         }
-        Step::HostWrite { row, .. } => states[row] = 2,
+        Step::HostWrite { row, .. } => both.states[row] = 2,
         Step::Option {
             option, passing, ..
         } => {
-            states[program.rows[option].a as usize] = 1;
             if passing.is_some() {
                 let guard = &program.rows[program.rows[option].c as usize];
                 let input = match guard.kind {
                     GUARD => guard.b as usize,
                     _ => program.rows[option].c as usize,
                 };
-                for output in partners(program, state, input) {
-                    states[output] = 2;
-                }
+                take_in(program, readings, state, &mut both, input);
             }
+            start(program, &mut both, program.rows[option].a as usize);
         }
-        Step::Stop { row, reason } => states[row] = stopped(reason),
+        Step::Stop { row, reason } => both.states[row] = stopped(reason),
     }
-    settle(program, &mut states);
-    states
+    settle(program, &mut both);
+    both
 }
 
 /// The choice for a step of the order that is followed.
 fn choice(seed: u64, taken: usize) -> u16 {
     (taken * 31 + seed as usize) as u16
+}
+
+/// The cells and row states of a state of the fast machine.
+fn both(state: &State) -> Both {
+    Both {
+        cells: state.cells.clone(),
+        states: state.rows.clone(),
+    }
 }
 
 /// Follows one order of an input of the sheet runner with both machines, and runs it with every
@@ -261,10 +317,13 @@ fn follow(what: &str, seed: u64, input: &[u8], most: usize) -> Option<usize> {
     let program = check_bytes(table).ok()?;
     let readings = readings_of_bytes(sheet, &program.layout.readings).ok()?;
     let mut state = State::start(&program);
-    let mut started = vec![0; program.rows.len()];
-    started[program.root] = 1;
+    let mut started = Both {
+        cells: vec![None; state.cells.len()],
+        states: vec![0; program.rows.len()],
+    };
+    start(&program, &mut started, program.root);
     settle(&program, &mut started);
-    assert_eq!(state.rows, started, "{what}");
+    assert_eq!(both(&state), started, "{what}");
     let mut ready = Vec::new();
     let choices: Vec<u16> = (0..most).map(|taken| choice(seed, taken)).collect();
     for taken in 0..most {
@@ -280,9 +339,9 @@ fn follow(what: &str, seed: u64, input: &[u8], most: usize) -> Option<usize> {
             return Some(taken);
         }
         let step = ready[usize::from(choices[taken]) % ready.len()];
-        let states = states_after(&program, &state, &step);
+        let slow = after(&program, &readings, &state, &step);
         take_step(&program, &readings, &mut state, step);
-        assert_eq!(state.rows, states, "{what} after step {taken}");
+        assert_eq!(both(&state), slow, "{what} after step {taken}");
     }
     Some(most)
 }

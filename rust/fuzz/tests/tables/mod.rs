@@ -143,6 +143,45 @@ pub fn deep_pars_in_a_loop() -> Vec<[i32; 4]> {
     rows
 }
 
+/// A loop around blocks in one another, each of a variable of its own and with a PAR beneath it, with
+/// an assignment innermost: 1,005 rows.
+pub fn deep_blocks_in_a_loop() -> Vec<[i32; 4]> {
+    let mut rows = vec![[1, 1, 0, 0]; 250];
+    rows.extend([[33, 251, 252, 0], [10, 1, 0, 0]]);
+    for variable in 0..250 {
+        let row = rows.len() as i32;
+        rows.extend([
+            [35, variable, row + 1, 0],
+            [31, row + 2, 0, 0],
+            [40, row + 3, -1, 0],
+        ]);
+    }
+    let last = rows.len() as i32;
+    rows.extend([[22, 100, last + 1, last + 2], [10, 0, 0, 0], [10, 7, 0, 0]]);
+    rows
+}
+
+/// A PAR of four loops, each around a block of 64 cells that sets the last one in each pass.
+pub fn blocks_of_all_cells() -> Vec<[i32; 4]> {
+    let mut rows = vec![[1, 64, 0, 0]; 4];
+    rows.push([31, 5, 0, 0]);
+    let mut links = Vec::new();
+    for variable in 0..4 {
+        member(&mut rows, &mut links, |r| {
+            vec![
+                [33, r + 1, r + 2, 0],
+                [10, 1, 0, 0],
+                [35, variable, r + 3, 0],
+                [22, variable, r + 4, r + 5],
+                [10, 63, 0, 0],
+                [10, variable, 0, 0],
+            ]
+        });
+    }
+    tie(&mut rows, &links);
+    rows
+}
+
 /// A SEQ or PAR of as many SKIPs as a table can have, in a loop.
 pub fn wide_in_a_loop(outer: i32) -> Vec<[i32; 4]> {
     let mut rows = vec![[33, 1, 2, 0], [10, 1, 0, 0], [outer, 3, 0, 0]];

@@ -37,7 +37,8 @@ impl Maker<'_> {
                 false => self.boolean(rights),
             };
             let mut inside = rights.clone();
-            choices.push((self.process(&mut inside, depth), Slot::Node(boolean)));
+            let process = self.process_or_block(&mut inside, depth);
+            choices.push((process, Slot::Node(boolean)));
             parts.push(inside);
         }
         rights.join(&parts);
@@ -84,7 +85,7 @@ impl Maker<'_> {
                 )
             }
         };
-        let process = self.process(&mut inside, depth);
+        let process = self.process_or_block(&mut inside, depth);
         rights.join(&[inside]);
         (process, guard)
     }

@@ -24,6 +24,7 @@ impl Maker<'_> {
             return self.par(&members);
         }
         let mut parts = self.part_rights(rights, count);
+        let locals = self.locals_of(&mut parts);
         let mut actions: Vec<Vec<usize>> = vec![Vec::new(); count];
         self.clashing_pair(&mut parts, &mut actions);
         let (least, most) = if self.style.size > 40 {
@@ -58,10 +59,25 @@ impl Maker<'_> {
         }
         let members: Vec<usize> = actions
             .iter()
-            .map(|of_one| self.one_or_seq(of_one))
+            .zip(locals)
+            .map(|(of_one, local)| {
+                let process = self.one_or_seq(of_one);
+                self.within(local, process)
+            })
             .collect();
         rights.join(&parts);
         self.par(&members)
+    }
+
+    /// For each component of a PAR at times a local, which it may use.
+    fn locals_of(&mut self, parts: &mut [Rights]) -> Vec<Option<Part>> {
+        let mut locals = Vec::new();
+        for part in parts {
+            let local = self.some_local(30);
+            local.into_iter().for_each(|local| part.begin(local));
+            locals.push(local);
+        }
+        locals
     }
 
     /// The rights of a PAR's components, at times shared as the style says.
@@ -97,7 +113,7 @@ impl Maker<'_> {
     }
 
     /// A single process as it is, others as a SEQ.
-    fn one_or_seq(&mut self, processes: &[usize]) -> usize {
+    pub fn one_or_seq(&mut self, processes: &[usize]) -> usize {
         match processes {
             [process] => *process,
             _ => self.seq(processes),
@@ -160,7 +176,13 @@ impl Maker<'_> {
         }
         parts[receiver].join(&[inside]);
         let alt = self.list(ALT, OPTION, options);
-        let serving = self.counted(&mut parts[receiver], counter, passages.len() as i32, alt);
+        let serving = self.counted(
+            &mut parts[receiver],
+            counter,
+            passages.len() as i32,
+            alt,
+            None,
+        );
         actions[receiver].push(serving);
         true
     }
@@ -203,7 +225,7 @@ impl Maker<'_> {
             inside.change[counter] = false;
             let input = self.input_from(&mut inside, element)?;
             rights.join(&[inside]);
-            return Some(self.counted(rights, counter, times, input));
+            return Some(self.counted(rights, counter, times, input, None));
         }
         if self.style.alt && self.random.chance(60) {
             let input = self.input_from(rights, element)?;
@@ -225,7 +247,7 @@ impl Maker<'_> {
             if let Some(counter) = self.counter(rights) {
                 rights.set[counter] = true;
                 let output = self.output_to(rights, element);
-                return self.counted(rights, counter, times, output);
+                return self.counted(rights, counter, times, output, None);
             }
         }
         let outputs: Vec<usize> = (0..times)

@@ -1,10 +1,10 @@
-//! Damage to good tables: one function for each refusal of rows (4, 5, 6) and for mutations.
+//! Damage to good tables: one function for each refusal of rows (4, 5, 6, 14) and for mutations.
 
 use super::random::Random;
 use crate::kinds::{
-    declaration_count, fields_of, Field, ALT, CHANNEL, CHOICE, DYADIC, ELEMENT, FROM_HOST, GIVEN,
-    GUARD, IF, INNER, INPUT, LITERAL, MEMBER, MONADIC, OPTION, OUTPUT, PAR, SEQ, SKIP, TO_HOST,
-    VARIABLE, WHILE,
+    declaration_count, fields_of, Field, ALT, ASSIGNMENT, BLOCK, CHANNEL, CHOICE, DYADIC, ELEMENT,
+    FROM_HOST, GIVEN, GUARD, IF, INNER, INPUT, LITERAL, MEMBER, MONADIC, OPTION, OUTPUT, PAR,
+    PROCESS, SEQ, SKIP, TO_HOST, VARIABLE, WHILE,
 };
 use crate::table::Row;
 
@@ -47,7 +47,8 @@ pub fn damage_kinds(random: &mut Random, rows: &mut Vec<Row>) {
                 19,
                 25,
                 29,
-                35,
+                36,
+                38,
                 39,
                 44,
                 -1,
@@ -223,6 +224,65 @@ pub fn damage_limits(random: &mut Random, rows: &mut Vec<Row>) {
     }
 }
 
+/// Gives a table a block as root, a second block of a name, or a name outside its block: refused
+/// as 14.
+pub fn damage_blocks(random: &mut Random, rows: &mut Vec<Row>) {
+    if !rows.iter().any(|row| row.kind == VARIABLE) {
+        insert_declaration(rows, 0, Row::new(VARIABLE, 1, 0, 0));
+    }
+    let block = random.pick_where(rows.len(), |row| rows[row].kind == BLOCK);
+    let local = block.map(|row| rows[row].a);
+    match (random.below(8), local) {
+        (0, _) => {
+            let variable = some_variable(random, rows);
+            wrap(rows, declaration_count(rows), variable);
+        }
+        (1..=3, Some(local)) => wrap_some_process(random, rows, local),
+        (4..=6, Some(local)) => name_anywhere(random, rows, local),
+        _ => {
+            let variable = some_variable(random, rows);
+            wrap_some_process(random, rows, variable);
+        }
+    }
+}
+
+/// Some declared variable.
+fn some_variable(random: &mut Random, rows: &[Row]) -> i32 {
+    let variable = random.pick_where(rows.len(), |row| rows[row].kind == VARIABLE);
+    variable.unwrap_or(0) as i32
+}
+
+/// Makes some element or assignment name this variable.
+fn name_anywhere(random: &mut Random, rows: &mut [Row], variable: i32) {
+    let names = |row: usize| matches!(rows[row].kind, ELEMENT | ASSIGNMENT);
+    if let Some(row) = random.pick_where(rows.len(), names) {
+        rows[row].a = variable;
+    }
+}
+
+/// Puts some process, not the root, into a block of this variable.
+fn wrap_some_process(random: &mut Random, rows: &mut Vec<Row>, variable: i32) {
+    let root = declaration_count(rows);
+    let process = |row: usize| row > root && PROCESS.contains(&rows[row].kind);
+    if let Some(row) = random.pick_where(rows.len(), process) {
+        wrap(rows, row, variable);
+    }
+}
+
+/// Puts the process in a row into a block of this variable, which takes its row.
+fn wrap(rows: &mut Vec<Row>, place: usize, variable: i32) {
+    for row in rows.iter_mut() {
+        for (number, field) in fields_of(row.kind).into_iter().flatten().enumerate() {
+            let old = row.fields()[number];
+            let refers = matches!(field, Field::Refers(_) | Field::RefersOrNone(_));
+            if refers && old > place as i32 {
+                set_field(row, number, old.saturating_add(1));
+            }
+        }
+    }
+    rows.insert(place, Row::new(BLOCK, variable, place as i32 + 1, 0));
+}
+
 /// Inserts a declaration at a row, moving all names and references.
 pub fn insert_declaration(rows: &mut Vec<Row>, place: usize, declaration: Row) {
     for row in rows.iter_mut() {
@@ -248,7 +308,7 @@ pub fn mutate_rows(random: &mut Random, rows: &mut Vec<Row>) {
         0 => {
             let kinds = [
                 LITERAL, ELEMENT, MONADIC, DYADIC, SKIP, INPUT, OUTPUT, SEQ, PAR, IF, WHILE, ALT,
-                MEMBER, CHOICE, OPTION, GUARD,
+                BLOCK, MEMBER, CHOICE, OPTION, GUARD,
             ];
             rows[row].kind = random.pick(&kinds);
         }

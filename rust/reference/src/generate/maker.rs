@@ -4,9 +4,9 @@ use super::random::Random;
 use super::rights::{Rights, Share};
 use super::tree::{Slot, Tree};
 use crate::kinds::{
-    ALT, CHANNEL, FROM_HOST, IF, INNER, MEMBER, PAR, SEQ, STOP, TO_HOST, VARIABLE, WHILE,
+    ALT, BLOCK, CHANNEL, FROM_HOST, IF, INNER, MEMBER, PAR, SEQ, STOP, TO_HOST, VARIABLE, WHILE,
 };
-use crate::limits::{check_limits, Layout};
+use crate::limits::{check_limits, Layout, Part};
 use crate::table::Row;
 
 const NOTHING: Slot = Slot::Number(0);
@@ -25,6 +25,8 @@ pub struct Style {
     pub first: i32,
     /// Whether ALTs may be in it.
     pub alt: bool,
+    /// How many variables are kept for blocks.
+    pub locals: usize,
     /// What components of a PAR share in spite of the usage rules.
     pub share: Share,
 }
@@ -35,6 +37,8 @@ pub struct Maker<'r> {
     pub tree: Tree,
     pub declarations: Vec<Row>,
     pub layout: Layout,
+    /// The variables that have no block yet and are used nowhere.
+    pub locals: Vec<Part>,
     pub style: Style,
 }
 
@@ -42,12 +46,16 @@ pub struct Maker<'r> {
 pub fn program(random: &mut Random, style: Style) -> Vec<Row> {
     let declarations = declarations(random, style);
     let layout = check_limits(&declarations).unwrap_or_default();
+    let mut locals = layout.variables.clone();
+    random.shuffle(&mut locals);
+    locals.truncate(style.locals);
     let tree = Tree::default();
     let mut maker = Maker {
         random,
         tree,
         declarations,
         layout,
+        locals,
         style,
     };
     let root = maker.root();
@@ -61,7 +69,7 @@ pub fn program(random: &mut Random, style: Style) -> Vec<Row> {
 fn declarations(random: &mut Random, style: Style) -> Vec<Row> {
     let many = if style.size > 60 { 2 } else { 1 };
     let mut rows = Vec::new();
-    for _ in 0..random.between(2, 2 + 2 * many) {
+    for _ in 0..style.locals + random.between(2, 2 + 2 * many) {
         let cells = random.pick(&[1, 1, 1, 2, 3, 5]);
         rows.push(Row::new(VARIABLE, cells, 0, 0));
     }
@@ -84,8 +92,15 @@ impl Maker<'_> {
     /// The root: mostly a SEQ that sets some cells and goes on.
     fn root(&mut self) -> usize {
         let mut rights = Rights::all(self.cell_count(), self.element_count());
+        for &local in &self.locals {
+            rights.forbid(local);
+        }
         if self.random.chance(8) {
-            return self.process(&mut rights, 3);
+            let process = self.process(&mut rights, 3);
+            return match self.tree.kind(process) {
+                BLOCK => self.seq(&[process]),
+                _ => process,
+            };
         }
         let mut members = Vec::new();
         for _ in 0..self.random.below(if self.style.size > 40 { 4 } else { 2 }) {
@@ -126,6 +141,9 @@ impl Maker<'_> {
     pub fn process(&mut self, rights: &mut Rights, depth: usize) -> usize {
         if depth == 0 || !self.has_room() || self.random.chance(30) {
             return self.simple(rights);
+        }
+        if let Some(local) = self.some_local(25) {
+            return self.block(rights, local, depth - 1);
         }
         match self.random.below(20) {
             0..=3 => self.sequence(rights, depth - 1),

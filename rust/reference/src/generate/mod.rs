@@ -1,5 +1,6 @@
 //! Generated inputs: good and damaged tables, sheets, choices and budgets, from a seed alone.
 
+mod blocks;
 mod choices;
 mod communications;
 mod damage;
@@ -35,7 +36,7 @@ pub enum Aim {
     WithoutAlt,
     /// An accepted table of an unusual shape: deep, long, or at a limit.
     Shape,
-    /// The refusal of this number, 2 to 11.
+    /// The refusal of this number, 2 to 11 or 14.
     Refusal(u8),
     /// Random changes to rows or bytes.
     Mutated,
@@ -154,9 +155,9 @@ fn some_aim(random: &mut Random, small: bool) -> Aim {
         47..=50 => Aim::Shape,
         51..=84 => {
             let numbers: &[u8] = if small {
-                &[2, 4, 4, 5, 5, 6, 7, 8, 9, 10, 11]
+                &[2, 4, 4, 5, 5, 6, 7, 8, 9, 10, 11, 14]
             } else {
-                &[2, 2, 3, 4, 4, 5, 5, 6, 7, 7, 8, 9, 10, 10, 11]
+                &[2, 2, 3, 4, 4, 5, 5, 6, 7, 7, 8, 9, 10, 10, 11, 14]
             };
             Aim::Refusal(random.pick(numbers))
         }
@@ -204,6 +205,7 @@ fn attempt(random: &mut Random, plan: Plan) -> Input {
         Aim::Refusal(4) => damage::damage_kinds(random, &mut rows),
         Aim::Refusal(5) => damage::damage_references(random, &mut rows),
         Aim::Refusal(6) => damage::damage_limits(random, &mut rows),
+        Aim::Refusal(14) => damage::damage_blocks(random, &mut rows),
         Aim::Mutated if random.chance(50) => damage::mutate_rows(random, &mut rows),
         _ => {}
     }
@@ -238,8 +240,14 @@ fn some_rows(random: &mut Random, plan: Plan) -> Vec<Row> {
         let length = random.between(most / 2, most);
         return shapes::shape(random, length);
     }
+    let locals = match small {
+        true => random.pick(&[0, 0, 1, 2]),
+        false => random.pick(&[0, 0, 1, 2, 3, 5]),
+    };
     let first = match (aim, plan.first) {
-        (Aim::Refusal(7..=9), _) | (Aim::WithoutAlt, ALT | SEQ) => PAR,
+        (Aim::Refusal(7..=9), _) => PAR,
+        _ if locals > 0 && random.chance(20) => WHILE,
+        (Aim::WithoutAlt, ALT | SEQ) => PAR,
         (_, first) => first,
     };
     let shared = |number| matches!(aim, Aim::Refusal(aimed) if aimed == number);
@@ -259,6 +267,7 @@ fn some_rows(random: &mut Random, plan: Plan) -> Vec<Row> {
         depth: if small { 1 } else { random.between(1, 3) },
         first,
         alt,
+        locals,
         share: Share {
             cells: shared(7),
             inputs: shared(8),

@@ -59,6 +59,40 @@ impl Rights {
         parts
     }
 
+    /// Forbids the cells of a variable.
+    pub fn forbid(&mut self, variable: Part) {
+        self.change[variable.cells()].fill(false);
+        self.read[variable.cells()].fill(false);
+    }
+
+    /// Allows all cells of a block's variable, which are unset at its start.
+    pub fn begin(&mut self, local: Part) {
+        self.change[local.cells()].fill(true);
+        self.read[local.cells()].fill(true);
+        self.set[local.cells()].fill(false);
+    }
+
+    /// The same rights, but to change this variable only.
+    pub fn changing_only(&self, variable: Part) -> Rights {
+        let mut narrowed = self.clone();
+        let others = |cell: &usize| !variable.cells().contains(cell);
+        for cell in (0..self.change.len()).filter(others) {
+            narrowed.change[cell] = false;
+        }
+        narrowed
+    }
+
+    /// The same rights, but to read this variable only, as if it were unset.
+    pub fn reading_only(&self, variable: Part) -> Rights {
+        let mut narrowed = self.clone();
+        let others = |cell: &usize| !variable.cells().contains(cell);
+        for cell in (0..self.read.len()).filter(others) {
+            narrowed.read[cell] = false;
+        }
+        narrowed.set[variable.cells()].fill(false);
+        narrowed
+    }
+
     /// Takes over which cells the components have set.
     pub fn join(&mut self, parts: &[Rights]) {
         for part in parts {

@@ -14,7 +14,9 @@ const NOTHING: Slot = Slot::Number(0);
 
 /// An accepted table of an unusual shape; `most` is about how many rows it may have.
 pub fn shape(random: &mut Random, most: usize) -> Vec<Row> {
+    let shape = random.below(10);
     let declarations = match random.below(4) {
+        _ if shape == 0 => many_variables(random, most),
         0 => at_the_limits(random),
         _ => vec![
             Row::new(VARIABLE, 64, 0, 0),
@@ -30,6 +32,7 @@ pub fn shape(random: &mut Random, most: usize) -> Vec<Row> {
         depth: 2,
         first: PAR,
         alt: true,
+        locals: 0,
         share: Share::default(),
     };
     let tree = Tree::default();
@@ -38,11 +41,13 @@ pub fn shape(random: &mut Random, most: usize) -> Vec<Row> {
         tree,
         declarations,
         layout,
+        locals: Vec::new(),
         style,
     };
     let most = most.saturating_sub(maker.declarations.len());
-    let root = match maker.random.below(9) {
-        0 => maker.deep_operands(most),
+    let root = match shape {
+        0 => maker.deep_blocks(),
+        9 => maker.deep_operands(most),
         1 => maker.deep_constructions(most),
         2 => maker.deep_choices(most),
         3 => maker.long_sequence(most),
@@ -56,6 +61,12 @@ pub fn shape(random: &mut Random, most: usize) -> Vec<Row> {
         tree, declarations, ..
     } = maker;
     tree.rows(&declarations, root, random)
+}
+
+/// Variables, each of which gets a block; at most as many as there can be cells.
+fn many_variables(random: &mut Random, most: usize) -> Vec<Row> {
+    let count = random.between(1, (most / 3).min(256));
+    vec![Row::new(VARIABLE, 1, 0, 0); count]
 }
 
 /// Declarations that reach the limits of cells, elements, host channels and capacities.
@@ -136,6 +147,22 @@ impl Maker<'_> {
             };
         }
         process
+    }
+
+    /// Blocks in each other, one for each variable, at times in a loop, around an assignment.
+    fn deep_blocks(&mut self) -> usize {
+        let variables = self.declarations.len();
+        let (zero, one) = (self.literal(0), self.literal(1));
+        let set = self.random.below(variables);
+        let mut process = self.assign(set, zero, one);
+        for variable in 0..variables {
+            process = self.block_of(variable, process);
+        }
+        if self.random.chance(30) {
+            let boolean = self.literal(1);
+            process = self.while_loop(boolean, process);
+        }
+        self.seq(&[process])
     }
 
     /// IFs in each other.

@@ -33,6 +33,11 @@ impl Tree {
         self.nodes.len() - 1
     }
 
+    /// The kind of a node.
+    pub fn kind(&self, node: usize) -> i32 {
+        self.nodes[node].kind
+    }
+
     /// How many nodes there are.
     pub fn node_count(&self) -> usize {
         self.nodes.len()

@@ -15,8 +15,11 @@ pub struct Meaning {
     pub help: &'static str,
 }
 
-/// The meanings of the refusals 1 to 11.
-const MEANINGS: [Meaning; 11] = [
+/// The numbers of the refusals: those of document 01, and that of blocks.
+const NUMBERS: [u8; 12] = [1, 2, 3, 4, 5, 6, 7, 8, 9, 10, 11, 14];
+
+/// The meanings of the refusals, in the order of their numbers.
+const MEANINGS: [Meaning; 12] = [
     Meaning {
         summary: "a lent buffer is too short",
         place: "0",
@@ -53,7 +56,7 @@ const MEANINGS: [Meaning; 11] = [
         summary: "a reference is wrong, or a row is not referred to exactly once",
         place: "the lowest row at fault; the count of rows if there is no root",
         advice: "The root is the first row after the declarations and must be a process, kind 20\n\
-                 to 34. Every reference goes to a higher row of the kind named (-1 only for\n\
+                 to 35. Every reference goes to a higher row of the kind named (-1 only for\n\
                  \"first\" and \"next\"). Every row after the root is referred to exactly once;\n\
                  wrong references are not counted.",
         help: "let every row after the root be referred to once, by a lower row that wants its kind",
@@ -104,11 +107,23 @@ const MEANINGS: [Meaning; 11] = [
         advice: "Ask for at most 65536 steps.",
         help: "ask for at most 65536 steps with --budget",
     },
+    Meaning {
+        summary: "a block is the root or a second one, or a name stands outside its block",
+        place: "the lowest row at fault",
+        advice: "A block, kind 35, is a process: when it starts, all cells of its variable are\n\
+                 unset. The root is no block. A variable has at most one block, the one in the\n\
+                 lowest row, and then every element (an input's target too) and assignment that\n\
+                 names the variable stands beneath that block.",
+        help: "give each variable one block at most, not as the root, with every row that names the variable beneath it",
+    },
 ];
 
-/// The meaning of a refusal; the library tells only 1 to 11.
+/// The meaning of a refusal; the library tells only these numbers.
 pub fn meaning(number: u8) -> &'static Meaning {
-    &MEANINGS[usize::from(number.clamp(1, 11)) - 1]
+    let at = NUMBERS.iter().position(|&other| other == number);
+    let at =
+        at.unwrap_or_else(|| panic!("the library told a refusal {number}, which no paper has"));
+    &MEANINGS[at]
 }
 
 /// The command: one number, or all of them in one line each.
@@ -119,9 +134,9 @@ pub fn command(words: &[String]) -> Result<Report, String> {
     }
     let word = arguments.only("NUMBER")?;
     match word.parse() {
-        Ok(number @ 1..=11) => Ok(Report::accepted(one(number))),
+        Ok(number) if NUMBERS.contains(&number) => Ok(Report::accepted(one(number))),
         _ => Err(format!(
-            "there is no refusal {word:?}; they are numbered 1 to 11"
+            "there is no refusal {word:?}; they are numbered 1 to 11 and 14"
         )),
     }
 }
@@ -130,7 +145,7 @@ pub fn command(words: &[String]) -> Result<Report, String> {
 fn all() -> String {
     let lines = MEANINGS
         .iter()
-        .zip(1..)
+        .zip(NUMBERS)
         .map(|(meaning, number)| format!("{number:2}  {}\n", meaning.summary));
     lines.collect()
 }

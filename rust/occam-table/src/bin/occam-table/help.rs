@@ -115,7 +115,7 @@ const EXPLAIN: &str = "\
 occam-table explain [NUMBER]
 
 Tells what a refusal means, what its place counts and what to look for; without a number it
-lists all eleven.
+lists all of them.
 
 Examples:
   occam-table explain 7

@@ -19,6 +19,7 @@ pub const PAR: i32 = 31;
 pub const IF: i32 = 32;
 pub const WHILE: i32 = 33;
 pub const ALT: i32 = 34;
+pub const BLOCK: i32 = 35;
 pub const MEMBER: i32 = 40;
 pub const CHOICE: i32 = 41;
 pub const OPTION: i32 = 42;
@@ -55,7 +56,7 @@ use Field::{Channel, Refers, RefersOrNone, Unused, Value, Variable, Within};
 
 const EXPRESSION: &[i32] = &[LITERAL, ELEMENT, MONADIC, DYADIC];
 pub const PROCESS: &[i32] = &[
-    STOP, SKIP, ASSIGNMENT, INPUT, OUTPUT, SEQ, PAR, IF, WHILE, ALT,
+    STOP, SKIP, ASSIGNMENT, INPUT, OUTPUT, SEQ, PAR, IF, WHILE, ALT, BLOCK,
 ];
 
 /// The name of a kind, and what its fields hold; none for an unknown kind.
@@ -141,6 +142,7 @@ pub fn kind_of(number: i32) -> Option<(&'static str, [Field; 3])> {
             "ALT",
             [RefersOrNone("first option", &[OPTION]), Unused, Unused],
         ),
+        BLOCK => ("block", [Variable, Refers("process", PROCESS), Unused]),
         MEMBER => (
             "member",
             [
@@ -226,7 +228,7 @@ impl Field {
 fn listed_kinds(kinds: &[i32]) -> String {
     match kinds {
         _ if kinds == EXPRESSION => "an expression (kind 10 to 13)".to_string(),
-        _ if kinds == PROCESS => "a process (kind 20 to 34)".to_string(),
+        _ if kinds == PROCESS => "a process (kind 20 to 35)".to_string(),
         _ => {
             let words: Vec<String> = kinds
                 .iter()

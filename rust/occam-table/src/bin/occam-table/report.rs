@@ -1,7 +1,7 @@
 //! What a command prints, and its exit status.
 
 use crate::explain::meaning;
-use crate::faults::{details, Given};
+use crate::faults::{details, help_about_blocks, Given};
 use occam_table::{read_rows, Refusal};
 
 /// What a command prints on standard output and beside it, and its exit status.
@@ -66,7 +66,7 @@ fn help_words(refusal: Refusal, given: &Given) -> &'static str {
             "leave out the line `=` and the readings after it: a table alone is wanted here"
         }
         (5, place) if place as usize == row_count(given) => {
-            "add a root: the first row after the declarations, a process (kind 20 to 34)"
+            "add a root: the first row after the declarations, a process (kind 20 to 35)"
         }
         (10, 0) => "shorten the sheet to at most 16384 bytes",
         (10, 1) if given.sheet.is_empty() => {
@@ -78,6 +78,7 @@ fn help_words(refusal: Refusal, given: &Given) -> &'static str {
              without such a channel it is one empty line"
         }
         (10, 130) => "leave out what comes after 128 lines of readings",
+        (14, place) => help_about_blocks(place as usize, given),
         (number, _) => meaning(number).help,
     }
 }
@@ -96,7 +97,7 @@ fn place_words(refusal: Refusal, given: &Given) -> String {
         10 if place > 0 => format!(", line {place} of the sheet"),
         3 => format!(", after {place} rows"),
         5 if place as usize == row_count(given) => format!(", after {place} rows"),
-        4..=9 => format!(", row {place}"),
+        4..=9 | 14 => format!(", row {place}"),
         _ => format!(", place {place}"),
     }
 }

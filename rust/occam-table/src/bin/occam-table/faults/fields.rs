@@ -11,7 +11,7 @@ pub fn at_fault(program: &Program, index: usize) -> Vec<String> {
     let row = &program.rows[index];
     if kind_of(row.kind).is_none() {
         return vec![format!(
-            "{} is no kind; expected 1, 2, 10 to 13, 20 to 24, 30 to 34 or 40 to 43",
+            "{} is no kind; expected 1, 2, 10 to 13, 20 to 24, 30 to 35 or 40 to 43",
             row.kind
         )];
     }

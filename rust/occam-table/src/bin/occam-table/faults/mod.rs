@@ -1,6 +1,7 @@
 //! What is wrong at the place of a refusal, in plain words. The library's answer is the number
 //! and the place; what is told here is looked up in the files, to help a person mend them.
 
+mod blocks;
 mod fields;
 mod limits;
 mod lines;
@@ -32,6 +33,12 @@ pub fn details(refusal: Refusal, given: &Given) -> Vec<String> {
     }
 }
 
+/// What to do about a refusal 14 at its place.
+pub fn help_about_blocks(place: usize, given: &Given) -> &'static str {
+    let rows = read_rows(given.table).unwrap_or_default();
+    blocks::help(&Program::new(&rows), place)
+}
+
 /// The rows of the channels from the host.
 fn channels(table: &[u8]) -> Vec<usize> {
     let rows = read_rows(table).unwrap_or_default();
@@ -53,6 +60,7 @@ fn of_rows(number: u8, place: usize, table: &[u8]) -> Vec<String> {
         5 => references::at_fault(&program, place),
         6 => limits::passed(&program, place),
         7..=9 => usage::clash(&program, place, number),
+        14 => blocks::at_fault(&program, place),
         _ => Vec::new(),
     };
     let shown = format!("row {place}, line {}: {row}", place + 2);
@@ -81,10 +89,11 @@ mod tests {
 
     #[test]
     fn something_is_found_at_every_place() {
-        let mut told = [0; 12];
+        let mut told = [0; 15];
         for seed in 0..1_200 {
-            let aim = match seed % 11 {
+            let aim = match seed % 12 {
                 0 => Aim::Mutated,
+                11 => Aim::Refusal(14),
                 number => Aim::Refusal(number as u8 + 1),
             };
             if let Some((refusal, words)) = refused(seed, aim, aim != Aim::Refusal(3)) {
@@ -98,7 +107,7 @@ mod tests {
                 assert!(words.len() >= least, "{seed}: {refusal:?}, {words:?}");
             }
         }
-        for number in 2..=11 {
+        for number in (2..=11).chain([14]) {
             assert!(told[number] > 40, "{number} seldom told: {told:?}");
         }
     }

@@ -6,7 +6,7 @@ use crate::program::Program;
 /// Words about a table without a root.
 pub fn no_root(program: &Program) -> Vec<String> {
     vec![format!(
-        "the table has {} rows and no process after its declarations; expected a root, kind 20 to 34",
+        "the table has {} rows and no process after its declarations; expected a root, kind 20 to 35",
         program.rows.len()
     )]
 }
@@ -16,7 +16,7 @@ pub fn at_fault(program: &Program, index: usize) -> Vec<String> {
     let row = &program.rows[index];
     let mut words = Vec::new();
     if index == program.declarations && !PROCESS.contains(&row.kind) {
-        words.push("it is the root; expected a process, kind 20 to 34".to_string());
+        words.push("it is the root; expected a process, kind 20 to 35".to_string());
     }
     for (at, field, number) in row.described() {
         if let Some((kinds, may_be_none)) = field.reference() {

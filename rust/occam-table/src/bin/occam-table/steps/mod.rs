@@ -38,7 +38,9 @@ fn story(asked: &Asked) -> Result<String, Refusal> {
         let number = state.steps + 1;
         let next = state_after(asked, &mut machine, number)?;
         let moved = moves::between(&program, &state, &next);
-        text += &format!("step {number}: {}\n", words::of_move(&program, &moved));
+        let unset = moves::unset_by_blocks(&program, &state, &next);
+        let told = words::of_move(&program, &moved) + &words::of_unset(&unset);
+        text += &format!("step {number}: {told}\n");
         state = next;
     }
     text += &end(&program, &state);

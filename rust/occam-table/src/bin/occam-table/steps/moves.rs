@@ -5,7 +5,9 @@
 //! row beneath it idle, and then it or a row beneath it has another state; only a WHILE whose
 //! body ends at once leaves no trace.
 
-use crate::kinds::{ALT, ASSIGNMENT, GUARD, IF, INPUT, OUTPUT, PAR, SEQ, SKIP, TO_HOST, WHILE};
+use crate::kinds::{
+    ALT, ASSIGNMENT, BLOCK, GUARD, IF, INPUT, OUTPUT, PAR, PROCESS, SEQ, SKIP, TO_HOST, WHILE,
+};
 use crate::program::Program;
 use crate::values::{subscript, value};
 use occam_table::{Reason, RowState, Snapshot};
@@ -89,6 +91,21 @@ pub fn between(program: &Program, before: &Snapshot, after: &Snapshot) -> Move {
                 .filter(|&row| look.is_idle_loop(row))
                 .collect(),
         })
+}
+
+/// The variables that had a value before and whose blocks a step started: their cells are unset.
+/// Such a block has a step of its own beneath it, so that it is not idle again after the step.
+pub fn unset_by_blocks(program: &Program, before: &Snapshot, after: &Snapshot) -> Vec<usize> {
+    let idle = |state: &Snapshot, row: usize| state.states[row] == RowState::Idle;
+    let starts =
+        |&row: &usize| program.rows[row].kind == BLOCK && idle(before, row) && !idle(after, row);
+    let blocks = (0..program.rows.len()).filter(starts);
+    let variables = blocks.filter_map(|row| usize::try_from(program.rows[row].a()).ok());
+    let had_value = |&variable: &usize| {
+        let mut cells = before.cells[program.part(variable)].iter();
+        cells.any(|cell| cell.is_some())
+    };
+    variables.filter(had_value).collect()
 }
 
 /// A look at two states.
@@ -321,13 +338,13 @@ impl Look<'_> {
     fn is_idle_loop(&self, row: usize) -> bool {
         let [boolean, body, _] = self.program.rows[row].fields;
         let held = value(self.program, &self.before.cells, boolean).is_some_and(|z| z != 0);
-        let process = |row: &usize| matches!(self.kind(*row), 20..=34);
+        let process = |row: &usize| PROCESS.contains(&self.kind(*row));
         let body = body as usize;
         let rows = std::iter::once(body).chain(self.program.beneath(body));
         self.kind(row) == WHILE
             && held
             && rows
                 .filter(process)
-                .all(|row| matches!(self.kind(row), SKIP | SEQ | PAR))
+                .all(|row| matches!(self.kind(row), SKIP | SEQ | PAR | BLOCK))
     }
 }

@@ -64,6 +64,13 @@ pub fn of_move(program: &Program, step: &Move) -> String {
     }
 }
 
+/// The words for variables whose values are gone because their blocks started.
+pub fn of_unset(variables: &[usize]) -> String {
+    let each = variables.iter();
+    each.map(|variable| format!("; variable {variable} is unset, since its block started"))
+        .collect()
+}
+
 /// A row and the name of its kind.
 pub fn row_words(program: &Program, row: usize) -> String {
     format!("row {row} ({})", kind_name(program.rows[row].kind))
