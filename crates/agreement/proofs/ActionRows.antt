@@ -151,7 +151,7 @@ module _ (rows : List ℤ) (A : RightRows rows) where
     low-named s l o k h =
         let (t, w, b) = at-some rows M passed s l .0 h in
         let (p, low) = low-within rows o k w in
-        let (d, (i, u, c)) = bears-uses rows each-fits n t (within-below rows M passed l w) .0 b in
+        let (d, (i, u, c)) = bears-uses rows passed n t (within-below rows M passed l w) .0 b in
         (t, d, i, p, names t d i low c, u)
       where
         names : (t d i : ℕ) → kindAt rows t < 20 → Touches rows t d i → NamesIt rows d t
@@ -306,7 +306,7 @@ module _ (rows : List ℤ) (A : RightRows rows) where
             itself : M .atAssignment (variableAt rows (naturalAt rows r 1)) (contentAt rows (naturalAt rows r 2) .expr) → Named
             itself i =
                 let (g, t) = field-refers r 22 (shape 22 variable expression expression) of-b l (e, omega arith, refl) expressions refl in
-                let (j, u, c) = cells-is rows each-fits n r (naturalAt rows r 1) (naturalAt rows r 2) t .0 i in
+                let (j, u, c) = cells-is rows passed n r (naturalAt rows r 1) (naturalAt rows r 2) t .0 i in
                 (r, naturalAt rows r 1, j, its-row, (inr e, refl), u)
 
         inputs : Of-kind 23

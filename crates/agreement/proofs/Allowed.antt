@@ -1,6 +1,6 @@
 -- Every step that the machine takes is one that the rules allow.
 use mathlib.Core.Path.{_≡_, refl, sym, subst}
-use mathlib.Core.Bool.{Bool, true, false, _&&_, true≢false}
+use mathlib.Core.Bool.{Bool, true, false, true≢false}
 use mathlib.Core.Option.{Option, none, some, Option·none-ne-some, Option·some-injective}
 use mathlib.Core.List.{List, [], _∷_, _++_, List·Memᴰ, List·Memᴰ·head, List·Memᴰ·tail}
 use Prim.Native.Nat.{ℕ, suc, _+_}
@@ -22,6 +22,7 @@ use Rattle.meaning.specs.Intent.{Offer, openOffer, inputOffer, Intent, waits, m
 use Rattle.meaning.specs.Ready.{allIdle, isLive, intentAt, ownEffect, WaitingInput, communicationWhere, communicationEffect, passEffect, takeOptionEffect, takeWithOutputEffect, optionRow, offerEffectAt, offerEffect, effectOf}
 use Rattle.meaning.proofs.PassedLaws.{passed-passes, passed-lacks}
 use Rattle.meaning.specs.Step.{channelElement, targetCell, Holds, holds, refuted, LacksIn, channel-lacks, target-lacks, FirstTrue, LacksTest, boolean-lacks, input-lacks, Complete, closed, open-skip, open-input, LacksOption, AllComplete, complete-none, complete-more, assign-subscript, assign-value, input-subscript, output-subscript, output-value, while-test, if-test, alt-guard, InnerInput, inner-input, HostInput, host-input, InnerOutput, inner-output, Live, becomes, effect, Allows, assignment, while-false, while-true, if-true, communication, host-read, host-write, alt-skip, alt-read, alt-communication, stopping}
+use Rattle.meaning.proofs.Decides.{both-true}
 
 is-true : (t : Bool) → t ≡ true → T t
 is-true true e = tt
@@ -202,20 +203,16 @@ module _ (P : Program) (sheet : Sheet) (s : State) where
   sound r (alternation bs) g = sound-select r bs g (optionsResult sheet bs (s .store)) (looked bs)
   sound r (block v) g = tt
 
-  split : (a b : Bool) → (a && b) ≡ true → (a ≡ true) × (b ≡ true)
-  split true b e = (refl, e)
-  split false b e = absurd (true≢false (sym e))
-
   idle-all : (l : List ℕ) → allIdle l (s .states) ≡ true → (b : ℕ) → List·Memᴰ b l → getD (s .states) b 0 ≡ 0
   idle-all (r ∷ l) e b (List·Memᴰ·head q) =
-      rw q (eqb→eq (getD (s .states) r 0) 0 (is-true (eqb (getD (s .states) r 0) 0) (split (eqb (getD (s .states) r 0) 0) (allIdle l (s .states)) e .0)))
-  idle-all (r ∷ l) e b (List·Memᴰ·tail m) = idle-all l (split (eqb (getD (s .states) r 0) 0) (allIdle l (s .states)) e .1) b m
+      rw q (eqb→eq (getD (s .states) r 0) 0 (is-true (eqb (getD (s .states) r 0) 0) (both-true (eqb (getD (s .states) r 0) 0) (allIdle l (s .states)) e .0)))
+  idle-all (r ∷ l) e b (List·Memᴰ·tail m) = idle-all l (both-true (eqb (getD (s .states) r 0) 0) (allIdle l (s .states)) e .1) b m
 
   -- a row that is live by the test is live by the rule
   live-is : (r : ℕ) → isLive P sheet r s ≡ true → Live P s r (actionOf (processAt P r))
   unfolding isLive
   live-is r e =
-      let (u, v) = split (eqb (getD (s .states) r 0) 1) (allIdle (rowsBeneath (processesIn (processAt P r))) (s .states)) e in
+      let (u, v) = both-true (eqb (getD (s .states) r 0) 1) (allIdle (rowsBeneath (processesIn (processAt P r))) (s .states)) e in
       go (processAt P r) refl (eqb→eq (getD (s .states) r 0) 1 (is-true (eqb (getD (s .states) r 0) 1) u)) v
     where
       go : (p : Process) → processAt P r ≡ p → getD (s .states) r 0 ≡ 1 → allIdle (rowsBeneath (processesIn p)) (s .states) ≡ true → Live P s r (actionOf p)

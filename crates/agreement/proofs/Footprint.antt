@@ -1,8 +1,8 @@
 -- What an expression reads: the cells that stand in it; and what a subscript can mean: the numbers that count for it.
-use mathlib.Core.Path.{_≡_, refl, sym, ap}
-use mathlib.Core.Bool.{Bool, true, false}
+use mathlib.Core.Path.{_≡_, refl, sym, ap, _∙_}
+use mathlib.Core.Bool.{Bool, true, false, false≢true}
 use mathlib.Core.Option.{Option, none}
-use mathlib.Core.List.{List, _++_, List·Memᴰ, List·Memᴰ·head, List·Memᴰ·tail, Memᴰ·append-left, Memᴰ·append-right, Memᴰ·cast}
+use mathlib.Core.List.{List, [], _++_, List·Memᴰ, List·Memᴰ·head, List·Memᴰ·tail, Memᴰ·append-left, Memᴰ·append-right, Memᴰ·cast}
 use Prim.Native.Nat.{ℕ, zero, suc, _+_, _<_}
 use native.Mathlib.Omega.{arith}
 use lib.IntN.{ℤ, pos, negsuc}
@@ -16,7 +16,8 @@ use Rattle.meaning.specs.declared.Index.the-variants.{At, Fails}
 use Rattle.meaning.specs.Basics.{ifElse, isSome}
 use Rattle.meaning.specs.Tree.{Expr, literal, element, monadic, given, dyadic, noExpr}
 use Rattle.meaning.specs.Values.{value, index, inArray, readCell, cellValue, givenValue, truth}
-use Rattle.meaning.specs.Usage.{numbersFrom, onlyIf, countsFor, standsIn}
+use Rattle.meaning.specs.Usage.{numbersFrom, onlyIf, constant, countsByValue, countsFor, standsIn}
+use Rattle.meaning.proofs.Decides.{both-true}
 
 -- two lists of cells are alike at some numbers
 abbrev pub Agree : List ℕ → List (Option ℤ) → List (Option ℤ) → Type 0
@@ -36,7 +37,7 @@ never e = let z : _≡_ {A = ℕ} 0 1 = cc in absurd (omega arith)
 at-same : {a b : ℕ} → At a ≡ At b → a ≡ b
 at-same e = cc
 
-range-mem : (first n k : ℕ) → k < n → List·Memᴰ (first + k) (numbersFrom first n)
+pub range-mem : (first n k : ℕ) → k < n → List·Memᴰ (first + k) (numbersFrom first n)
 unfolding numbersFrom
 range-mem first zero k h = absurd (omega arith)
 range-mem first (suc n) zero h = List·Memᴰ·head {x = first} (omega arith)
@@ -60,17 +61,32 @@ when-mem : (t : Bool) (z a : ℕ) → ifElse t (At z) (Fails 2) ≡ At a → Lis
 when-mem true z a e = List·Memᴰ·head (sym (at-same e))
 when-mem false z a e = never e
 
+-- a number that a constant's value means counts for that value
+value-mem : (first n : ℕ) (v : Value) (a : ℕ) → inArray first n v ≡ At a → List·Memᴰ a (countsByValue first n v)
+unfolding inArray countsByValue
+value-mem first n (Number (pos k)) a e = when-mem (ltb k n) (first + k) a e
+value-mem first n (Number (negsuc k)) a e = never e
+value-mem first n (Missing k) a e = never e
+
+-- the value of a constant is the same whatever the cells hold
+pub constant-value : (c d : List (Option ℤ)) (e : Expr) → constant e ≡ true → value c e ≡ value d e
+unfolding constant value
+constant-value c d (literal x) h = refl
+constant-value c d (element v e) h = absurd (false≢true h)
+constant-value c d (monadic op e) h = rw (constant-value c d e h)
+constant-value c d (given v e) h = absurd (false≢true h)
+constant-value c d (dyadic op e f) h = let (i, j) = both-true (constant e) (constant f) h in rw (constant-value c d e i, constant-value c d f j)
+constant-value c d noExpr h = absurd (false≢true h)
+
 module _ (c : List (Option ℤ)) (first n : ℕ) where
   -- the number that a subscript means counts for it
   pub index-counts : (e : Expr) (a : ℕ) → index c first n e ≡ At a → List·Memᴰ a (countsFor first n e)
-  unfolding index value countsFor inArray
-  index-counts (literal (pos k)) a h = when-mem (ltb k n) (first + k) a h
-  index-counts (literal (negsuc k)) a h = never h
-  index-counts (element v e) a h = array-mem first n (value c (element v e)) a h
-  index-counts (monadic op e) a h = array-mem first n (value c (monadic op e)) a h
-  index-counts (given v e) a h = array-mem first n (value c (given v e)) a h
-  index-counts (dyadic op e f) a h = array-mem first n (value c (dyadic op e f)) a h
-  index-counts noExpr a h = array-mem first n (value c noExpr) a h
+  unfolding index countsFor
+  index-counts e a h = go (constant e) refl
+    where
+      go : (t : Bool) → constant e ≡ t → List·Memᴰ a (ifElse t (countsByValue first n (value [] e)) (numbersFrom first n))
+      go true q = value-mem first n (value [] e) a (ap (inArray first n) (sym (constant-value c [] e q)) ∙ h)
+      go false q = array-mem first n (value c e) a h
 
   -- with one number there is no other
   pub index-only : (e : Expr) (a : ℕ) → index c first n e ≡ At a → n ≡ 1 → a ≡ first

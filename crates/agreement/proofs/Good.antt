@@ -2,13 +2,14 @@
 -- A SEQ has ended members, one at work, and idle ones; an IF, ALT or WHILE at most one that is not idle; one that is over has nothing at work beneath it.
 use mathlib.Core.Path.{_≡_, refl, sym, ap, ap₂, _∙_}
 use mathlib.Core.Logic.{_≢_, _⊎_, inl, inr, ⊎-elim}
-use mathlib.Core.Bool.{Bool, true, false, _&&_, true≢false}
+use mathlib.Core.Bool.{true, false, true≢false}
 use mathlib.Core.List.{List, [], _∷_, _++_, List·Memᴰ, List·Memᴰ·head, List·Memᴰ·tail, Memᴰ·append-left, Memᴰ·append-right, List·Memᴰ·append-cases, List·Memᴰ·not-nil}
 use Prim.Native.Nat.{ℕ, zero, suc}
 use lib.ListN.{getD}
 use Rattle.meaning.specs.Tree.{Action, Process, node, Processes, empty, also, rowOf, rowsIn, rowsBeneath}
 use Rattle.meaning.specs.State.{stateOf}
 use Rattle.meaning.specs.Settle.{statesOf, Mode, inTurn, together, byStep, mode, complete, endsWhenClosed, allOf, isIdleOrEnded, isEnded}
+use Rattle.meaning.proofs.Decides.{both-true}
 use Rattle.agreement.proofs.Frame.{row-in}
 use Rattle.agreement.proofs.Again.{Idle}
 
@@ -84,20 +85,16 @@ over-quiet (over i e q h o) f x (List·Memᴰ·head eq) = rw eq f
 over-quiet (over i e q g o) f x (List·Memᴰ·tail h) = q x h
 over-quiet (run e h) f x m = absurd (true≢false (sym (rw e at f)))
 
-pub and-split : (a b : Bool) → (a && b) ≡ true → (a ≡ true) × (b ≡ true)
-and-split true b e = (refl, e)
-and-split false b e = absurd (true≢false (sym e))
-
 quiet-append : (s R Q : List ℕ) → Quiet R s → Quiet Q s → Quiet (R ++ Q) s
 quiet-append s R Q q q′ x h = ⊎-elim (q x) (q′ x) (List·Memᴰ·append-cases R h)
 
 pub goodM-quiet : {s : List ℕ} {m : Mode} {ms : Processes} → GoodM s m ms → allOf isIdleOrEnded (statesOf ms s) ≡ true → Quiet (rowsBeneath ms) s
 goodM-quiet done0 e = λ x h. absurd (List·Memᴰ·not-nil h)
-goodM-quiet {s} (each {p} {ms} h hs) e = let (a, b) = and-split (isIdleOrEnded (stateOf s p)) _ e in quiet-append s (rowsIn p) (rowsBeneath ms) (over-quiet h a) (goodM-quiet hs b)
-goodM-quiet {s} (past {p} {ms} e′ h hs) e = let (a, b) = and-split (isIdleOrEnded (stateOf s p)) _ e in quiet-append s (rowsIn p) (rowsBeneath ms) (over-quiet h a) (goodM-quiet hs b)
-goodM-quiet {s} (now {p} {ms} h i) e = let (a, b) = and-split (isIdleOrEnded (stateOf s p)) _ e in quiet-append s (rowsIn p) (rowsBeneath ms) (over-quiet h a) (idle-quiet (rowsBeneath ms) s i)
-goodM-quiet {s} (pass {p} {ms} i hs) e = let (a, b) = and-split (isIdleOrEnded (stateOf s p)) _ e in quiet-append s (rowsIn p) (rowsBeneath ms) (idle-quiet (rowsIn p) s i) (goodM-quiet hs b)
-goodM-quiet {s} (pick {p} {ms} h i) e = let (a, b) = and-split (isIdleOrEnded (stateOf s p)) _ e in quiet-append s (rowsIn p) (rowsBeneath ms) (over-quiet h a) (idle-quiet (rowsBeneath ms) s i)
+goodM-quiet {s} (each {p} {ms} h hs) e = let (a, b) = both-true (isIdleOrEnded (stateOf s p)) _ e in quiet-append s (rowsIn p) (rowsBeneath ms) (over-quiet h a) (goodM-quiet hs b)
+goodM-quiet {s} (past {p} {ms} e′ h hs) e = let (a, b) = both-true (isIdleOrEnded (stateOf s p)) _ e in quiet-append s (rowsIn p) (rowsBeneath ms) (over-quiet h a) (goodM-quiet hs b)
+goodM-quiet {s} (now {p} {ms} h i) e = let (a, b) = both-true (isIdleOrEnded (stateOf s p)) _ e in quiet-append s (rowsIn p) (rowsBeneath ms) (over-quiet h a) (idle-quiet (rowsBeneath ms) s i)
+goodM-quiet {s} (pass {p} {ms} i hs) e = let (a, b) = both-true (isIdleOrEnded (stateOf s p)) _ e in quiet-append s (rowsIn p) (rowsBeneath ms) (idle-quiet (rowsIn p) s i) (goodM-quiet hs b)
+goodM-quiet {s} (pick {p} {ms} h i) e = let (a, b) = both-true (isIdleOrEnded (stateOf s p)) _ e in quiet-append s (rowsIn p) (rowsBeneath ms) (over-quiet h a) (idle-quiet (rowsBeneath ms) s i)
 
 over-of-ended : (i : ℕ) → isEnded i ≡ true → isIdleOrEnded i ≡ true
 over-of-ended zero e = refl
@@ -107,12 +104,12 @@ over-of-ended (suc (suc (suc i))) e = e
 
 all-over : (l : List ℕ) → allOf isEnded l ≡ true → allOf isIdleOrEnded l ≡ true
 all-over [] e = refl
-all-over (i ∷ l) e = let (a, b) = and-split (isEnded i) (allOf isEnded l) e in rw (over-of-ended i a) (all-over l b)
+all-over (i ∷ l) e = let (a, b) = both-true (isEnded i) (allOf isEnded l) e in rw (over-of-ended i a) (all-over l b)
 
 pub done-over : (m : Mode) (l : List ℕ) → complete m l ≡ true → allOf isIdleOrEnded l ≡ true
 done-over inTurn l e = all-over l e
 done-over together l e = all-over l e
-done-over byStep l e = and-split (allOf isIdleOrEnded l) _ e .0
+done-over byStep l e = both-true (allOf isIdleOrEnded l) _ e .0
 
 -- the first member, and the others
 pub goodM-head : {s : List ℕ} {m : Mode} {p : Process} {ms : Processes} → GoodM s m (also p ms) → Good s p

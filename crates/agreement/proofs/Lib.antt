@@ -73,6 +73,7 @@ pub mod UsageTree
 pub mod UsageParts
 pub mod UsageWithin
 pub mod UsageGather
+pub mod UsageConstants
 pub mod UsageNumbers
 pub mod UsageNames
 pub mod UsageBearers
@@ -82,6 +83,7 @@ pub mod UsageFirst
 pub mod VerdictStages
 pub mod UsageExact
 pub mod VerdictExact
+pub mod SubscriptsCount
 pub mod TreeRows
 pub mod RowsAscend
 pub mod Elements

@@ -1,5 +1,6 @@
--- The statements about orders are not empty: PAR of x := 1 and y := 2 has two orders to rest, so has a PAR of two IFs with a block in each; WHILE 1 SKIP never comes to rest.
+-- The statements about orders are not empty: PAR of x := 1 and y := 2 has two orders to rest, so have a PAR of two IFs with a block in each and a PAR of two writes by constant subscripts; WHILE 1 SKIP never comes to rest.
 use mathlib.Core.Path.{_≡_, refl, sym, ap, subst, _∙_}
+use mathlib.Core.Logic.{inl}
 use mathlib.Core.Bool.{false≢true}
 use mathlib.Core.Option.{none}
 use mathlib.Core.List.{List, [], _∷_, List·Memᴰ, List·Memᴰ·head, List·Memᴰ·tail, List·Memᴰ·not-nil, List·Memᴰ·eq-of-singleton}
@@ -9,6 +10,10 @@ use lib.IntN.{ℤ, pos, negsuc}
 use lib.ListN.{length}
 use Rattle.meaning.specs.Basics.{lowest}
 use Rattle.meaning.specs.Rows.{rowCount, kindAt}
+use Rattle.meaning.specs.declared.Node.the-variants.{Assignment}
+use Rattle.meaning.specs.Nodes.{nodeAt}
+use Rattle.meaning.specs.References.{Refers, RefersBy}
+use Rattle.meaning.specs.Clash.{IsMember, member-first, member-next, Components, components, changed-by-assignment, Changed, cell-clash}
 use Rattle.meaning.specs.State.{State, program}
 use Rattle.meaning.specs.Labels.{Label, own, orderRow}
 use Rattle.meaning.specs.Readings.{Sheet}
@@ -23,7 +28,8 @@ use Rattle.meaning.specs.Answers.{check}
 use Rattle.meaning.proofs.ComputesAnswers.{computesAnswers}
 use Rattle.meaning.proofs.NoFault.{lowest-none}
 use Rattle.agreement.specs.Statements.{NoAlt}
-use Rattle.agreement.specs.NotEmptyClaims.{LongOrder, TwoOrders, TwoOrdersOfBlocks, NeverRests}
+use Rattle.agreement.specs.NotEmptyClaims.{LongOrder, TwoOrders, TwoOrdersOfBlocks, TwoOrdersOfConstants, NeverRests}
+use Rattle.agreement.specs.SubscriptClaims.{LiteralCounts, any-other}
 use Rattle.agreement.proofs.Steps.{ready-allowed, allowed-ready}
 use Rattle.agreement.proofs.Reached.{order-more}
 use Rattle.agreement.proofs.Fit.{Fit}
@@ -91,6 +97,23 @@ module _ (rows : List ℤ) where
         rest = rests rows ok sheet (own r ∷ own q ∷ []) (afterOwn q (afterOwn r atStart)) o z;
       }
 
+  -- a table whose rows r and q have one step each, taken in either order
+  unfoldable both-orders : check rows ≡ none → sheetFault rows emptySheet ≡ none → lowest (λ q. eqb (kindAt rows q) 34) (rowCount rows) ≡ none
+      → (r q : ℕ) → r < q → readyIn atStart ≡ own r ∷ own q ∷ [] → readyIn (afterOwn r atStart) ≡ own q ∷ [] → readyIn (afterOwn q atStart) ≡ own r ∷ []
+      → readyIn (afterOwn q (afterOwn r atStart)) ≡ [] → readyIn (afterOwn r (afterOwn q atStart)) ≡ [] → TwoOrders
+  unfolding two-steps firstRow
+  both-orders ok sheet-ok alt r q l both q-left r-left none-left none-left-too =
+      record {
+        rows = rows;
+        sheet = emptySheet;
+        table-accepted = ok;
+        sheet-accepted = sheet-ok;
+        without-alt = no-alt alt;
+        one = two-steps ok r q _ _ both (List·Memᴰ·head refl) q-left (List·Memᴰ·head refl) none-left;
+        two = two-steps ok q r _ _ both (List·Memᴰ·tail (List·Memᴰ·head refl)) r-left (List·Memᴰ·head refl) none-left-too;
+        differ = λ e. let h : r ≡ q = ap firstRow e in omega arith;
+      }
+
 -- ---- PAR of x := 1 and y := 2
 
 abbrev parRows : List ℤ
@@ -99,52 +122,9 @@ parRows =
     ∷ pos 40 ∷ pos 4 ∷ pos 7 ∷ pos 0 ∷ pos 22 ∷ pos 0 ∷ pos 5 ∷ pos 6 ∷ pos 10 ∷ pos 0 ∷ pos 0 ∷ pos 0 ∷ pos 10 ∷ pos 1 ∷ pos 0 ∷ pos 0
     ∷ pos 40 ∷ pos 8 ∷ negsuc 0 ∷ pos 0 ∷ pos 22 ∷ pos 1 ∷ pos 9 ∷ pos 10 ∷ pos 10 ∷ pos 0 ∷ pos 0 ∷ pos 0 ∷ pos 10 ∷ pos 2 ∷ pos 0 ∷ pos 0 ∷ []
 
-par-accepted : check parRows ≡ none
-unfolding computesAnswers
-par-accepted = refl
-
-par-sheet : sheetFault parRows emptySheet ≡ none
-unfolding computesAnswers
-par-sheet = refl
-
-par-without-alt : NoAlt parRows
-unfolding computesAnswers
-par-without-alt = no-alt parRows refl
-
-both-ready : readyIn parRows (atStart parRows) ≡ own 4 ∷ own 8 ∷ []
-unfolding computesAnswers
-both-ready = refl
-
-second-left : readyIn parRows (afterOwn parRows 4 (atStart parRows)) ≡ own 8 ∷ []
-unfolding computesAnswers
-second-left = refl
-
-first-left : readyIn parRows (afterOwn parRows 8 (atStart parRows)) ≡ own 4 ∷ []
-unfolding computesAnswers
-first-left = refl
-
-none-left : readyIn parRows (afterOwn parRows 8 (afterOwn parRows 4 (atStart parRows))) ≡ []
-unfolding computesAnswers
-none-left = refl
-
-none-left-too : readyIn parRows (afterOwn parRows 4 (afterOwn parRows 8 (atStart parRows))) ≡ []
-unfolding computesAnswers
-none-left-too = refl
-
--- an accepted table and sheet with two different orders of length 2 that both come to rest
 pub two-orders : TwoOrders
-unfolding two-steps firstRow
-two-orders =
-    record {
-      rows = parRows;
-      sheet = emptySheet;
-      table-accepted = par-accepted;
-      sheet-accepted = par-sheet;
-      without-alt = par-without-alt;
-      one = two-steps parRows par-accepted 4 8 _ _ both-ready (List·Memᴰ·head refl) second-left (List·Memᴰ·head refl) none-left;
-      two = two-steps parRows par-accepted 8 4 _ _ both-ready (List·Memᴰ·tail (List·Memᴰ·head refl)) first-left (List·Memᴰ·head refl) none-left-too;
-      differ = λ e. let h : _≡_ {A = ℕ} 4 8 = ap firstRow e in omega arith;
-    }
+unfolding computesAnswers
+two-orders = both-orders parRows refl refl refl 4 8 (omega arith) refl refl refl refl refl
 
 -- ---- PAR of two IFs, each with one choice, that starts a block: the block's SKIP ends at once
 
@@ -156,58 +136,41 @@ blockRows =
     ∷ pos 40 ∷ pos 10 ∷ negsuc 0 ∷ pos 0 ∷ pos 32 ∷ pos 11 ∷ pos 0 ∷ pos 0 ∷ pos 41 ∷ pos 12 ∷ negsuc 0 ∷ pos 14
     ∷ pos 35 ∷ pos 1 ∷ pos 13 ∷ pos 0 ∷ pos 21 ∷ pos 0 ∷ pos 0 ∷ pos 0 ∷ pos 10 ∷ pos 1 ∷ pos 0 ∷ pos 0 ∷ []
 
-block-accepted : check blockRows ≡ none
-unfolding computesAnswers
-block-accepted = refl
-
-block-sheet : sheetFault blockRows emptySheet ≡ none
-unfolding computesAnswers
-block-sheet = refl
-
-block-without-alt : NoAlt blockRows
-unfolding computesAnswers
-block-without-alt = no-alt blockRows refl
-
-blocks-ready : readyIn blockRows (atStart blockRows) ≡ own 4 ∷ own 10 ∷ []
-unfolding computesAnswers
-blocks-ready = refl
-
-second-block-left : readyIn blockRows (afterOwn blockRows 4 (atStart blockRows)) ≡ own 10 ∷ []
-unfolding computesAnswers
-second-block-left = refl
-
-first-block-left : readyIn blockRows (afterOwn blockRows 10 (atStart blockRows)) ≡ own 4 ∷ []
-unfolding computesAnswers
-first-block-left = refl
-
-no-block-left : readyIn blockRows (afterOwn blockRows 10 (afterOwn blockRows 4 (atStart blockRows))) ≡ []
-unfolding computesAnswers
-no-block-left = refl
-
-no-block-left-too : readyIn blockRows (afterOwn blockRows 4 (afterOwn blockRows 10 (atStart blockRows))) ≡ []
-unfolding computesAnswers
-no-block-left-too = refl
-
 -- row 6 is a block
-block-is : (6 < rowCount blockRows) × (kindAt blockRows 6 ≡ 35)
-unfolding computesAnswers
-block-is = (omega arith, refl)
-
--- an accepted table with blocks and two different orders, each of whose steps starts a block
 pub two-orders-of-blocks : TwoOrdersOfBlocks
-unfolding two-steps firstRow
-two-orders-of-blocks = (
-  record {
-    rows = blockRows;
-    sheet = emptySheet;
-    table-accepted = block-accepted;
-    sheet-accepted = block-sheet;
-    without-alt = block-without-alt;
-    one = two-steps blockRows block-accepted 4 10 _ _ blocks-ready (List·Memᴰ·head refl) second-block-left (List·Memᴰ·head refl) no-block-left;
-    two = two-steps blockRows block-accepted 10 4 _ _ blocks-ready (List·Memᴰ·tail (List·Memᴰ·head refl)) first-block-left (List·Memᴰ·head refl) no-block-left-too;
-    differ = λ e. let h : _≡_ {A = ℕ} 4 10 = ap firstRow e in omega arith;
-  },
-  (6, block-is .0, block-is .1),
+unfolding computesAnswers both-orders
+two-orders-of-blocks = (both-orders blockRows refl refl refl 4 10 (omega arith) refl refl refl refl refl, (6, omega arith, refl))
+
+-- ---- each writes to its neighbour: PAR of a[(0 + 1) REM 2] := 0 and a[(1 + 1) REM 2] := 1
+
+abbrev ringRows : List ℤ
+ringRows =
+    pos 1 ∷ pos 2 ∷ pos 0 ∷ pos 0 ∷ pos 31 ∷ pos 2 ∷ pos 0 ∷ pos 0 ∷ pos 40 ∷ pos 3 ∷ pos 10 ∷ pos 0
+    ∷ pos 22 ∷ pos 0 ∷ pos 4 ∷ pos 9 ∷ pos 13 ∷ pos 4 ∷ pos 5 ∷ pos 8 ∷ pos 13 ∷ pos 0 ∷ pos 6 ∷ pos 7
+    ∷ pos 10 ∷ pos 0 ∷ pos 0 ∷ pos 0 ∷ pos 10 ∷ pos 1 ∷ pos 0 ∷ pos 0 ∷ pos 10 ∷ pos 2 ∷ pos 0 ∷ pos 0
+    ∷ pos 10 ∷ pos 0 ∷ pos 0 ∷ pos 0 ∷ pos 40 ∷ pos 11 ∷ negsuc 0 ∷ pos 0 ∷ pos 22 ∷ pos 0 ∷ pos 12 ∷ pos 17
+    ∷ pos 13 ∷ pos 4 ∷ pos 13 ∷ pos 16 ∷ pos 13 ∷ pos 0 ∷ pos 14 ∷ pos 15 ∷ pos 10 ∷ pos 1 ∷ pos 0 ∷ pos 0
+    ∷ pos 10 ∷ pos 1 ∷ pos 0 ∷ pos 0 ∷ pos 10 ∷ pos 2 ∷ pos 0 ∷ pos 0 ∷ pos 10 ∷ pos 1 ∷ pos 0 ∷ pos 0 ∷ []
+
+-- the members of the PAR
+ring-members : Components ringRows 1 3 11
+unfolding computesAnswers Refers RefersBy
+ring-members =
+    let first : IsMember ringRows 1 2 = member-first refl (_, refl, (refl, (omega arith, omega arith, List·Memᴰ·head refl))) in
+    let next : IsMember ringRows 1 10 = member-next first (_, refl, (refl, (omega arith, omega arith, List·Memᴰ·head refl))) in
+    components first next (λ e. omega arith) (_, refl, (refl, (omega arith, omega arith, List·Memᴰ·tail (List·Memᴰ·tail (List·Memᴰ·head refl)))))
+    (_, refl, (refl, (omega arith, omega arith, List·Memᴰ·tail (List·Memᴰ·tail (List·Memᴰ·head refl)))))
+
+-- by literals alone both assignments change cell 0
+ring-changes : (r b c : ℕ) → nodeAt ringRows r ≡ Assignment 0 b c → kindAt ringRows b ≡ 13 → Changed ringRows (LiteralCounts ringRows) r 0 0
+unfolding computesAnswers
+ring-changes r b c e k = (r, inl refl, changed-by-assignment e (any-other (λ f. omega arith) (omega arith)))
+
+pub two-orders-of-constants : TwoOrdersOfConstants
+unfolding computesAnswers both-orders
+two-orders-of-constants = (
+  both-orders ringRows refl refl refl 3 11 (omega arith) refl refl refl refl refl,
+  (1, (7, cell-clash ring-members (ring-changes 3 4 9 refl refl) (inl (ring-changes 11 12 17 refl refl)))),
 )
 
 -- ---- WHILE 1 SKIP

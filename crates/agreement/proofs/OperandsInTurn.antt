@@ -12,7 +12,7 @@ use Rattle.meaning.specs.Values.{isTrue, truth, operators, operate, decides, wh
 use Rattle.agreement.specs.ValueClaims.{FirstDecides, OperandsInTurn}
 use Rattle.agreement.proofs.Decided.{Decides, told, both-decide, either-decides, true-decides, false-decides, number-decides}
 
-settles-decides : (op : ℕ) (x : ℤ) → Decides (decides op x) (FirstDecides op x)
+pub settles-decides : (op : ℕ) (x : ℤ) → Decides (decides op x) (FirstDecides op x)
 unfolding decides
 settles-decides op x =
     either-decides (eqb op 14 && not (isTrue x)) (eqb op 15 && isTrue x) _ _

@@ -13,7 +13,7 @@ use Rattle.meaning.specs.Settle.{statesOf, Mode, inTurn, together, byStep, mode
 use Rattle.agreement.proofs.Frame.{body-shape, walk-also, row-in, walk-local, see-local, zeros-local, Off, length-local, off-look}
 use Rattle.agreement.proofs.Again.{Out, Sound, SoundM, sound-row, Idle, see-run, see-idle, see-start, see-over, idle-walk, zeros-idle}
 use Rattle.agreement.proofs.Commute.{Child, eldest, younger, child-in, Legal, own, child, At, AtM, here, under, first, later, at-run, at-in, atM-in, busy}
-pub use Rattle.agreement.proofs.Good.{Quiet, not-running, Over, Good, GoodM, idle, over, run, done0, each, past, now, pass, pick, Agree, states-agree, over-agree, good-agree, goodM-agree, goodM-idle, idle-quiet, goodM-quiet, done-over, and-split, goodM-head, goodM-tail}
+pub use Rattle.agreement.proofs.Good.{Quiet, not-running, Over, Good, GoodM, idle, over, run, done0, each, past, now, pass, pick, Agree, states-agree, over-agree, good-agree, goodM-agree, goodM-idle, idle-quiet, goodM-quiet, done-over, goodM-head, goodM-tail}
 
 -- ---- settling keeps it
 

@@ -24,12 +24,9 @@ use Rattle.meaning.proofs.AnswerLaws.{RightRows}
 use Rattle.meaning.proofs.LowestLaws.{lowest-is}
 use Rattle.agreement.proofs.Fit.{HostAt, GuardAt, GuardsAt, HostsAt}
 use Rattle.meaning.specs.ContentClaims.{higherContent}
+use Rattle.meaning.proofs.Decides.{both-true}
 use Rattle.agreement.proofs.TableTree.{Known, every-row}
 use Rattle.agreement.proofs.TableStarts.{root-below}
-
-and-true : (s t : Bool) → (s && t) ≡ true → (s ≡ true) × (t ≡ true)
-and-true true t e = (refl, e)
-and-true false t e = absurd (false≢true e)
 
 of-T : (t : Bool) → T t → t ≡ true
 of-T true h = refl
@@ -73,8 +70,8 @@ module _ (role : ℕ) (rows : List ℤ) where
 
   pub declared-at : (a : ℕ) → hasRole role rows a ≡ true → (a < declarations rows) × (kindAt rows a ≡ 2) × (naturalAt rows a 2 ≡ role)
   declared-at a h =
-      let (c, e) = and-true (isChannel rows a) (eqb (naturalAt rows a 2) role) h in
-      let (d, k) = and-true (ltb a (declarations rows)) (eqb (kindAt rows a) 2) c in
+      let (c, e) = both-true (isChannel rows a) (eqb (naturalAt rows a 2) role) h in
+      let (d, k) = both-true (ltb a (declarations rows)) (eqb (kindAt rows a) 2) c in
       (ltb-true a (declarations rows) d, eqb-true (kindAt rows a) 2 k, eqb-true (naturalAt rows a 2) role e)
 
   found : (a p : ℕ) → sumBelow (hostChannelsAt role rows) a ≡ p → hasRole role rows a ≡ true → orZero (lowest (numbered p) (declarations rows)) ≡ a
@@ -83,7 +80,7 @@ module _ (role : ℕ) (rows : List ℤ) where
       go : (o : Option ℕ) → Lowest (λ i. T (numbered p i)) (declarations rows) o → orZero o ≡ a
       go none f = absurd (f a (declared-at a h .0) (rw (h, eq-eqb (sumBelow (hostChannelsAt role rows) a) p e) tt))
       go (some i) f =
-          let (s, t) = and-true (hasRole role rows i) (eqb (sumBelow (hostChannelsAt role rows) i) p) (of-T (numbered p i) (f .1)) in
+          let (s, t) = both-true (hasRole role rows i) (eqb (sumBelow (hostChannelsAt role rows) i) p) (of-T (numbered p i) (f .1)) in
           same-row i a s h (eqb-true (sumBelow (hostChannelsAt role rows) i) p t ∙ sym e)
 
   module _ (A : RightRows rows) (ne : role ≡ 0 → ⊥) where
@@ -94,7 +91,7 @@ module _ (role : ℕ) (rows : List ℤ) where
     -- a host channel has one element
     one-element : (a : ℕ) → hasRole role rows a ≡ true → elementsAt rows a ≡ 1
     unfolding elementsAt MayHold
-    one-element a h = rw (and-true (isChannel rows a) (eqb (naturalAt rows a 2) role) h .0) (go (holds-elements a (let l = root-below rows A in let d = declared-at a h .0 in omega arith) (declared-at a h .1) .1))
+    one-element a h = rw (both-true (isChannel rows a) (eqb (naturalAt rows a 2) role) h .0) (go (holds-elements a (let l = root-below rows A in let d = declared-at a h .0 in omega arith) (declared-at a h .1) .1))
       where
         go : (fieldAt rows a 2 ≡ pos 0) ⊎ (fieldAt rows a 1 ≡ pos 1) → naturalAt rows a 1 ≡ 1
         go (inl z) = absurd (ne (sym (declared-at a h .2) ∙ ap naturalOf z))

@@ -13,7 +13,7 @@ use Rattle.meaning.specs.Nodes.{nodeAt}
 use Rattle.meaning.specs.Tree.{Process, contentAt}
 use Rattle.meaning.specs.Usage as U
 use Rattle.meaning.specs.Usage.{gather, changes, uses, cellClash, inputClash, outputClash}
-use Rattle.meaning.specs.Clash.{Within, Changes, changed-by-assignment, changed-by-input, Inputs, input-row, Outputs, output-row, Changed, Used, InputFrom, OutputTo}
+use Rattle.meaning.specs.Clash.{Within, Counts, Changes, changed-by-assignment, changed-by-input, Inputs, input-row, Outputs, output-row, Changed, Used, InputFrom, OutputTo}
 use Rattle.meaning.proofs.Decides.{Decides, decides-iff, decides-or, decides-any}
 use Rattle.meaning.proofs.ReferenceCounts.{decides-among}
 use Rattle.agreement.specs.VerdictClaims.{Passed}
@@ -79,29 +79,29 @@ module _ (rows : List ℤ) where
 
     -- the process at row p changes a cell that the one at row q uses; both input from, both output to an element
     abbrev pub Cells : ℕ → ℕ → Type 0
-    Cells p q = (v : ℕ) × ((i : ℕ) × Changed rows p v i × Used rows q v i)
+    Cells p q = (v : ℕ) × ((i : ℕ) × Changed rows (Counts rows) p v i × Used rows (Counts rows) q v i)
 
     abbrev pub BothInput : ℕ → ℕ → Type 0
-    BothInput p q = (c : ℕ) × ((i : ℕ) × InputFrom rows p c i × InputFrom rows q c i)
+    BothInput p q = (c : ℕ) × ((i : ℕ) × InputFrom rows (Counts rows) p c i × InputFrom rows (Counts rows) q c i)
 
     abbrev pub BothOutput : ℕ → ℕ → Type 0
-    BothOutput p q = (c : ℕ) × ((i : ℕ) × OutputTo rows p c i × OutputTo rows q c i)
+    BothOutput p q = (c : ℕ) × ((i : ℕ) × OutputTo rows (Counts rows) p c i × OutputTo rows (Counts rows) q c i)
 
-    changes-below : {r v i : ℕ} → Changes rows r v i → i < cellsAt rows v
+    changes-below : {r v i : ℕ} → Changes rows (Counts rows) r v i → i < cellsAt rows v
     changes-below (changed-by-assignment e k) = counts-below rows k
     changes-below (changed-by-input e f k) = counts-below rows k
 
-    inputs-below : {r c i : ℕ} → Inputs rows r c i → i < elementsAt rows c
+    inputs-below : {r c i : ℕ} → Inputs rows (Counts rows) r c i → i < elementsAt rows c
     inputs-below (input-row e k) = counts-below rows k
 
-    outputs-below : {r c i : ℕ} → Outputs rows r c i → i < elementsAt rows c
+    outputs-below : {r c i : ℕ} → Outputs rows (Counts rows) r c i → i < elementsAt rows c
     outputs-below (output-row e k) = counts-below rows k
 
     -- one list and the other, by the marks
     through : {A B C : Type 0} → A ↔ B → B ↔ C → A ↔ C
     through e f = (λ a. f .0 (e .0 a), λ c. e .1 (f .1 c))
 
-    used-is : (q v i : ℕ) → In (Touches rows) q v i ↔ Used rows q v i
+    used-is : (q v i : ℕ) → In (Touches rows) q v i ↔ Used rows (Counts rows) q v i
     used-is q v i = (
       λ h. ⊎-elim (λ c. inl (h .0, h .1, c)) (λ s. inr (h .0, h .1, s)) (h .2),
       λ h. ⊎-elim (λ c. (c .0, c .1, inl (c .2))) (λ s. (s .0, s .1, inr (s .2))) h,
@@ -111,24 +111,24 @@ module _ (rows : List ℤ) where
       cells-common : ((n : ℕ) × List·Memᴰ n (gather x changes) × List·Memᴰ n (gather y uses)) ↔ Cells p q
       cells-common =
           through
-          (shared (cellsAt rows) (Changes rows) (Touches rows) (gather x changes) (gather y uses) p q
-          (λ n. through (gathers-changes n x) (located n (markChanges n) (cellsAt rows) (Changes rows) (bears-changes rows fits n) p x a))
-          (λ n. through (gathers-uses n y) (located n (markUses n) (cellsAt rows) (Touches rows) (bears-uses rows fits n) q y b))
+          (shared (cellsAt rows) (Changes rows (Counts rows)) (Touches rows) (gather x changes) (gather y uses) p q
+          (λ n. through (gathers-changes n x) (located n (markChanges n) (cellsAt rows) (Changes rows (Counts rows)) (bears-changes rows passed n) p x a))
+          (λ n. through (gathers-uses n y) (located n (markUses n) (cellsAt rows) (Touches rows) (bears-uses rows passed n) q y b))
           (λ v i h. changes-below (h .2)))
           (λ h. (h .0, (h .1 .0, h .1 .1, used-is q (h .0) (h .1 .0) .0 (h .1 .2))), λ h. (h .0, (h .1 .0, h .1 .1, used-is q (h .0) (h .1 .0) .1 (h .1 .2))))
 
       inputs-common : ((n : ℕ) × List·Memᴰ n (gather x U.inputElements) × List·Memᴰ n (gather y U.inputElements)) ↔ BothInput p q
       inputs-common =
-          shared (elementsAt rows) (Inputs rows) (Inputs rows) (gather x U.inputElements) (gather y U.inputElements) p q
-          (λ n. through (gathers-inputs n x) (located n (markInputs n) (elementsAt rows) (Inputs rows) (bears-inputs rows fits n) p x a))
-          (λ n. through (gathers-inputs n y) (located n (markInputs n) (elementsAt rows) (Inputs rows) (bears-inputs rows fits n) q y b))
+          shared (elementsAt rows) (Inputs rows (Counts rows)) (Inputs rows (Counts rows)) (gather x U.inputElements) (gather y U.inputElements) p q
+          (λ n. through (gathers-inputs n x) (located n (markInputs n) (elementsAt rows) (Inputs rows (Counts rows)) (bears-inputs rows passed n) p x a))
+          (λ n. through (gathers-inputs n y) (located n (markInputs n) (elementsAt rows) (Inputs rows (Counts rows)) (bears-inputs rows passed n) q y b))
           (λ v i h. inputs-below (h .2))
 
       outputs-common : ((n : ℕ) × List·Memᴰ n (gather x U.outputElements) × List·Memᴰ n (gather y U.outputElements)) ↔ BothOutput p q
       outputs-common =
-          shared (elementsAt rows) (Outputs rows) (Outputs rows) (gather x U.outputElements) (gather y U.outputElements) p q
-          (λ n. through (gathers-outputs n x) (located n (markOutputs n) (elementsAt rows) (Outputs rows) (bears-outputs rows fits n) p x a))
-          (λ n. through (gathers-outputs n y) (located n (markOutputs n) (elementsAt rows) (Outputs rows) (bears-outputs rows fits n) q y b))
+          shared (elementsAt rows) (Outputs rows (Counts rows)) (Outputs rows (Counts rows)) (gather x U.outputElements) (gather y U.outputElements) p q
+          (λ n. through (gathers-outputs n x) (located n (markOutputs n) (elementsAt rows) (Outputs rows (Counts rows)) (bears-outputs rows passed n) p x a))
+          (λ n. through (gathers-outputs n y) (located n (markOutputs n) (elementsAt rows) (Outputs rows (Counts rows)) (bears-outputs rows passed n) q y b))
           (λ v i h. outputs-below (h .2))
 
     -- the tests of two components

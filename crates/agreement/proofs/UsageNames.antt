@@ -3,20 +3,20 @@ use mathlib.Core.Path.{_≡_, refl, sym, ap, _∙_, subst}
 use mathlib.Core.Logic.{_⊎_, inl, inr, ⊎-elim, _↔_}
 use mathlib.Core.Bool.{Bool, true, false, _||_}
 use mathlib.Core.List.{List, [], _∷_, List·Memᴰ, List·Memᴰ·not-nil, List·Memᴰ·cases-cons}
-use Prim.Native.Nat.{ℕ, _<_}
+use Prim.Native.Nat.{ℕ}
 use native.Mathlib.Omega.{arith}
 use lib.IntN.{ℤ}
 use Rattle.meaning.specs.Basics.{ifElse}
-use Rattle.meaning.specs.Rows.{rowCount, naturalAt, kindAt}
+use Rattle.meaning.specs.Rows.{naturalAt, kindAt}
 use Rattle.meaning.specs.Kinds.{expressions}
 use Rattle.meaning.specs.Declarations.{declarations, Variable, Channel, noVariable, noChannel, sumBelow, isVariable, hasRole, cellsAt, elementsAt, hostChannelsAt, capacityAt, variableAt, channelAt}
-use Rattle.meaning.specs.Nodes.{nodeAt}
 use Rattle.meaning.specs.Tree.{contentAt}
 use Rattle.meaning.specs.Usage.{countsFor}
 use Rattle.meaning.specs.References.{IsTarget}
 use Rattle.meaning.specs.Clash.{Counts}
 use Rattle.meaning.proofs.Decides.{Decides, holding, failing, decides-and, decides-lt, decides-eq}
-use Rattle.agreement.proofs.UsageRows.{ToChannel, Fits}
+use Rattle.agreement.specs.VerdictClaims.{Passed}
+use Rattle.agreement.proofs.UsageRows.{ToChannel}
 use Rattle.agreement.proofs.UsageNumbers.{Numbers, Counted, counts-below, counts-is}
 
 -- a test of what holds is true
@@ -28,17 +28,6 @@ module _ (rows : List ℤ) where
   -- the numbers that a name counts for with the subscript at row b, as places in it
   abbrev pub Located : (ℕ → ℕ) → ℕ → ℕ → ℕ → Type 0
   Located size n v b = (i : ℕ) × Numbers size n v i × Counts rows (size v) b i
-
-  located-is : (size : ℕ → ℕ) (n v b first k : ℕ) → k ≡ size v → (first ≡ sumBelow size v) ⊎ (size v ≡ 0) → Counted rows n first k b ↔ Located size n v b
-  located-is size n v b first k e f = (λ h. to h f, λ h. from h f)
-    where
-      to : Counted rows n first k b → (first ≡ sumBelow size v) ⊎ (size v ≡ 0) → Located size n v b
-      to h (inl g) = let l = counts-below rows (h .2) in let m = h .1 in (h .0, (omega arith, omega arith), subst (λ (j : ℕ). Counts rows j b (h .0)) e (h .2))
-      to h (inr g) = absurd (let l = counts-below rows (h .2) in omega arith)
-
-      from : Located size n v b → (first ≡ sumBelow size v) ⊎ (size v ≡ 0) → Counted rows n first k b
-      from h (inl g) = let m = h .1 .0 in (h .0, omega arith, subst (λ (j : ℕ). Counts rows j b (h .0)) (sym e) (h .2))
-      from h (inr g) = absurd (let l = h .1 .1 in omega arith)
 
   -- the cells of a variable
   pub variable-first : (v : ℕ) → (variableAt rows v .first ≡ sumBelow (cellsAt rows) v) ⊎ (cellsAt rows v ≡ 0)
@@ -90,15 +79,26 @@ module _ (rows : List ℤ) where
       go : (t : Bool) → t ≡ true → (ifElse t whole noChannel .first ≡ sumBelow (elementsAt rows) c) × (ifElse t whole noChannel .size ≡ elementsAt rows c)
       go t e = subst (λ (s : Bool). (ifElse s whole noChannel .first ≡ sumBelow (elementsAt rows) c) × (ifElse s whole noChannel .size ≡ elementsAt rows c)) (sym e) (refl, refl)
 
-  module _ (fits : (r : ℕ) → r < rowCount rows → Fits rows r (nodeAt rows r)) (n : ℕ) where
+  module _ (passed : Passed rows) (n : ℕ) where
+    located-is : (size : ℕ → ℕ) (v b first k : ℕ) → k ≡ size v → (first ≡ sumBelow size v) ⊎ (size v ≡ 0) → Counted rows passed n first k b ↔ Located size n v b
+    located-is size v b first k e f = (λ h. to h f, λ h. from h f)
+      where
+        to : Counted rows passed n first k b → (first ≡ sumBelow size v) ⊎ (size v ≡ 0) → Located size n v b
+        to h (inl g) = let l = counts-below rows (h .2) in let m = h .1 in (h .0, (omega arith, omega arith), subst (λ (j : ℕ). Counts rows j b (h .0)) e (h .2))
+        to h (inr g) = absurd (let l = counts-below rows (h .2) in omega arith)
+
+        from : Located size n v b → (first ≡ sumBelow size v) ⊎ (size v ≡ 0) → Counted rows passed n first k b
+        from h (inl g) = let m = h .1 .0 in (h .0, omega arith, subst (λ (j : ℕ). Counts rows j b (h .0)) (sym e) (h .2))
+        from h (inr g) = absurd (let l = h .1 .1 in omega arith)
+
     pub cells-is : (r v b : ℕ) → IsTarget rows r expressions b → List·Memᴰ n (countsFor (variableAt rows v .first) (variableAt rows v .size) (contentAt rows b .expr)) ↔ Located (cellsAt rows) n v b
     cells-is r v b t =
-        let e = counts-is rows n (variableAt rows v .first) (variableAt rows v .size) b (t .1) (fits b (t .1)) (t .2) in
-        let f = located-is (cellsAt rows) n v b (variableAt rows v .first) (variableAt rows v .size) (variable-size v) (variable-first v) in
+        let e = counts-is rows passed n (variableAt rows v .first) (variableAt rows v .size) b (t .1) (t .2) in
+        let f = located-is (cellsAt rows) v b (variableAt rows v .first) (variableAt rows v .size) (variable-size v) (variable-first v) in
         (λ m. f .0 (e .0 m), λ h. e .1 (f .1 h))
 
     pub elements-is : (r role c b : ℕ) → ToChannel rows (0 ∷ role ∷ []) c → IsTarget rows r expressions b → List·Memᴰ n (countsFor (channelAt role rows c .first) (channelAt role rows c .size) (contentAt rows b .expr)) ↔ Located (elementsAt rows) n c b
     elements-is r role c b h t =
-        let e = counts-is rows n (channelAt role rows c .first) (channelAt role rows c .size) b (t .1) (fits b (t .1)) (t .2) in
-        let f = located-is (elementsAt rows) n c b (channelAt role rows c .first) (channelAt role rows c .size) (channel-is role c h .1) (inl (channel-is role c h .0)) in
+        let e = counts-is rows passed n (channelAt role rows c .first) (channelAt role rows c .size) b (t .1) (t .2) in
+        let f = located-is (elementsAt rows) c b (channelAt role rows c .first) (channelAt role rows c .size) (channel-is role c h .1) (inl (channel-is role c h .0)) in
         (λ m. f .0 (e .0 m), λ h. e .1 (f .1 h))

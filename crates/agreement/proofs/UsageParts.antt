@@ -17,7 +17,9 @@ use Rattle.meaning.specs.Tree.{dyadic, sequence, parallel, assign, input, outpu
 use Rattle.meaning.specs.ContentClaims.{higherContent}
 use Rattle.meaning.proofs.PartLaws.{part-unfolds}
 use Rattle.agreement.proofs.UsageRows.{nodeOf, node-of-kind, Fits}
+use Rattle.agreement.specs.VerdictClaims.{Passed}
 use Rattle.agreement.proofs.UsageLists.{references, one, two, three, m0, m1, m2}
+use Rattle.agreement.proofs.UsageReferences.{passed-fits}
 
 -- something of each number of a list
 abbrev pub OfEach : (ℕ → Type 0) → List ℕ → Type 0
@@ -92,3 +94,11 @@ module _ (rows : List ℤ) where
   pub part-by-kind : (P : Content → Type 0) (r : ℕ) → r < rowCount rows → Fits rows r (nodeAt rows r) → (kinds : List ℕ) → List·Memᴰ (kindAt rows r) kinds → OfEach (λ k. P (partBy r k)) kinds → P (contentAt rows r)
   part-by-kind P r l f kinds m h =
       subst P (sym (part-is r l f ∙ ap (contentOf rows r (contentAt rows)) (node-of-kind rows r (kindAt rows r) refl))) (of-each (λ k. P (partBy r k)) (kindAt rows r) kinds m h)
+
+-- of a table that the stages 3 to 6 pass, by a row's node: what its fields lead to, and what stands at it
+module _ (rows : List ℤ) (passed : Passed rows) (r : ℕ) (x : Node) (l : r < rowCount rows) (e : nodeAt rows r ≡ x) where
+  pub fits-by : Fits rows r x
+  fits-by = subst (Fits rows r) e (passed-fits rows passed r l)
+
+  pub content-by : contentAt rows r ≡ contentOf rows r (contentAt rows) x
+  content-by = part-is rows r l (passed-fits rows passed r l) ∙ ap (contentOf rows r (contentAt rows)) e

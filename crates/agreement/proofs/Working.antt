@@ -1,7 +1,7 @@
 -- A row that would do something stands in the whole process, at its frontier: it is running and all beneath it is idle.
 use mathlib.Core.Path.{_≡_, refl, sym, ap, subst, _∙_}
 use mathlib.Core.Logic.{_≢_, _⊎_, inl, inr, ⊎-elim}
-use mathlib.Core.Bool.{Bool, true, false, _&&_, true≢false}
+use mathlib.Core.Bool.{Bool, true, false, _&&_}
 use mathlib.Core.List.{List, [], _∷_, List·Memᴰ, List·Memᴰ·head, List·Memᴰ·tail, List·Memᴰ·append-cases, List·Memᴰ·not-nil}
 use Prim.Native.Nat.{ℕ}
 use native.Mathlib.Omega.{arith}
@@ -16,6 +16,7 @@ use Rattle.meaning.specs.Readings.{Sheet}
 use Rattle.meaning.specs.Intent.{Intent, waits, moves, inputsFrom, outputsTo, selects, intent}
 use Rattle.meaning.specs.Ready.{allIdle, isLive, intentAt}
 use Rattle.meaning.specs.Step.{Live}
+use Rattle.meaning.proofs.Decides.{both-true}
 use Rattle.agreement.proofs.Again.{Out, Idle}
 use Rattle.agreement.proofs.Commute.{Legal, own, At, AtM, here, under, first, later}
 use Rattle.agreement.proofs.Reach.{Good, Sub, SubM, self, inside, front, back, frontier, apart}
@@ -85,10 +86,6 @@ acts-by-step sheet (block v) s r e = absurd (omega arith)
 
 eqb-is : (m n : ℕ) → eqb m n ≡ true → m ≡ n
 eqb-is m n e = eqb→eq m n (subst (λ (t : Bool). T t) (sym e) tt)
-
-both-true : (a b : Bool) → (a && b) ≡ true → (a ≡ true) × (b ≡ true)
-both-true true b e = (refl, e)
-both-true false b e = absurd (true≢false (sym e))
 
 pub idle-all : (l s : List ℕ) → allIdle l s ≡ true → Idle l s
 idle-all (r ∷ l) s e b (List·Memᴰ·head q) = rw q (eqb-is (getD s r 0) 0 (both-true (eqb (getD s r 0) 0) (allIdle l s) e .0))

@@ -1,4 +1,4 @@
--- The statements about orders are not empty, as types: accepted tables with two orders to rest, with blocks or not, and with none.
+-- The statements about orders are not empty, as types: accepted tables with two orders to rest, with blocks or constant subscripts or neither, and with none.
 use mathlib.Core.Path.{_≡_}
 use mathlib.Core.Logic.{_≢_}
 use mathlib.Core.Option.{none}
@@ -14,6 +14,7 @@ use Rattle.meaning.specs.Order.{OrderOf, RestOf}
 use Rattle.meaning.specs.Sheet.{sheetFault, readings}
 use Rattle.meaning.specs.Answers.{check}
 use Rattle.agreement.specs.Statements.{NoAlt}
+use Rattle.agreement.specs.SubscriptClaims.{LiteralClash}
 
 -- an order of a table on a sheet, of two steps or more, that comes to rest
 pub record LongOrder (rows : List ℤ) (sheet : List ℕ) : Type 0 where
@@ -37,6 +38,10 @@ pub record TwoOrders : Type 0 where
 -- the same of a table with blocks
 abbrev pub TwoOrdersOfBlocks : Type 0
 TwoOrdersOfBlocks = (t : TwoOrders) × ((r : ℕ) × (r < rowCount (t .rows)) × (kindAt (t .rows) r ≡ 35))
+
+-- the same of a table that clashes by document 01's rule of literals, and is accepted by that of constants
+abbrev pub TwoOrdersOfConstants : Type 0
+TwoOrdersOfConstants = (t : TwoOrders) × ((r : ℕ) × ((k : ℕ) × LiteralClash (t .rows) r k))
 
 -- an accepted table and sheet with orders of every length, after each of which some step is ready
 pub record NeverRests : Type 0 where

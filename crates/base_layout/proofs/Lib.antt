@@ -4,4 +4,5 @@ pub mod RowSums
 pub mod NameLists
 pub mod Layouts
 pub mod Parts
+pub mod RowKinds
 pub mod GivenOperands

@@ -1,5 +1,6 @@
 // Arithmetic on values, and reading and printing of numbers. Each function is its definition in the crate `meaning`.
 mod operators; // operators.rt: the values of operators
+mod operands; // operands.rt: operators on operands that may have no value
 mod wide; // wide.rt: sums, products and quotients in 64 bits, and back to 32
 mod subscripts; // subscripts.rt: the place that a subscript means
 mod reading; // reading.rt: a field's number
@@ -7,6 +8,10 @@ mod numerals; // numerals.rt: a number's digits
 
 pub use numerals::decimal;
 pub use numerals::printed;
+pub use operands::decided;
+pub use operands::dyadic_after;
+pub use operands::dyadic_of;
+pub use operands::monadic_of;
 pub use operators::decides;
 pub use operators::dyadic;
 pub use operators::is_true;

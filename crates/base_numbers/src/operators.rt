@@ -24,7 +24,7 @@ pub fn decides(op: u32, x: i32) -> bool
 }
 
 // 1 or 0 for true or false.
-fn truth(t: bool) -> Value
+pub fn truth(t: bool) -> Value
     ensures { λ r. ⌜ r ≡ truth t ⌝ }
 {
     if t {

@@ -12,14 +12,14 @@ use Rattle.meaning.specs.Basics.{ifElse}
 use Rattle.meaning.specs.Rows.{rowCount, fieldAt, naturalAt, kindAt}
 use Rattle.meaning.specs.Declarations.{variableAt, sourceAt, sinkAt}
 use Rattle.meaning.specs.Tree.{monadic, given, Content, operation, contentOf, contentAt}
-use Rattle.meaning.specs.Usage.{numbersFrom, countsFor, standsIn}
+use Rattle.meaning.specs.Usage.{numbersFrom, constant, countsFor, standsIn}
 use Rattle.base_layout.specs.Operands.{operandAt, GivenElements}
 use Rattle.base_layout.proofs.Parts.{part-past, higherContent, part-of-kind}
+use Rattle.base_layout.proofs.RowKinds.{each-kind, above-operand, by-kind}
 use Rattle.base_sets.specs.Sets.{inSort}
 use Rattle.check_components.specs.Marks.{markExpr, markTarget, markInput, marks}
 use Rattle.check_components.specs.Fields.{targetIn, cellsIn, inputIn, outputIn}
 use Rattle.base_sets.proofs.SetLaws.{sort-append}
-use Rattle.check_components.proofs.RowKinds.{each-kind, above-operand, by-kind}
 
 module _ (rows : List ℤ) (r : ℕ) where
   pub past-expr : rowCount rows ≤ r → markExpr (contentAt rows r .expr) ≡ []
@@ -27,7 +27,7 @@ module _ (rows : List ℤ) (r : ℕ) where
   past-expr h = ap (λ (p : Content). markExpr (p .expr)) (part-past rows r h)
 
   pub past-target : rowCount rows ≤ r → markTarget (contentAt rows r .target) ≡ []
-  unfolding markTarget markExpr standsIn countsFor numbersFrom
+  unfolding markTarget markExpr standsIn constant countsFor numbersFrom
   past-target h = ap (λ (p : Content). markTarget (p .target)) (part-past rows r h)
 
   -- by its fields
@@ -51,7 +51,7 @@ module _ (rows : List ℤ) (r : ℕ) where
 
   -- what GIVEN refers to is an element, or is not there
   given-marks : (b : ℕ) → (b < rowCount rows → kindAt rows b ≡ 11) → markExpr (given (contentAt rows b .target .name) (contentAt rows b .target .subscript)) ≡ markExpr (contentAt rows b .expr)
-  unfolding markExpr standsIn countsFor numbersFrom
+  unfolding markExpr standsIn constant countsFor numbersFrom
   given-marks b f = go (decLt b (rowCount rows))
     where
       Same : Content → Type 0
@@ -108,7 +108,7 @@ module _ (rows : List ℤ) (r : ℕ) where
         ∙ ap (λ (p : Content). record { name = variableAt rows (naturalAt rows r 1); subscript = p .expr }) (above-operand rows r 2 refl)
 
     pub no-target-marks : (kindAt rows r ≡ 11 → ⊥) → markTarget (contentAt rows r .target) ≡ []
-    unfolding markTarget markExpr standsIn countsFor numbersFrom
+    unfolding markTarget markExpr standsIn constant countsFor numbersFrom
     no-target-marks n11 =
         by-kind rows r h (λ p. markTarget (p .target) ≡ [])
         (each-kind (λ x. markTarget (contentOf rows r (higherContent rows r) x .target) ≡ []) (kindAt rows r) (fieldAt rows r 1) (naturalAt rows r 1) (naturalAt rows r 2) (naturalAt rows r 3)

@@ -1,4 +1,3 @@
-pub mod RowKinds
 pub mod CountLaws
 pub mod NamedLaws
 pub mod ExprMarks

@@ -16,9 +16,9 @@ use Rattle.meaning.specs.Usage.{gatherAll}
 use Rattle.base_layout.specs.Operands.{operandAt}
 use Rattle.base_layout.proofs.RowNodes.{nodeOf}
 use Rattle.base_layout.proofs.Parts.{part-past, higherContent, part-of-kind}
+use Rattle.base_layout.proofs.RowKinds.{each-kind, above-operand, by-kind}
 use Rattle.check_components.specs.Marks.{marks, allMarks}
 use Rattle.check_components.specs.Fields.{isLink}
-use Rattle.check_components.proofs.RowKinds.{each-kind, above-operand, by-kind}
 
 both : (s t : Bool) → (s && t) ≡ true → (s ≡ true) × (t ≡ true)
 both true t e = (refl, e)

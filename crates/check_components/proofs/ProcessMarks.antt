@@ -10,10 +10,10 @@ use Rattle.meaning.specs.Tree.{empty, assign, input, output, Content, contentOf
 use Rattle.meaning.specs.Usage.{standsIn, ofGuard, gather, gatherAll}
 use Rattle.base_layout.specs.Operands.{operandAt}
 use Rattle.base_layout.proofs.Parts.{part-past, higherContent, part-of-kind}
+use Rattle.base_layout.proofs.RowKinds.{each-kind, above-operand, by-kind}
 use Rattle.check_components.specs.Marks.{markExpr, markTarget, markInput, markChoices, markGuard, markOptions, marks, ownMarks, allMarks}
 use Rattle.check_components.specs.Fields.{targetIn, inputIn, outputIn}
 use Rattle.check_components.proofs.Links.{and-member}
-use Rattle.check_components.proofs.RowKinds.{each-kind, above-operand, by-kind}
 
 -- the kinds that have one process, in field b: a WHILE and a block
 abbrev pub Single : ℕ → Type 0

@@ -15,7 +15,7 @@ use Rattle.meaning.specs.Tree.{Action, stop, skip, sequence, parallel, assign, 
 use Rattle.meaning.specs.Usage.{Pair, pairs, Comparison, ofPar, comparisonsIn, comparisonsOf, comparisons, clashes, firstClash, refusalOf, usageFault}
 use Rattle.meaning.proofs.HigherRows.{lastRows-length}
 use Rattle.base_layout.proofs.Parts.{higherContent}
-use Rattle.check_components.proofs.RowKinds.{each-kind, by-kind}
+use Rattle.base_layout.proofs.RowKinds.{each-kind, by-kind}
 
 -- the first of two refusals
 abbrev pub orElse : Option (ℕ × ℕ) → Option (ℕ × ℕ) → Option (ℕ × ℕ)

@@ -17,7 +17,7 @@ use Rattle.check_components.specs.Fields.{isLink}
 use Rattle.check_usage.specs.Clashes.{noClash, bothOf, clashWith, clashesFrom, clashesOf, clashesAt}
 use Rattle.base_sets.proofs.Bools.{or-assoc, or-none}
 use Rattle.base_layout.proofs.Parts.{higherContent, part-of-kind}
-use Rattle.check_components.proofs.RowKinds.{each-kind, above-operand, by-kind}
+use Rattle.base_layout.proofs.RowKinds.{each-kind, above-operand, by-kind}
 use Rattle.check_components.proofs.Links.{link-members, no-members}
 
 -- sets that hold nothing meet nothing, and add nothing

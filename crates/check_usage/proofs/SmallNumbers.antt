@@ -7,12 +7,15 @@ use native.Mathlib.Omega.{arith}
 use lib.IntN.{ℤ, pos, negsuc}
 use lib.Dec.{ltb, eqb}
 use borrow.Author.Tests.{ltb-true, eqb-true}
+use Rattle.meaning.specs.declared.Value.{Value}
+use Rattle.meaning.specs.declared.Value.the-variants.{Number, Missing}
 use Rattle.meaning.specs.Rows.{naturalAt, kindAt}
 use Rattle.meaning.specs.Basics.{ifElse, anyPasses, among}
 use Rattle.meaning.specs.Declarations.{declarations, Variable, Channel, noVariable, noChannel, sumBelow, isVariable, isChannel, hasRole, cellsAt, elementsAt, hostChannelsAt, capacityAt, variableAt, channelAt, sourceAt, sinkAt}
 use Rattle.meaning.specs.Faults.{WithinLimits}
-use Rattle.meaning.specs.Tree.{Expr, literal, element, monadic, given, dyadic, noExpr}
-use Rattle.meaning.specs.Usage.{numbersFrom, onlyIf, countsFor}
+use Rattle.meaning.specs.Tree.{Expr}
+use Rattle.meaning.specs.Usage.{numbersFrom, onlyIf, constant, countsByValue, countsFor}
+use Rattle.meaning.specs.Values.{value}
 use Rattle.base_sets.specs.Sets.{inSort}
 use Rattle.check_usage.proofs.Compared.{Small}
 
@@ -40,15 +43,19 @@ module _ (s : ℕ) (hs : s < 4) where
   one-small first n k h true e = let l = ltb-true k n e in cons-small (4 * (first + k) + s) [] (omega arith) none-small
   one-small first n k h false e = none-small
 
+  value-small : (first n : ℕ) (v : Value) → first + n ≤ 256 → Small (inSort s (countsByValue first n v))
+  unfolding countsByValue
+  value-small first n (Number (pos k)) h = one-small first n k h (ltb k n) refl
+  value-small first n (Number (negsuc k)) h = none-small
+  value-small first n (Missing k) h = range-small first n h
+
   pub counts-small : (first n : ℕ) (e : Expr) → first + n ≤ 256 → Small (inSort s (countsFor first n e))
   unfolding countsFor
-  counts-small first n (literal (pos k)) h = one-small first n k h (ltb k n) refl
-  counts-small first n (literal (negsuc k)) h = none-small
-  counts-small first n (element v e) h = range-small first n h
-  counts-small first n (monadic op e) h = range-small first n h
-  counts-small first n (given v e) h = range-small first n h
-  counts-small first n (dyadic op e f) h = range-small first n h
-  counts-small first n noExpr h = range-small first n h
+  counts-small first n e h = go (constant e)
+    where
+      go : (t : Bool) → Small (inSort s (ifElse t (countsByValue first n (value [] e)) (numbersFrom first n)))
+      go true = value-small first n (value [] e) h
+      go false = range-small first n h
 
 -- Names ---------------------------------------------------------------------------------------------------------------------------
 

@@ -14,12 +14,12 @@ use Rattle.meaning.specs.Rows.{rowCount, fieldAt, naturalAt, kindAt}
 use Rattle.meaning.specs.Declarations.{declarations, Variable, variableAt, sourceAt, sinkAt}
 use Rattle.meaning.specs.Faults.{WithinLimits}
 use Rattle.meaning.specs.Tree.{Expr, literal, element, monadic, given, dyadic, noExpr, Target, ChannelInput, IfChoice, AltGuard, AltOption, Action, stop, skip, sequence, parallel, assign, input, output, conditional, loop, alternation, block, Process, node, Processes, empty, andProcess, Content, noContent, operation, contentOf, contentAt, ofExpr, ofElement, ofProcess, ofGuarded, ofGuardRow, ofLink}
-use Rattle.meaning.specs.Usage.{numbersFrom, countsFor, standsIn, ofGuard, gather, gatherAll}
+use Rattle.meaning.specs.Usage.{numbersFrom, constant, countsFor, standsIn, ofGuard, gather, gatherAll}
 use Rattle.base_layout.proofs.Parts.{part-past, higherContent}
+use Rattle.base_layout.proofs.RowKinds.{each-kind, by-kind}
 use Rattle.base_sets.specs.Sets.{inSort}
 use Rattle.check_components.specs.Marks.{targetCells, markExpr, markTarget, markInput, markChoices, markGuard, markOptions, marks, allMarks}
 use Rattle.base_sets.proofs.SetLaws.{sort-append}
-use Rattle.check_components.proofs.RowKinds.{each-kind, by-kind}
 use Rattle.check_components.proofs.Links.{and-member}
 use Rattle.check_usage.proofs.Compared.{Small, small-right, small-append}
 use Rattle.check_usage.proofs.SmallNumbers.{none-small, counts-small, variable-small, source-small, sink-small}
@@ -45,7 +45,7 @@ unfolding markExpr standsIn
 missing-expr = none-small
 
 no-target : Small (markTarget (noContent .target))
-unfolding markTarget markExpr standsIn countsFor numbersFrom
+unfolding markTarget markExpr standsIn constant countsFor numbersFrom
 no-target = none-small
 
 no-members : Small (gatherAll empty marks)

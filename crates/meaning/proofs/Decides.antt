@@ -1,7 +1,7 @@
 -- A test decides a statement: the laws by which a Bool definition is shown to mean what a statement says.
 use mathlib.Core.Path.{_≡_, refl, sym, ap, subst}
 use mathlib.Core.Logic.{_⊎_, inl, inr, ⊎-elim}
-use mathlib.Core.Bool.{Bool, true, false, not, _&&_, _||_}
+use mathlib.Core.Bool.{Bool, true, false, not, _&&_, _||_, false≢true}
 use mathlib.Core.List.{List, [], _∷_, List·Memᴰ, List·Memᴰ·head, List·Memᴰ·tail, List·Memᴰ·not-nil, List·Memᴰ·cases-cons}
 use mathlib.Core.Option.{Option, none, some}
 use Prim.Native.Nat.{ℕ, _≤_, _<_}
@@ -43,6 +43,11 @@ decides-or (failing a) (failing b) = failing (λ p. ⊎-elim a b p)
 pub decides-not : {A : Type 0} {t : Bool} → Decides A t → Decides (¬ A) (not t)
 decides-not (holding a) = failing (λ f. f a)
 decides-not (failing a) = holding a
+
+-- two tests that hold together
+pub both-true : (s t : Bool) → (s && t) ≡ true → (s ≡ true) × (t ≡ true)
+both-true true t e = (refl, e)
+both-true false t e = absurd (false≢true e)
 
 -- a decided statement and its test
 pub is-true : {A : Type 0} {t : Bool} → Decides A t → A → t ≡ true

@@ -1,6 +1,6 @@
 -- A field that is read as a number is that number printed: no number has two forms.
 use mathlib.Core.Path.{_≡_, refl, sym, ap, ap₂, _∙_}
-use mathlib.Core.Bool.{Bool, true, false, _&&_, false≢true}
+use mathlib.Core.Bool.{Bool, true, false}
 use mathlib.Core.List.{List, [], _∷_}
 use mathlib.Core.Option.{Option, none, some, Option·none-ne-some, Option·some-injective}
 use Prim.Native.Nat.{ℕ, zero, suc, _+_, _-_, _*_, _/_, _%_, _≤_, _<_}
@@ -12,6 +12,7 @@ use borrow.Author.Tests.{lt-ltb, le-ltb, leb-true, eqb-true, eqb-false, ltb-fals
 use Rattle.meaning.specs.Texts.{hyphen, digit0}
 use Rattle.meaning.specs.Numerals.{isDigit, digitsValue, natural, unsigned, negative, number, digitsOnto, decimal, printed}
 use Rattle.meaning.specs.PrintedClaims.{OneForm}
+use Rattle.meaning.proofs.Decides.{both-true}
 
 -- what a test let through
 pub let-through : {A : Type 0} (t : Bool) (x : Option A) (v : A) → ifElse t x none ≡ some v → (t ≡ true) × (x ≡ some v)
@@ -22,12 +23,8 @@ kept-out : {A : Type 0} (t : Bool) (x : Option A) (v : A) → ifElse t none x �
 kept-out true x v e = absurd (Option·none-ne-some v e)
 kept-out false x v e = (refl, e)
 
-both : (s t : Bool) → (s && t) ≡ true → (s ≡ true) × (t ≡ true)
-both true t e = (refl, e)
-both false t e = absurd (false≢true e)
-
 digit-range : (b : ℕ) → isDigit b ≡ true → (digit0 ≤ b) × (b ≤ digit0 + 9)
-digit-range b e = let h = both (leb digit0 b) (leb b (digit0 + 9)) e in (leb-true digit0 b (h .0), leb-true b (digit0 + 9) (h .1))
+digit-range b e = let h = both-true (leb digit0 b) (leb b (digit0 + 9)) e in (leb-true digit0 b (h .0), leb-true b (digit0 + 9) (h .1))
 
 -- any two bounds that suffice give the same digits
 fuel : (k m n : ℕ) (bs : List ℕ) → n < k → n < m → digitsOnto k n bs ≡ digitsOnto m n bs

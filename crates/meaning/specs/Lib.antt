@@ -20,9 +20,9 @@ pub mod Clash
 pub mod Verdict
 pub mod HigherRows
 pub mod Tree
-pub mod Usage
--- Values
+-- Values; and usage in a PAR as a test, which counts a constant subscript as its value
 pub mod Values
+pub mod Usage
 -- Steps as rules: states, what a step is called, readings, settling, steps, orders
 pub mod State
 pub mod Labels

@@ -1,4 +1,4 @@
--- The marked cases (●), the run on paper and cases of request 01: whole sheets, each with the answer that the paper expects, the state that is left and what
+-- The marked cases (●), the run on paper and cases of requests 01 and 07: whole sheets, each with the answer that the paper expects, the state that is left and what
 -- the sheet runner prints.
 use mathlib.Core.Path.{_≡_}
 use mathlib.Core.Option.{none, some}
@@ -159,6 +159,71 @@ markedCases =
     "\n" 65536
     (refused (7, 1))
     "refused,7,1,0\n"
+    -- request 07: PAR of a[1 + 1]:=1 and a[3]:=2 is accepted: a constant subscript counts as its value
+    ∷ markedCase "1,4,0,0\n31,2,0,0\n40,3,8,0\n22,0,4,7\n13,0,5,6\n10,1,0,0\n10,1,0,0\n10,1,0,0\n40,9,-1,0\n22,0,10,11\n10,3,0,0\n10,2,0,0\n"
+    "\n" 65536
+    (atEnd Ended 2 (left (0 ∷ 2 ∷ 0 ∷ 2 ∷ 0 ∷ 0 ∷ 0 ∷ 0 ∷ 0 ∷ 2 ∷ 0 ∷ 0 ∷ []) (none ∷ none ∷ some (pos 1) ∷ some (pos 2) ∷ []) [] []))
+    "what,name,at,value\nended,0,0,2\nvar,0,0,\nvar,0,1,\nvar,0,2,1\nvar,0,3,2\n"
+    -- PAR of a[1 + 1]:=1 and a[2]:=2 is 7
+    ∷ markedCase "1,4,0,0\n31,2,0,0\n40,3,8,0\n22,0,4,7\n13,0,5,6\n10,1,0,0\n10,1,0,0\n10,1,0,0\n40,9,-1,0\n22,0,10,11\n10,2,0,0\n10,2,0,0\n"
+    "\n" 65536
+    (refused (7, 1))
+    "refused,7,1,0\n"
+    -- PAR of a[1 / 0]:=1 and a[0]:=2 is 7: without a value it counts as every number
+    ∷ markedCase "1,4,0,0\n31,2,0,0\n40,3,8,0\n22,0,4,7\n13,3,5,6\n10,1,0,0\n10,0,0,0\n10,1,0,0\n40,9,-1,0\n22,0,10,11\n10,0,0,0\n10,2,0,0\n"
+    "\n" 65536
+    (refused (7, 1))
+    "refused,7,1,0\n"
+    -- PAR of a[9 + 9]:=1 and a[0]:=2 is accepted: outside the array it counts for nothing, and stops with reason 2
+    ∷ markedCase "1,4,0,0\n31,2,0,0\n40,3,8,0\n22,0,4,7\n13,0,5,6\n10,9,0,0\n10,9,0,0\n10,1,0,0\n40,9,-1,0\n22,0,10,11\n10,0,0,0\n10,2,0,0\n"
+    "\n" 65536
+    (atEnd Broken 2 (left (0 ∷ 1 ∷ 0 ∷ 12 ∷ 0 ∷ 0 ∷ 0 ∷ 0 ∷ 0 ∷ 2 ∷ 0 ∷ 0 ∷ []) (some (pos 2) ∷ none ∷ none ∷ none ∷ []) [] []))
+    "what,name,at,value\nbroken,0,0,2\nvar,0,0,2\nvar,0,1,\nvar,0,2,\nvar,0,3,\nstop,3,0,2\n"
+    -- PAR of a[-(1)]:=1 and a[1]:=2 is accepted, and stops with reason 2
+    ∷ markedCase "1,4,0,0\n31,2,0,0\n40,3,7,0\n22,0,4,6\n12,0,5,0\n10,1,0,0\n10,1,0,0\n40,8,-1,0\n22,0,9,10\n10,1,0,0\n10,2,0,0\n"
+    "\n" 65536
+    (atEnd Broken 2 (left (0 ∷ 1 ∷ 0 ∷ 12 ∷ 0 ∷ 0 ∷ 0 ∷ 0 ∷ 2 ∷ 0 ∷ 0 ∷ []) (none ∷ some (pos 2) ∷ none ∷ none ∷ []) [] []))
+    "what,name,at,value\nbroken,0,0,2\nvar,0,0,\nvar,0,1,2\nvar,0,2,\nvar,0,3,\nstop,3,0,2\n"
+    -- PAR of a[0 AND (1 / 0)]:=1 and a[1]:=2 is accepted: AND does not look at the second
+    ∷ markedCase "1,4,0,0\n31,2,0,0\n40,3,10,0\n22,0,4,9\n13,14,5,6\n10,0,0,0\n13,3,7,8\n10,1,0,0\n10,0,0,0\n10,1,0,0\n40,11,-1,0\n22,0,12,13\n10,1,0,0\n10,2,0,0\n"
+    "\n" 65536
+    (atEnd Ended 2 (left (0 ∷ 2 ∷ 0 ∷ 2 ∷ 0 ∷ 0 ∷ 0 ∷ 0 ∷ 0 ∷ 0 ∷ 0 ∷ 2 ∷ 0 ∷ 0 ∷ []) (some (pos 1) ∷ some (pos 2) ∷ none ∷ none ∷ []) [] []))
+    "what,name,at,value\nended,0,0,2\nvar,0,0,1\nvar,0,1,2\nvar,0,2,\nvar,0,3,\n"
+    -- PAR of a[2147483647 + 1]:=1 and a[0]:=1 is 7
+    ∷ markedCase "1,4,0,0\n31,2,0,0\n40,3,8,0\n22,0,4,7\n13,0,5,6\n10,2147483647,0,0\n10,1,0,0\n10,1,0,0\n40,9,-1,0\n22,0,10,11\n10,0,0,0\n10,1,0,0\n"
+    "\n" 65536
+    (refused (7, 1))
+    "refused,7,1,0\n"
+    -- with PLUS it is accepted: the value is outside the array
+    ∷ markedCase "1,4,0,0\n31,2,0,0\n40,3,8,0\n22,0,4,7\n13,5,5,6\n10,2147483647,0,0\n10,1,0,0\n10,1,0,0\n40,9,-1,0\n22,0,10,11\n10,0,0,0\n10,1,0,0\n"
+    "\n" 65536
+    (atEnd Broken 2 (left (0 ∷ 1 ∷ 0 ∷ 12 ∷ 0 ∷ 0 ∷ 0 ∷ 0 ∷ 0 ∷ 2 ∷ 0 ∷ 0 ∷ []) (some (pos 1) ∷ none ∷ none ∷ none ∷ []) [] []))
+    "what,name,at,value\nbroken,0,0,2\nvar,0,0,1\nvar,0,1,\nvar,0,2,\nvar,0,3,\nstop,3,0,2\n"
+    -- PAR of a[0 AND a[0]]:=1 and a[1]:=2 is 7: with an element it is no constant
+    ∷ markedCase "1,4,0,0\n31,2,0,0\n40,3,9,0\n22,0,4,8\n13,14,5,6\n10,0,0,0\n11,0,7,0\n10,0,0,0\n10,1,0,0\n40,10,-1,0\n22,0,11,12\n10,1,0,0\n10,2,0,0\n"
+    "\n" 65536
+    (refused (7, 1))
+    "refused,7,1,0\n"
+    -- PAR of a[a[0] * 0]:=1 and a[1]:=2 is 7
+    ∷ markedCase "1,4,0,0\n31,2,0,0\n40,3,9,0\n22,0,4,8\n13,2,5,7\n11,0,6,0\n10,0,0,0\n10,0,0,0\n10,1,0,0\n40,10,-1,0\n22,0,11,12\n10,1,0,0\n10,2,0,0\n"
+    "\n" 65536
+    (refused (7, 1))
+    "refused,7,1,0\n"
+    -- each of two writes to its neighbour: PAR of a[(0 + 1) REM 2]:=0 and a[(1 + 1) REM 2]:=1 is accepted
+    ∷ markedCase "1,2,0,0\n31,2,0,0\n40,3,10,0\n22,0,4,9\n13,4,5,8\n13,0,6,7\n10,0,0,0\n10,1,0,0\n10,2,0,0\n10,0,0,0\n40,11,-1,0\n22,0,12,17\n13,4,13,16\n13,0,14,15\n10,1,0,0\n10,1,0,0\n10,2,0,0\n10,1,0,0\n"
+    "\n" 65536
+    (atEnd Ended 2 (left (0 ∷ 2 ∷ 0 ∷ 2 ∷ 0 ∷ 0 ∷ 0 ∷ 0 ∷ 0 ∷ 0 ∷ 0 ∷ 2 ∷ 0 ∷ 0 ∷ 0 ∷ 0 ∷ 0 ∷ 0 ∷ []) (some (pos 1) ∷ some (pos 0) ∷ []) [] []))
+    "what,name,at,value\nended,0,0,2\nvar,0,0,1\nvar,0,1,0\n"
+    -- PAR of c[2 - 1]?x and c[0]?y is accepted, and stuck at 0
+    ∷ markedCase "1,1,0,0\n1,1,0,0\n2,2,0,0\n31,4,0,0\n40,5,11,0\n23,2,6,9\n13,1,7,8\n10,2,0,0\n10,1,0,0\n11,0,10,0\n10,0,0,0\n40,12,-1,0\n23,2,13,14\n10,0,0,0\n11,1,15,0\n10,0,0,0\n"
+    "\n" 65536
+    (atEnd Stuck 0 (left (0 ∷ 0 ∷ 0 ∷ 1 ∷ 0 ∷ 1 ∷ 0 ∷ 0 ∷ 0 ∷ 0 ∷ 0 ∷ 0 ∷ 1 ∷ 0 ∷ 0 ∷ 0 ∷ []) (none ∷ none ∷ []) [] []))
+    "what,name,at,value\nstuck,0,0,0\nvar,0,0,\nvar,1,0,\n"
+    -- PAR of y:=GIVEN a[1 + 1] and a[3]:=1 is accepted
+    ∷ markedCase "1,4,0,0\n1,1,0,0\n31,3,0,0\n40,4,11,0\n22,1,5,6\n10,0,0,0\n12,2,7,0\n11,0,8,0\n13,0,9,10\n10,1,0,0\n10,1,0,0\n40,12,-1,0\n22,0,13,14\n10,3,0,0\n10,1,0,0\n"
+    "\n" 65536
+    (atEnd Ended 2 (left (0 ∷ 0 ∷ 2 ∷ 0 ∷ 2 ∷ 0 ∷ 0 ∷ 0 ∷ 0 ∷ 0 ∷ 0 ∷ 0 ∷ 2 ∷ 0 ∷ 0 ∷ []) (none ∷ none ∷ none ∷ some (pos 1) ∷ some (pos 0) ∷ []) [] []))
+    "what,name,at,value\nended,0,0,2\nvar,0,0,\nvar,0,1,\nvar,0,2,\nvar,0,3,1\nvar,1,0,0\n"
     ∷ []
 
 -- every case is answered as the paper expects, and printed so byte for byte

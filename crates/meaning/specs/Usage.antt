@@ -1,14 +1,17 @@
 -- Usage in a PAR: the cells and channel elements that a process counts for, and the first clash. Cells and elements are numbered through the table.
-use mathlib.Core.Bool.{Bool, true, false, _||_}
+use mathlib.Core.Bool.{Bool, true, false, _&&_, _||_}
 use mathlib.Core.Option.{Option, none, some}
 use mathlib.Core.List.{List, [], _∷_, _++_, map}
 use Prim.Native.Nat.{ℕ, zero, suc, _+_}
 use lib.IntN.{ℤ, pos, negsuc}
 use lib.Dec.{ltb, eqb}
+use Rattle.meaning.specs.declared.Value.{Value}
+use Rattle.meaning.specs.declared.Value.the-variants.{Number, Missing}
 use Rattle.meaning.specs.Basics.{ifElse, common}
 use Rattle.meaning.specs.Refusals.{Refusal}
 use Rattle.meaning.specs.Declarations.{Variable}
 use Rattle.meaning.specs.Tree.{Expr, literal, element, monadic, given, dyadic, noExpr, ChannelInput, IfChoice, AltOption, Action, stop, skip, sequence, parallel, assign, input, output, conditional, loop, alternation, block, Process, node, Processes, empty, also, Content, contents}
+use Rattle.meaning.specs.Values.{value}
 
 -- n numbers from first on
 unfoldable pub numbersFrom : ℕ → ℕ → List ℕ
@@ -28,15 +31,24 @@ abbrev pub onlyIf : Bool → ℕ → List ℕ
 onlyIf true a = a ∷ []
 onlyIf false a = []
 
--- "With a literal subscript only that number of that name counts, and nothing if it is outside the array; with any other, every number of the name"
+-- "made only of literals and operators": GIVEN takes an element
+unfoldable pub constant : Expr → Bool
+constant (literal x) = true
+constant (element v e) = false
+constant (monadic op e) = constant e
+constant (given v e) = false
+constant (dyadic op e f) = constant e && constant f
+constant noExpr = false
+
+-- it "counts as its value", for "nothing if it is outside the array"; "If it has no value it counts as every number of the name"
+unfoldable pub countsByValue : ℕ → ℕ → Value → List ℕ
+countsByValue first n (Number (pos k)) = onlyIf (ltb k n) (first + k)
+countsByValue first n (Number (negsuc k)) = []
+countsByValue first n (Missing k) = numbersFrom first n
+
+-- the numbers that a subscript counts for: a constant by its value, for which no cell is looked at; "with any other, every number of the name"
 unfoldable pub countsFor : ℕ → ℕ → Expr → List ℕ
-countsFor first n (literal (pos k)) = onlyIf (ltb k n) (first + k)
-countsFor first n (literal (negsuc k)) = []
-countsFor first n (element v e) = numbersFrom first n
-countsFor first n (monadic op e) = numbersFrom first n
-countsFor first n (given v e) = numbersFrom first n
-countsFor first n (dyadic op e f) = numbersFrom first n
-countsFor first n noExpr = numbersFrom first n
+countsFor first n e = ifElse (constant e) (countsByValue first n (value [] e)) (numbersFrom first n)
 
 -- the cells that stand in an expression, subscripts included
 unfoldable pub standsIn : Expr → List ℕ

@@ -18,25 +18,20 @@ use Rattle.meaning.specs.Tree.{Process, Content, inputOf, contentOf, contentAt,
 use Rattle.meaning.specs.Usage.{countsFor, inputsBy, ofGuard, ofGuards, inputElements, outputElements}
 use Rattle.meaning.specs.State.{program, processAt}
 use Rattle.meaning.proofs.AnswerLaws.{RightRows}
-use Rattle.agreement.proofs.TableReferences.{few-rows}
-use Rattle.agreement.proofs.UsageRows.{node-of-kind, Fits, fits}
-use Rattle.agreement.proofs.UsageParts.{part-is}
+use Rattle.agreement.specs.VerdictClaims.{Passed}
+use Rattle.agreement.proofs.UsageRows.{node-of-kind}
+use Rattle.agreement.proofs.UsageParts.{fits-by, content-by}
 use Rattle.agreement.proofs.UsageNumbers.{Numbers, numbers-one}
 use Rattle.agreement.proofs.UsageNames.{elements-is}
+use Rattle.agreement.proofs.ActionRows.{passed}
 use Rattle.agreement.proofs.TableTree.{process-is, part-past}
 use Rattle.agreement.proofs.TreeRows.{process-kind}
 use Rattle.agreement.proofs.TreeBeneath.{beneath-rows}
 use Rattle.run_kept.specs.ReadyClaims.{OptionOf, option-first, option-next, GuardInput, input-alone, input-guarded, ChannelOf, named-by-input, named-by-output, named-by-guard}
 
 module _ (rows : List ℤ) (A : RightRows rows) where
-  each-fits : (r : ℕ) → r < rowCount rows → Fits rows r (nodeAt rows r)
-  each-fits = fits rows (few-rows rows A) (A .1) (A .2)
-
-  fits-by : (r : ℕ) (x : Node) → r < rowCount rows → nodeAt rows r ≡ x → Fits rows r x
-  fits-by r x l e = subst (Fits rows r) e (each-fits r l)
-
-  content-by : (r : ℕ) (x : Node) → r < rowCount rows → nodeAt rows r ≡ x → contentAt rows r ≡ contentOf rows r (contentAt rows) x
-  content-by r x l e = part-is rows r l (each-fits r l) ∙ ap (contentOf rows r (contentAt rows)) e
+  abbrev pass : Passed rows
+  pass = passed rows A
 
   module _ (d : ℕ) where
     -- element d is one of the channel that row c declares
@@ -50,12 +45,12 @@ module _ (rows : List ℤ) (A : RightRows rows) where
     input-element : (r a b c : ℕ) → r < rowCount rows → nodeAt rows r ≡ Input a b c → List·Memᴰ d (inputsBy (inputOf rows r (contentAt rows) a b c)) → ElementOf a
     unfolding sourceAt
     input-element r a b c l e m =
-        let f = fits-by r (Input a b c) l e in let p = elements-is rows each-fits d r 1 a b (f .0) (f .1) .0 m in (p .0, p .1)
+        let f = fits-by rows pass r (Input a b c) l e in let p = elements-is rows pass d r 1 a b (f .0) (f .1) .0 m in (p .0, p .1)
 
     output-element : (r a b c : ℕ) → r < rowCount rows → nodeAt rows r ≡ Output a b c → List·Memᴰ d (countsFor (sinkAt rows a .first) (sinkAt rows a .size) (contentAt rows b .expr)) → ElementOf a
     unfolding sinkAt
     output-element r a b c l e m =
-        let f = fits-by r (Output a b c) l e in let p = elements-is rows each-fits d r 2 a b (f .0) (f .1) .0 m in (p .0, p .1)
+        let f = fits-by rows pass r (Output a b c) l e in let p = elements-is rows pass d r 2 a b (f .0) (f .1) .0 m in (p .0, p .1)
 
     -- in the guard at a row
     abbrev InGuard : ℕ → Type 0
@@ -71,14 +66,14 @@ module _ (rows : List ℤ) (A : RightRows rows) where
         let b = naturalAt rows i 2 in
         let c = naturalAt rows i 3 in
         let e : nodeAt rows i ≡ Input a b c = node-of-kind rows i 23 k in
-        (a, (b, (c, e)), input-element i a b c l e (subst (λ (x : Content). List·Memᴰ d (ofGuard inputsBy (x .guard .input))) (content-by i (Input a b c) l e) m))
+        (a, (b, (c, e)), input-element i a b c l e (subst (λ (x : Content). List·Memᴰ d (ofGuard inputsBy (x .guard .input))) (content-by rows pass i (Input a b c) l e) m))
 
     at-skip : (i : ℕ) → i < rowCount rows → kindAt rows i ≡ 21 → InGuard i → ⊥
-    at-skip i l k m = List·Memᴰ·not-nil (subst (λ (x : Content). List·Memᴰ d (ofGuard inputsBy (x .guard .input))) (content-by i Skip l (node-of-kind rows i 21 k)) m)
+    at-skip i l k m = List·Memᴰ·not-nil (subst (λ (x : Content). List·Memᴰ d (ofGuard inputsBy (x .guard .input))) (content-by rows pass i Skip l (node-of-kind rows i 21 k)) m)
 
     -- in the guard of an option
     option-named : (j a b g : ℕ) → j < rowCount rows → nodeAt rows j ≡ OptionRow a b g → InGuard g → (i : ℕ) × GuardInput rows j i × InputNamed i
-    option-named j a b g l e m = go (fits-by j (OptionRow a b g) l e .2)
+    option-named j a b g l e m = go (fits-by rows pass j (OptionRow a b g) l e .2)
       where
         go : (j < g) × (g < rowCount rows) × List·Memᴰ (kindAt rows g) (23 ∷ 43 ∷ []) → (i : ℕ) × GuardInput rows j i × InputNamed i
         go (u, v, w) = ⊎-elim (λ k. (g, input-alone e, at-input g v k m)) (λ k. guarded (List·Memᴰ·eq-of-singleton k)) (List·Memᴰ·cases-cons w)
@@ -88,8 +83,8 @@ module _ (rows : List ℤ) (A : RightRows rows) where
                 let y = naturalAt rows g 1 in
                 let i = naturalAt rows g 2 in
                 let h : nodeAt rows g ≡ Guard y i = node-of-kind rows g 43 k in
-                let n : InGuard i = subst (λ (x : Content). List·Memᴰ d (ofGuard inputsBy (x .guard .input))) (content-by g (Guard y i) v h) m in
-                let f = fits-by g (Guard y i) v h .1 in
+                let n : InGuard i = subst (λ (x : Content). List·Memᴰ d (ofGuard inputsBy (x .guard .input))) (content-by rows pass g (Guard y i) v h) m in
+                let f = fits-by rows pass g (Guard y i) v h .1 in
                 ⊎-elim (λ q. absurd (at-skip i (f .1) q n)) (λ q. (i, input-guarded e h, at-input i (f .1) (List·Memᴰ·eq-of-singleton q) n)) (List·Memᴰ·cases-cons (f .2))
 
     -- in the guards of the options from row j on
@@ -104,11 +99,11 @@ module _ (rows : List ℤ) (A : RightRows rows) where
             let b = naturalAt rows j 2 in
             let g = naturalAt rows j 3 in
             let e : nodeAt rows j ≡ OptionRow a b g = node-of-kind rows j 42 (List·Memᴰ·eq-of-singleton (h l)) in
-            let u = fits-by j (OptionRow a b g) l e .1 in
+            let u = fits-by rows pass j (OptionRow a b g) l e .1 in
             ⊎-elim
             (λ i. let (q, z, w) = option-named j a b g l e i in (w .0, named-by-guard o z (w .1 .1 .1), w .2))
             (λ i. f b (let w = u .0 in omega arith) (option-next o e) (u .1) i)
-            (List·Memᴰ·append-cases (ofGuard inputsBy (contentAt rows g .guard .input)) (subst (λ (x : Content). List·Memᴰ d (ofGuards inputsBy (x .options))) (content-by j (OptionRow a b g) l e) m))
+            (List·Memᴰ·append-cases (ofGuard inputsBy (contentAt rows g .guard .input)) (subst (λ (x : Content). List·Memᴰ d (ofGuards inputsBy (x .options))) (content-by rows pass j (OptionRow a b g) l e) m))
 
     -- an element that a process may input from or output to
     abbrev Reaches : Process → Type 0
@@ -133,7 +128,7 @@ module _ (rows : List ℤ) (A : RightRows rows) where
     node-named r l (Par a) e h = no-element h
     node-named r l (If a) e h = no-element h
     node-named r l (While a b) e h = no-element h
-    node-named r l (Alt a) e (inl h) = options-named r (rowCount rows) a (omega arith) (option-first e) (fits-by r (Alt a) l e .1) h
+    node-named r l (Alt a) e (inl h) = options-named r (rowCount rows) a (omega arith) (option-first e) (fits-by rows pass r (Alt a) l e .1) h
     node-named r l (Alt a) e (inr h) = absurd (List·Memᴰ·not-nil h)
     node-named r l (Block a b) e h = no-element h
     node-named r l (Member a b) e h = no-element h
@@ -149,7 +144,7 @@ module _ (rows : List ℤ) (A : RightRows rows) where
         there x e = subst Reaches (process-is rows r ∙ ap (λ (y : Content). orStop (y .process)) e) h
 
         go : Dec (r < rowCount rows) → Named r
-        go (yes l) = node-named r l (nodeAt rows r) refl (there (contentOf rows r (contentAt rows) (nodeAt rows r)) (content-by r (nodeAt rows r) l refl))
+        go (yes l) = node-named r l (nodeAt rows r) refl (there (contentOf rows r (contentAt rows) (nodeAt rows r)) (content-by rows pass r (nodeAt rows r) l refl))
         go (no l) = no-element (there _ (part-past rows r (omega arith)))
 
     -- an element in common means a channel in common

@@ -6,7 +6,7 @@ ghost use Prim.Native.Nat.{_≤_};
 ghost use lib.IntN.{ℤ};
 ghost use lib.ListN.{getD};
 ghost use Rattle.meaning.specs.Tree.{contentAt, actionOf};
-ghost use Rattle.meaning.specs.Values.{isTrue, truth, operate, monadicOf, whenNumber, inArray, cellValue, readCell, givenValue, cellSent, valueSent};
+ghost use Rattle.meaning.specs.Values.{inArray, cellValue, readCell, givenValue, cellSent, valueSent};
 ghost use Rattle.meaning.specs.Values as meaning;
 ghost use Rattle.run_values.specs.Cells.{lentCells};
 ghost use Rattle.meaning.specs.State.{program, processAt};
@@ -64,36 +64,6 @@ pub fn given<'a>(values: &'a [i32; 256], marks: &'a [u8; 256], i: Index) -> Valu
     }
 }
 
-// A monadic operator on what may have a value.
-pub fn monadic(op: u32, v: Value) -> Value
-    ensures { λ r. ⌜ r ≡ whenNumber v (monadicOf op) ⌝ }
-{
-    match v {
-        Value::Number(x) => base_numbers::monadic(op, x),
-        Value::Missing(k) => Value::Missing(k),
-    }
-}
-
-// A dyadic operator on a first operand, and on a second that may have a value.
-pub fn dyadic(op: u32, x: i32, w: Value) -> Value
-    ensures { λ r. ⌜ r ≡ whenNumber w (operate op x) ⌝ }
-{
-    match w {
-        Value::Number(y) => base_numbers::dyadic(op, x, y),
-        Value::Missing(k) => Value::Missing(k),
-    }
-}
-
-// What AND or OR gives that its first operand decides.
-pub fn decided(x: i32) -> Value
-    ensures { λ r. ⌜ r ≡ truth (isTrue x) ⌝ }
-{
-    if base_numbers::is_true(x) {
-        return Value::Number(1);
-    }
-    Value::Number(0)
-}
-
 // The cell or channel element of row r whose subscript has this value: its number 1 is the row of the declaration, which tells the first and how many.
 fn subscripted(code: &[u16; 6150], r: usize, v: Value) -> Index
     requires table { ⌜ ((rows : List ℤ) × Prepared rows (now code)) ⌝ }
@@ -139,7 +109,7 @@ pub fn eval<'a>(
             let op = place(code, r, 1);
             let b = place(code, r, 2) as usize;
             if op != 2 {
-                return monadic(op, eval(code, values, marks, b));
+                return base_numbers::monadic_of(op, eval(code, values, marks, b));
             }
             if place(code, b, 0) != 4 {
                 return given(values, marks, fixed_cell(code, b));
@@ -154,9 +124,13 @@ pub fn eval<'a>(
                 Value::Missing(k) => Value::Missing(k),
                 Value::Number(x) => {
                     if base_numbers::decides(op, x) {
-                        return decided(x);
+                        return base_numbers::decided(x);
                     }
-                    dyadic(op, x, eval(code, values, marks, place(code, r, 3) as usize))
+                    base_numbers::dyadic_after(
+                        op,
+                        x,
+                        eval(code, values, marks, place(code, r, 3) as usize),
+                    )
                 }
             }
         }

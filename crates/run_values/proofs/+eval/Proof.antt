@@ -15,16 +15,16 @@ use borrow.Fn.PlainCycle.{Measures, is, falls, and}
 use Rattle.run_values.proofs.eval.Reads as eval
 use Rattle.run_values.proofs.eval.Kinds as eval-kinds
 use Rattle.run_values.proofs.+eval.Lts-eval as eval-lts
+use Rattle.base_numbers.proofs.decided.Reads as decided-reads
 use Rattle.base_numbers.proofs.decides.Reads as decides-reads
+use Rattle.base_numbers.proofs.dyadic_after.Reads as dyadic-after-reads
+use Rattle.base_numbers.proofs.monadic_of.Reads as monadic-of-reads
 use Rattle.run_code.proofs.literal.Reads as literal-reads
 use Rattle.run_code.proofs.place.Reads as place-reads
 use Rattle.run_values.proofs.cell.Reads as cell-reads
 use Rattle.run_values.proofs.cell_at.Reads as cell-at-reads
-use Rattle.run_values.proofs.decided.Reads as decided-reads
-use Rattle.run_values.proofs.dyadic.Reads as dyadic-reads
 use Rattle.run_values.proofs.fixed_cell.Reads as fixed-cell-reads
 use Rattle.run_values.proofs.given.Reads as given-reads
-use Rattle.run_values.proofs.monadic.Reads as monadic-reads
 use Rattle.run_values.proofs.subscripted.Reads as subscripted-reads
 use Rattle.run_values.proofs.+eval.{statement}
 use Rattle.run_values.proofs.+eval.Tie.{close}
@@ -39,7 +39,7 @@ abbrev eval-below : ℕ → In 1 eval-kinds.ps
 eval-below t = and 1 eval-kinds.ps (falls 1 eval-kinds.ps _<_ μ-eval t) eval.Pre
 
 abbrev eval-claims : ℕ → eval-lts.Claims
-eval-claims t = (place-reads.Asked, place-reads.Learnt, literal-reads.Asked, literal-reads.Learnt, cell-reads.Asked, cell-reads.Learnt, eval-below t, eval.Post, subscripted-reads.Asked, subscripted-reads.Learnt, cell-at-reads.Asked, cell-at-reads.Learnt, monadic-reads.Asked, monadic-reads.Learnt, fixed-cell-reads.Asked, fixed-cell-reads.Learnt, given-reads.Asked, given-reads.Learnt, decides-reads.Asked, decides-reads.Learnt, decided-reads.Asked, decided-reads.Learnt, dyadic-reads.Asked, dyadic-reads.Learnt)
+eval-claims t = (place-reads.Asked, place-reads.Learnt, literal-reads.Asked, literal-reads.Learnt, cell-reads.Asked, cell-reads.Learnt, eval-below t, eval.Post, subscripted-reads.Asked, subscripted-reads.Learnt, cell-at-reads.Asked, cell-at-reads.Learnt, monadic-of-reads.Asked, monadic-of-reads.Learnt, fixed-cell-reads.Asked, fixed-cell-reads.Learnt, given-reads.Asked, given-reads.Learnt, decides-reads.Asked, decides-reads.Learnt, decided-reads.Asked, decided-reads.Learnt, dyadic-after-reads.Asked, dyadic-after-reads.Learnt)
 
 eval-place-requires : (t : ℕ) → eval-lts.Need-place-requires (eval-claims t) (eval-at t) eval.Post
 eval-place-requires t c κs = search needs
@@ -89,13 +89,13 @@ eval-eval-requires-2 t c κs =
     let a = values.operand-higher (s .pre .1 .0 .1) (s .args .r) (s .pre .1 .1) (sym (c .before .before .before .before .place .ensures) ∙ c .before .before .before .match .keys5) (c .before .place5 .ensures) in
     (omega (arith, s .pre .0, a), (s .pre .1 .0, a .1))
 
-eval-monadic-requires : (t : ℕ) → eval-lts.Need-monadic-requires (eval-claims t) (eval-at t) eval.Post
-eval-monadic-requires t c κs = search needs
+eval-monadic-of-requires : (t : ℕ) → eval-lts.Need-monadic-of-requires (eval-claims t) (eval-at t) eval.Post
+eval-monadic-of-requires t c κs = search needs
 
 eval-returns : (t : ℕ) → eval-lts.Need-returns (eval-claims t) (eval-at t) eval.Post
 eval-returns t c =
     let s = c .before .before .before .before .before .before .before in
-    λ rows p. values.monadic-value p (s .args .r) (s .pre .1 .1) (cellsIn (s .args .values .now) (s .args .marks .now)) (sym (c .before .before .before .before .before .before .place .ensures) ∙ c .before .before .before .before .before .match .keys5) (c .before .before .before .before .place4 .ensures) (c .before .before .if1 .taken) (c .before .before .before .place5 .ensures) (c .before .eval2 .ensures rows p) (c .monadic .ensures)
+    λ rows p. values.monadic-value p (s .args .r) (s .pre .1 .1) (cellsIn (s .args .values .now) (s .args .marks .now)) (sym (c .before .before .before .before .before .before .place .ensures) ∙ c .before .before .before .before .before .match .keys5) (c .before .before .before .before .place4 .ensures) (c .before .before .if1 .taken) (c .before .before .before .place5 .ensures) (c .before .eval2 .ensures rows p) (c .monadic-of .ensures)
 
 eval-place-requires-6 : (t : ℕ) → eval-lts.Need-place-requires-6 (eval-claims t) (eval-at t) eval.Post
 eval-place-requires-6 t c κs =
@@ -189,8 +189,8 @@ eval-eval-requires-5 t c κs =
     let a = values.second-higher (s .pre .1 .0 .1) (s .args .r) (s .pre .1 .1) (sym (c .before .before .before .before .before .before .before .before .before .before .place .ensures) ∙ c .before .before .before .before .before .before .before .before .before .match .keys6) (c .place10 .ensures) in
     (omega (arith, s .pre .0, a), (s .pre .1 .0, a .1))
 
-eval-dyadic-requires : (t : ℕ) → eval-lts.Need-dyadic-requires (eval-claims t) (eval-at t) eval.Post
-eval-dyadic-requires t c κs = search needs
+eval-dyadic-after-requires : (t : ℕ) → eval-lts.Need-dyadic-after-requires (eval-claims t) (eval-at t) eval.Post
+eval-dyadic-after-requires t c κs = search needs
 
 eval-returns-4 : (t : ℕ) → eval-lts.Need-returns-4 (eval-claims t) (eval-at t) eval.Post
 eval-returns-4 t c =
@@ -229,7 +229,7 @@ eval-returns-10 t c =
     let x = c .before .before .before .before .before .before .v2 .given in
     let f : SFits w32 (x .0 .0) = search needs in
     let d = rw (toZ-ofZ w32 (x .0 .0) f) at (c .before .before .before .before .decides .ensures) in
-    let e = rw (toZ-ofZ w32 (x .0 .0) f) at (c .dyadic .ensures) in
+    let e = rw (toZ-ofZ w32 (x .0 .0) f) at (c .dyadic-after .ensures) in
     λ rows p. values.both-operands p (s .args .r) (s .pre .1 .1) (cellsIn (s .args .values .now) (s .args .marks .now)) (sym (c .before .before .before .before .before .before .before .before .before .before .before .before .place .ensures) ∙ c .before .before .before .before .before .before .before .before .before .before .before .match .keys6) (c .before .before .before .before .before .before .before .before .before .before .place8 .ensures) (c .before .before .before .before .before .before .before .before .before .place9 .ensures) (c .before .before .before .before .before .before .before .before .eval4 .ensures rows p) (x .1) (sym d ∙ c .before .before .before .if3 .left) (c .before .before .place10 .ensures) (c .before .eval5 .ensures rows p) e
 
 eval-returns-11 : (t : ℕ) → eval-lts.Need-returns-11 (eval-claims t) (eval-at t) eval.Post
@@ -255,7 +255,7 @@ pub +eval-spec : {M : Type 1} → statement M
     (eval-place-requires-5 t)
     (eval-cast-b t)
     (eval-eval-requires-2 t)
-    (eval-monadic-requires t)
+    (eval-monadic-of-requires t)
     (eval-returns t)
     (eval-place-requires-6 t)
     (eval-fixed-cell-requires t)
@@ -278,7 +278,7 @@ pub +eval-spec : {M : Type 1} → statement M
     (eval-place-requires-10 t)
     (eval-cast-eval-4 t)
     (eval-eval-requires-5 t)
-    (eval-dyadic-requires t)
+    (eval-dyadic-after-requires t)
     (eval-returns-4 t)
     (eval-returns-5 t)
     (eval-returns-6 t)

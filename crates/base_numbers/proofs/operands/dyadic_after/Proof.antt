@@ -1,9 +1,9 @@
--- `dyadic` meets its contract, by the cases of the second operand.
+-- `dyadic_after` meets its contract, by the cases of the second operand.
 use borrow.Author.Needs.{needs}
 use mir.Syntax.{w32}
 use mir.ValLaws.{toZ-ofZ}
-use Rattle.run_values.proofs.dyadic.Statement.{statement}
-use Rattle.run_values.proofs.dyadic.Tie as tie
+use Rattle.base_numbers.proofs.operands.dyadic_after.Statement.{statement}
+use Rattle.base_numbers.proofs.operands.dyadic_after.Tie as tie
 
 enum-known-w : tie.Need-enum-known-w
 enum-known-w c = search needs
@@ -20,5 +20,5 @@ returns c = rw (c .before .before .w .given .1) (rw (toZ-ofZ w32 (c .before .bef
 returns-2 : tie.Need-returns-2
 returns-2 c = rw (c .before .w2 .given .1)
 
-pub dyadic-spec : {M : Type 1} → statement M
-dyadic-spec = tie.close (tie.spec enum-known-w dyadic-requires enum-known-w-2 returns returns-2)
+pub dyadic-after-spec : {M : Type 1} → statement M
+dyadic-after-spec = tie.close (tie.spec enum-known-w dyadic-requires enum-known-w-2 returns returns-2)
