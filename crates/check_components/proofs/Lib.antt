@@ -1,4 +1,3 @@
-pub mod CountLaws
 pub mod NamedLaws
 pub mod ExprMarks
 pub mod Links

@@ -2,16 +2,9 @@
 use mathlib.Core.Option.{Option, none, some}
 use mathlib.Core.List.{List, [], _∷_, _++_}
 use Prim.Native.Nat.{ℕ}
-use Rattle.meaning.specs.declared.Value.{Value}
-use Rattle.meaning.specs.declared.Value.the-variants.{Number, Missing}
 use Rattle.meaning.specs.Tree.{Expr, Target, ChannelInput, IfChoice, AltGuard, AltOption, Action, stop, skip, sequence, parallel, assign, input, output, conditional, loop, alternation, block, Process, node}
 use Rattle.meaning.specs.Usage.{countsFor, standsIn, inputsBy, ofGuard, gather}
 use Rattle.base_sets.specs.Sets.{inSort}
-
--- how many of n numbers count where a constant subscript means none of them: "nothing if it is outside the array", "every number" if it has no value
-abbrev pub withoutPlace : ℕ → Value → ℕ
-withoutPlace n (Number x) = 0
-withoutPlace n (Missing k) = n
 
 abbrev pub targetCells : Target → List ℕ
 targetCells t = countsFor (t .name .first) (t .name .size) (t .subscript)

@@ -4,22 +4,17 @@ ghost use Prim.Native.Nat.{_<_};
 ghost use Rattle.meaning.specs.Rows.{rowCount, naturalAt};
 ghost use Rattle.meaning.specs.Declarations.{variableAt};
 ghost use Rattle.meaning.specs.Tree.{contentAt};
-ghost use Rattle.meaning.specs.Usage.{countsByValue, countsFor, ofGuard, gatherAll};
+ghost use Rattle.meaning.specs.Usage.{ofGuard, gatherAll};
 ghost use Rattle.base_layout.specs.Operands.{operandAt};
 ghost use Rattle.base_sets.specs.Sets.{withAll, inSort};
-ghost use Rattle.check_components.specs.Marks.{withoutPlace, markExpr, markTarget, markInput, markChoices, markGuard, markOptions, marks, ownMarks, allMarks};
+ghost use Rattle.check_components.specs.Marks.{markExpr, markTarget, markInput, markChoices, markGuard, markOptions, marks, ownMarks, allMarks};
 ghost use Rattle.check_components.specs.Fields.{targetIn, cellsIn, inputIn, outputIn, isLink, NotIfWhileAlt, WalkFacts};
 use base_layout::nodes::natural;
 use base_layout::nodes::operand;
 use base_layout::sink_at;
 use base_layout::source_at;
 use base_layout::variable_at;
-use base_sets::put;
-use base_sets::put_range;
-use check_constants::Constant;
-use check_constants::constant_at;
-use meaning::Index;
-use meaning::Value;
+use check_subscripts::count;
 
 // The sorts: cells changed and used, channel elements input from and output to.
 const CHANGED: usize = 0;
@@ -29,46 +24,6 @@ const USED: usize = 1;
 const INPUT: usize = 2;
 
 const OUTPUT: usize = 3;
-
-// How many numbers of an array count where a constant subscript means none of them: every number if it has no value, none if it is outside.
-fn without_place(size: u32, v: Value) -> u32
-    ensures { λ n. ⌜ n ≡ withoutPlace size v ⌝ }
-{
-    match v {
-        Value::Missing(_k) => size,
-        Value::Number(_x) => 0,
-    }
-}
-
-// What a constant subscript of this value counts for in an array of `size` from `first` on: the number that it means, if it means one.
-fn count_value(v: Value, sort: usize, first: u32, size: u32, sets: &mut [u64])
-    requires { ⌜ sort < 4 ⌝ }
-    ensures { λ _. ⌜ now (sets .exit) ≡ withAll (now (sets .entry)) (inSort sort (countsByValue first size v)) ⌝ }
-{
-    match base_numbers::subscript(first, size, v) {
-        Index::At(i) => {
-            put(sets, sort, i);
-        }
-        Index::Fails(_k) => {
-            put_range(sets, sort, first, without_place(size, v));
-        }
-    }
-}
-
-// What the subscript of row e counts for in an array of `size` from `first` on: a constant by its value, any other every number.
-fn count(rows: &[i32], e: usize, sort: usize, first: u32, size: u32, sets: &mut [u64])
-    requires { ⌜ sort < 4 ⌝ }
-    ensures { λ _. ⌜ now (sets .exit) ≡ withAll (now (sets .entry)) (inSort sort (countsFor first size (contentAt (now (rows .entry)) e .expr))) ⌝ }
-{
-    match constant_at(rows, e) {
-        Constant::Of(v) => {
-            count_value(v, sort, first, size, sets);
-        }
-        Constant::Varies => {
-            put_range(sets, sort, first, size);
-        }
-    }
-}
 
 // The cells that row r means by the variable of its field a and the subscript of its field b.
 fn cells<'a>(rows: &'a [i32], names: &'a [u16], r: usize, sort: usize, sets: &mut [u64])

@@ -14,9 +14,9 @@ use Rattle.meaning.specs.Values.{value, whenNumber, monadicOf, dyadicOf}
 use Rattle.base_layout.specs.Operands.{operandAt}
 use Rattle.base_layout.proofs.Parts.{part-past, higherContent, part-of-kind}
 use Rattle.base_layout.proofs.RowKinds.{each-kind, above-operand, by-kind}
-use Rattle.check_constants.specs.declared.Constant.{Constant}
-use Rattle.check_constants.specs.declared.Constant.the-variants.{Of, Varies}
-use Rattle.check_constants.specs.Constants.{constantOf, monadicConstant, dyadicConstant}
+use Rattle.check_subscripts.specs.declared.Constant.{Constant}
+use Rattle.check_subscripts.specs.declared.Constant.the-variants.{Of, Varies}
+use Rattle.check_subscripts.specs.Constants.{constantOf, monadicConstant, dyadicConstant}
 
 -- a monadic operation on what stands at the operand's row: GIVEN varies, any other is as its operand
 module _ (op : ℕ) where

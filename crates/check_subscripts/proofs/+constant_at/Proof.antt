@@ -9,17 +9,17 @@ use borrow.Author.Needs.{needs}
 use mir.Syntax.{w32}
 use mir.ValLaws.{toZ-ofZ}
 use Rattle.base_layout.proofs.Parts.{operand-higher}
-use Rattle.check_constants.proofs.ConstantLaws.{past-varies, literal-constant, monadic-constant, dyadic-constant, other-varies}
-use Rattle.check_constants.proofs.constant_at.Reads as constant-at
-use Rattle.check_constants.proofs.constant_at.Kinds as constant-at-kinds
-use Rattle.check_constants.proofs.+constant_at.Lts-constant_at as constant-at-lts
+use Rattle.check_subscripts.proofs.ConstantLaws.{past-varies, literal-constant, monadic-constant, dyadic-constant, other-varies}
+use Rattle.check_subscripts.proofs.constant_at.Reads as constant-at
+use Rattle.check_subscripts.proofs.constant_at.Kinds as constant-at-kinds
+use Rattle.check_subscripts.proofs.+constant_at.Lts-constant_at as constant-at-lts
 use Rattle.base_layout.proofs.nodes.field.Reads as field-reads
 use Rattle.base_layout.proofs.nodes.natural.Reads as natural-reads
 use Rattle.base_layout.proofs.nodes.operand.Reads as operand-reads
-use Rattle.check_constants.proofs.dyadic.Reads as dyadic-reads
-use Rattle.check_constants.proofs.monadic.Reads as monadic-reads
-use Rattle.check_constants.proofs.+constant_at.{statement}
-use Rattle.check_constants.proofs.+constant_at.Tie.{close}
+use Rattle.check_subscripts.proofs.dyadic.Reads as dyadic-reads
+use Rattle.check_subscripts.proofs.monadic.Reads as monadic-reads
+use Rattle.check_subscripts.proofs.+constant_at.{statement}
+use Rattle.check_subscripts.proofs.+constant_at.Tie.{close}
 
 abbrev μ-constant-at : Measures 1 constant-at-kinds.ps ℕ
 μ-constant-at κs a = length (a .0 .now) / 4 - a .1 .0

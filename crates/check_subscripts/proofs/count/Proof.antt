@@ -4,9 +4,9 @@ use borrow.Author.Needs.{needs}
 use Rattle.meaning.specs.Tree.{contentAt}
 use Rattle.base_sets.specs.Sets.{inSort}
 use Rattle.base_sets.proofs.SetLaws.{one-call}
-use Rattle.check_components.proofs.CountLaws.{counts-as}
-use Rattle.check_components.proofs.count.Statement.{statement}
-use Rattle.check_components.proofs.count.Tie as tie
+use Rattle.check_subscripts.proofs.CountLaws.{counts-as}
+use Rattle.check_subscripts.proofs.count.Statement.{statement}
+use Rattle.check_subscripts.proofs.count.Tie as tie
 
 constant-at-requires : tie.Need-constant-at-requires
 constant-at-requires c κs = search needs

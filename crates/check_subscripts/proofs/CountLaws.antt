@@ -13,10 +13,10 @@ use Rattle.meaning.specs.Basics.{ifElse}
 use Rattle.meaning.specs.Tree.{Expr}
 use Rattle.meaning.specs.Usage.{numbersFrom, onlyIf, constant, countsByValue, countsFor}
 use Rattle.meaning.specs.Values.{inArray, value}
-use Rattle.check_constants.specs.declared.Constant.{Constant}
-use Rattle.check_constants.specs.declared.Constant.the-variants.{Of, Varies}
-use Rattle.check_constants.specs.Constants.{constantOf}
-use Rattle.check_components.specs.Marks.{withoutPlace}
+use Rattle.check_subscripts.specs.declared.Constant.{Constant}
+use Rattle.check_subscripts.specs.declared.Constant.the-variants.{Of, Varies}
+use Rattle.check_subscripts.specs.Constants.{constantOf}
+use Rattle.check_subscripts.specs.Counts.{withoutPlace}
 
 module _ (first n : ℕ) where
   -- what a constant counts for, or what varies

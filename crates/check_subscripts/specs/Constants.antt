@@ -6,8 +6,8 @@ use Rattle.meaning.specs.Basics.{ifElse}
 use Rattle.meaning.specs.Tree.{Expr}
 use Rattle.meaning.specs.Usage.{constant}
 use Rattle.meaning.specs.Values.{value, whenNumber, monadicOf, dyadicOf}
-use Rattle.check_constants.specs.declared.Constant.{Constant}
-use Rattle.check_constants.specs.declared.Constant.the-variants.{Of, Varies}
+use Rattle.check_subscripts.specs.declared.Constant.{Constant}
+use Rattle.check_subscripts.specs.declared.Constant.the-variants.{Of, Varies}
 
 -- its value, for which no cell is looked at, if it is "made only of literals and operators"
 unfoldable pub constantOf : Expr → Constant

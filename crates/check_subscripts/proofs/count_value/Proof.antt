@@ -4,9 +4,9 @@ use borrow.Author.Needs.{needs}
 use Rattle.meaning.specs.Usage.{numbersFrom}
 use Rattle.base_sets.specs.Sets.{inSort}
 use Rattle.base_sets.proofs.SetLaws.{one-call, one-more}
-use Rattle.check_components.proofs.CountLaws.{counts-at}
-use Rattle.check_components.proofs.count_value.Statement.{statement}
-use Rattle.check_components.proofs.count_value.Tie as tie
+use Rattle.check_subscripts.proofs.CountLaws.{counts-at}
+use Rattle.check_subscripts.proofs.count_value.Statement.{statement}
+use Rattle.check_subscripts.proofs.count_value.Tie as tie
 
 subscript-requires : tie.Need-subscript-requires
 subscript-requires c κs = search needs

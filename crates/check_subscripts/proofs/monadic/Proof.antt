@@ -1,8 +1,8 @@
 -- `monadic` meets its contract, by the cases of the operand and by whether the operator is GIVEN.
 use borrow.Author.Needs.{needs}
 use borrow.Author.Tests.{ne-eqb}
-use Rattle.check_constants.proofs.monadic.Statement.{statement}
-use Rattle.check_constants.proofs.monadic.Tie as tie
+use Rattle.check_subscripts.proofs.monadic.Statement.{statement}
+use Rattle.check_subscripts.proofs.monadic.Tie as tie
 
 enum-told : tie.Need-enum-told
 enum-told c = search needs

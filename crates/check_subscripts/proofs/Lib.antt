@@ -1,1 +1,2 @@
 pub mod ConstantLaws
+pub mod CountLaws

@@ -1,7 +1,7 @@
 -- `dyadic` meets its contract, by the cases of the two operands.
 use borrow.Author.Needs.{needs}
-use Rattle.check_constants.proofs.dyadic.Statement.{statement}
-use Rattle.check_constants.proofs.dyadic.Tie as tie
+use Rattle.check_subscripts.proofs.dyadic.Statement.{statement}
+use Rattle.check_subscripts.proofs.dyadic.Tie as tie
 
 enum-told : tie.Need-enum-told
 enum-told c = search needs
