@@ -20,15 +20,16 @@ pub fn runs() -> Vec<Sheet> {
 
 /// Large tables, whose reading and checking are timed.
 pub fn tables() -> Vec<Sheet> {
-    let sheet = |name, rows: Vec<[i32; 4]>| Sheet {
+    let sheet = |name, table| Sheet {
         name,
-        table: bytes(&rows),
+        table,
         readings: b"\n".to_vec(),
     };
     vec![
-        sheet("check: sum of literals", sum()),
-        sheet("check: assignments", assignments()),
-        sheet("check: one expression", deep()),
+        sheet("check: sum of literals", bytes(&sum())),
+        sheet("check: assignments", bytes(&assignments())),
+        sheet("check: one expression", bytes(&deep())),
+        sheet("check: constant subscripts", constant_subscripts()),
     ]
 }
 
@@ -181,4 +182,13 @@ fn sum() -> Vec<[i32; 4]> {
     }
     rows.push([10, i32::MIN, 0, 0]);
     rows
+}
+
+/// A PAR of 60 assignments, each to a variable of its own by a constant subscript, six operators deep.
+fn constant_subscripts() -> Vec<u8> {
+    let deeper = |inner, _| dyadic(PLUS, Literal(0), inner);
+    let subscript = || (0..6).fold(Literal(1), deeper);
+    let assignment = |variable| AssignAt(variable, subscript(), Literal(7));
+    let root = Par((0..60).map(assignment).collect());
+    table(&[[1, 2, 0, 0]; 60], &root)
 }

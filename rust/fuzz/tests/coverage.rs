@@ -1,6 +1,11 @@
 //! What the inputs from seeds make runs do: GIVEN, absences that pass to inputs, to options of an ALT
-//! and to the host, and blocks, whose start unsets cells that are set, each in sufficient number.
+//! and to the host, and blocks, whose start unsets cells that are set, each in sufficient number. And
+//! what their verdicts rest on: constant subscripts, and subscripts that count as every number.
 
+#[path = "../../reference/tests/common/clashes.rs"]
+mod clashes;
+
+use clashes::{differs, Rule};
 use fuzz::inputs::versions;
 use fuzz::Given;
 use reference::check_bytes;
@@ -74,23 +79,56 @@ fn deeds(given: &Given) -> Option<Vec<&'static str>> {
     Some(deeds)
 }
 
-#[test]
-fn absences_pass_and_blocks_begin_again() {
+/// What the verdict on an input's table rests on: no clash by constants alone, a clash by a constant
+/// alone, or one by a subscript that counts as every number of its name.
+fn grounds(given: &Given) -> Vec<&'static str> {
+    let grounds = [
+        ("no clash by constants", Rule::Literal, Rule::Constant),
+        (
+            "clash by a constant",
+            Rule::Constant,
+            Rule::WithoutConstants,
+        ),
+        ("clash by every number", Rule::Constant, Rule::WithoutAll),
+    ];
+    let differs = |&(_, one, other): &(_, Rule, Rule)| differs(&given.table, one, other);
+    let found = grounds.into_iter().filter(differs);
+    found.map(|(name, ..)| name).collect()
+}
+
+/// Counts what the inputs have or do, and asks for so many of each at least.
+fn assert_enough(seen: impl Fn(&Given) -> Vec<&'static str>, least: &[(&str, u64)]) {
     let mut tally = Tally::new();
     for given in (0..SEEDS).flat_map(versions) {
-        for deed in deeds(&given).unwrap_or_default() {
-            *tally.entry(deed).or_default() += 1;
+        for name in seen(&given) {
+            *tally.entry(name).or_default() += 1;
         }
     }
     println!("{tally:?}");
-    for (deed, least) in [
+    for (name, least) in least {
+        assert!(tally.get(name) >= Some(least), "{name} in {tally:?}");
+    }
+}
+
+#[test]
+fn absences_pass_and_blocks_begin_again() {
+    let least = [
         ("GIVEN", 1_000),
         ("absence to an input", 200),
         ("absence to an option", 50),
         ("absence to the host", 400),
         ("block", 2_000),
         ("block that unsets", 400),
-    ] {
-        assert!(tally.get(deed) >= Some(&least), "{deed} in {tally:?}");
-    }
+    ];
+    assert_enough(|given| deeds(given).unwrap_or_default(), &least);
+}
+
+#[test]
+fn verdicts_rest_on_constant_subscripts() {
+    let least = [
+        ("no clash by constants", 800),
+        ("clash by a constant", 450),
+        ("clash by every number", 240),
+    ];
+    assert_enough(grounds, &least);
 }

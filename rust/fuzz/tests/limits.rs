@@ -11,8 +11,8 @@ use std::process::{Command, Stdio};
 use std::thread;
 use tables::{
     absences_everywhere, blocks_of_all_cells, bytes, deep_alts, deep_blocks_in_a_loop,
-    deep_expression, deep_given, deep_ifs, deep_loops, deep_pars_in_a_loop, deep_subscript,
-    deep_sum, largest, nested, readings, wide_in_a_loop,
+    deep_constant, deep_expression, deep_given, deep_ifs, deep_loops, deep_pars_in_a_loop,
+    deep_subscript, deep_sum, largest, nested, readings, wide_in_a_loop,
 };
 
 /// The stack of a call in KiB, for the tests; `OCCAM_STACK` asks for another one.
@@ -92,6 +92,11 @@ fn a_deep_sum_to_the_left() {
 #[test]
 fn a_deep_subscript() {
     assert_eq!(answered(deep_subscript(), b"\n", 65_536), BROKEN + 65_536);
+}
+
+#[test]
+fn a_deep_constant() {
+    assert_eq!(answered(deep_constant(), b"\n", 65_536), ENDED + 2 * 65_536);
 }
 
 #[test]

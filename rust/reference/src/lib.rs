@@ -12,6 +12,7 @@ pub mod kinds;
 pub mod references;
 
 pub mod blocks;
+pub mod constants;
 pub mod limits;
 pub mod usage;
 

@@ -29,7 +29,7 @@ impl Part {
     }
 
     /// All positions in the store of this name.
-    pub fn cells(&self) -> std::ops::Range<usize> {
+    pub fn positions(&self) -> std::ops::Range<usize> {
         self.first..self.first + self.length
     }
 }

@@ -157,7 +157,7 @@ impl State {
 
     /// "Starting it unsets all cells of the variable".
     fn unset_cells(&mut self, variable: Part) {
-        self.cells[variable.cells()].fill(None);
+        self.cells[variable.positions()].fill(None);
     }
 
     /// An ended process lets what is above it go on: the next member, the end, or the next test.

@@ -1,7 +1,8 @@
 //! Usage in a PAR: no clash of cells, inputs or outputs between components (refusals 7, 8, 9).
 
-use crate::kinds::{rows_referred_to, ASSIGNMENT, ELEMENT, INPUT, LITERAL, OUTPUT, PAR};
-use crate::limits::{Layout, Part};
+use crate::constants::{constants_of, Constant};
+use crate::kinds::{rows_referred_to, ASSIGNMENT, ELEMENT, INPUT, OUTPUT, PAR};
+use crate::limits::Layout;
 use crate::refusal::Refusal;
 use crate::table::Row;
 
@@ -10,9 +11,11 @@ use crate::table::Row;
 struct NumberSet([u64; 4]);
 
 impl NumberSet {
-    /// Adds one number.
-    fn add(&mut self, number: usize) {
-        self.0[number / 64] |= 1 << (number % 64);
+    /// Adds these numbers.
+    fn add(&mut self, numbers: impl IntoIterator<Item = usize>) {
+        for number in numbers {
+            self.0[number / 64] |= 1 << (number % 64);
+        }
     }
 
     /// Adds all numbers of another set.
@@ -83,9 +86,10 @@ pub fn check_usage(rows: &[Row], layout: &Layout) -> Result<(), Refusal> {
 
 /// The usage of each row with all beneath it, from the last row up: references go to higher rows.
 fn usages_of(rows: &[Row], layout: &Layout) -> Vec<Usage> {
+    let constants = constants_of(rows);
     let mut usages = vec![Usage::default(); rows.len()];
     for index in (layout.by_row.len()..rows.len()).rev() {
-        let mut usage = own_usage(rows, layout, &rows[index]);
+        let mut usage = own_usage(rows, layout, &constants, &rows[index]);
         for beneath in rows_referred_to(&rows[index]) {
             usage.add_all(&usages[beneath]);
         }
@@ -95,42 +99,34 @@ fn usages_of(rows: &[Row], layout: &Layout) -> Vec<Usage> {
 }
 
 /// What the row itself changes, uses, inputs from or outputs to.
-fn own_usage(rows: &[Row], layout: &Layout, row: &Row) -> Usage {
+fn own_usage(rows: &[Row], layout: &Layout, constants: &[Constant], row: &Row) -> Usage {
     let mut usage = Usage::default();
     match row.kind {
-        ELEMENT => add_numbers(&mut usage.used, rows, named(layout, row), row.b),
-        ASSIGNMENT => change(&mut usage, rows, named(layout, row), row.b),
+        ELEMENT => add_numbers(&mut usage.used, layout, constants, row),
+        ASSIGNMENT => change(&mut usage, layout, constants, row),
         INPUT => {
-            let target = &rows[row.c as usize];
-            add_numbers(&mut usage.inputs, rows, named(layout, row), row.b);
-            change(&mut usage, rows, named(layout, target), target.b);
+            add_numbers(&mut usage.inputs, layout, constants, row);
+            change(&mut usage, layout, constants, &rows[row.c as usize]);
         }
-        OUTPUT => add_numbers(&mut usage.outputs, rows, named(layout, row), row.b),
+        OUTPUT => add_numbers(&mut usage.outputs, layout, constants, row),
         _ => {}
     }
     usage
 }
 
-/// The cells or elements of the declaration that field a names.
-fn named(layout: &Layout, row: &Row) -> Part {
-    layout.by_row[row.a as usize]
+/// Changes what an assignment or an input's target names; a changed cell is used too.
+fn change(usage: &mut Usage, layout: &Layout, constants: &[Constant], row: &Row) {
+    add_numbers(&mut usage.changed, layout, constants, row);
+    add_numbers(&mut usage.used, layout, constants, row);
 }
 
-/// Changes a cell of a variable; a changed cell is used too.
-fn change(usage: &mut Usage, rows: &[Row], part: Part, subscript: i32) {
-    add_numbers(&mut usage.changed, rows, part, subscript);
-    add_numbers(&mut usage.used, rows, part, subscript);
-}
-
-/// Adds the numbers that count: a literal's own if inside, with any other subscript all.
-fn add_numbers(set: &mut NumberSet, rows: &[Row], part: Part, subscript: i32) {
-    let subscript = &rows[subscript as usize];
-    if subscript.kind == LITERAL {
-        if let Some(number) = part.at(subscript.a) {
-            set.add(number);
-        }
-    } else {
-        (part.first..part.first + part.length).for_each(|number| set.add(number));
+/// Adds the numbers of the name in field a that count with the subscript in field b: a constant's
+/// value if it is inside, and every number with no value or no constant.
+fn add_numbers(set: &mut NumberSet, layout: &Layout, constants: &[Constant], row: &Row) {
+    let part = layout.by_row[row.a as usize];
+    match constants[row.b as usize] {
+        Some(Ok(subscript)) => set.add(part.at(subscript)),
+        Some(Err(_)) | None => set.add(part.positions()),
     }
 }
 

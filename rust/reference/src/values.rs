@@ -71,7 +71,7 @@ pub fn is_true(program: &Program, cells: &Cells, row: usize) -> Result<bool, Rea
 }
 
 /// A monadic operator on a value: 0 minus, 1 NOT.
-fn monadic(operator: i32, operand: i32) -> Result<i32, Reason> {
+pub fn monadic(operator: i32, operand: i32) -> Result<i32, Reason> {
     match operator {
         0 => operand.checked_neg().ok_or(Reason::Fit),
         _ => Ok(i32::from(operand == 0)),
@@ -79,7 +79,7 @@ fn monadic(operator: i32, operand: i32) -> Result<i32, Reason> {
 }
 
 /// A dyadic operator; the second operand is looked at only if the operator needs it.
-fn dyadic(
+pub fn dyadic(
     operator: i32,
     left: i32,
     right: impl FnOnce() -> Result<i32, Reason>,

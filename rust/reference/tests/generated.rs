@@ -295,7 +295,7 @@ fn without_alt_all_orders_agree() {
     let mut with_choice = 0;
     let mut with_absence = 0;
     let mut with_block = 0;
-    for seed in 0..1_000 {
+    for seed in 0..1_300 {
         let input = generate(seed, true, Some(Aim::WithoutAlt));
         let (table, sheet) = split_input(&input.bytes);
         let Some((program, readings)) = accepted(seed, Aim::WithoutAlt) else {

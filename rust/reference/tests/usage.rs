@@ -1,7 +1,7 @@
 //! Usage in a PAR: the clashes and what comes near to one.
 
 mod common;
-use common::{refused, refused_bytes, table};
+use common::{moved, refused, refused_bytes, table};
 
 /// A PAR, row 6, of two processes after declarations of x, a of two cells, c of two elements, d,
 /// a channel from the host and one to it. A field `+N` of a process is its own row plus N.
@@ -14,33 +14,19 @@ fn par_of(first: &str, second: &str) -> String {
     format!("{declarations} {links} {first} {second}")
 }
 
-/// The rows of a process that begins at this row.
-fn moved(rows: &str, start: usize) -> String {
-    let field = |field: &str| match field.strip_prefix('+').map(str::parse::<usize>) {
-        Some(Ok(offset)) => (start + offset).to_string(),
-        _ => field.to_string(),
-    };
-    let row = |row: &str| row.split(',').map(field).collect::<Vec<_>>().join(",");
-    rows.split_whitespace()
-        .map(row)
-        .collect::<Vec<_>>()
-        .join(" ")
-}
-
 const SET_X: &str = "22,0,+1,+2 10,0,0,0 10,1,0,0";
 const READ_X: &str = "24,5,+1,+2 10,0,0,0 11,0,+3,0 10,0,0,0";
 const SET_A0: &str = "22,1,+1,+2 10,0,0,0 10,1,0,0";
 const SET_A1: &str = "22,1,+1,+2 10,1,0,0 10,1,0,0";
 const SET_A9: &str = "22,1,+1,+2 10,9,0,0 10,1,0,0";
-const SET_A_COMPUTED: &str = "22,1,+1,+2 12,0,+3,0 10,1,0,0 10,0,0,0";
 const C0_TO_X: &str = "23,2,+1,+2 10,0,0,0 11,0,+3,0 10,0,0,0";
 const C0_TO_A0: &str = "23,2,+1,+2 10,0,0,0 11,1,+3,0 10,0,0,0";
 const C1_TO_A0: &str = "23,2,+1,+2 10,1,0,0 11,1,+3,0 10,0,0,0";
 const C9_TO_A0: &str = "23,2,+1,+2 10,9,0,0 11,1,+3,0 10,0,0,0";
-const C_ANY_TO_A0: &str = "23,2,+1,+2 12,0,+4,0 11,1,+3,0 10,0,0,0 10,0,0,0";
+const C_ANY_TO_A0: &str = "23,2,+1,+2 11,1,+4,0 11,1,+3,0 10,0,0,0 10,1,0,0";
 const OUT_C0: &str = "24,2,+1,+2 10,0,0,0 10,1,0,0";
 const OUT_C1: &str = "24,2,+1,+2 10,1,0,0 10,1,0,0";
-const OUT_C_ANY: &str = "24,2,+1,+2 12,1,+3,0 10,1,0,0 10,1,0,0";
+const OUT_C_ANY: &str = "24,2,+1,+2 11,0,+3,0 10,1,0,0 10,0,0,0";
 const IN_TO_X: &str = "23,4,+1,+2 10,0,0,0 11,0,+3,0 10,0,0,0";
 const IN_TO_A0: &str = "23,4,+1,+2 10,0,0,0 11,1,+3,0 10,0,0,0";
 const HOST_OUT: &str = "24,5,+1,+2 10,0,0,0 10,1,0,0";
@@ -62,8 +48,8 @@ fn usage_in_a_par() {
         (READ_X, IF_X, 0),
         (SET_A0, SET_A1, 0),
         (SET_A0, SET_A9, 0),
-        (SET_A_COMPUTED, SET_A1, 7),
-        (SET_A_COMPUTED, SET_A9, 0),
+        (A_OF_X, SET_A1, 7),
+        (A_OF_X, SET_A9, 0),
         (C0_TO_X, C0_TO_A0, 8),
         (C0_TO_X, C1_TO_A0, 0),
         (C0_TO_X, C9_TO_A0, 0),

@@ -63,6 +63,26 @@ pub fn deep_subscript() -> Vec<[i32; 4]> {
     rows
 }
 
+/// PAR(v[NOT NOT ... 0] := 7, v[0] := 8) with an odd number of NOTs, 1,020 rows deep.
+pub fn deep_constant() -> Vec<[i32; 4]> {
+    let mut rows = vec![
+        [1, 2, 0, 0],
+        [31, 2, 0, 0],
+        [40, 3, 4, 0],
+        [22, 0, 9, 5],
+        [40, 6, -1, 0],
+        [10, 7, 0, 0],
+        [22, 0, 7, 8],
+        [10, 0, 0, 0],
+        [10, 8, 0, 0],
+    ];
+    while rows.len() < 1_020 {
+        rows.push([12, 1, rows.len() as i32 + 1, 0]);
+    }
+    rows.push([10, 0, 0, 0]);
+    rows
+}
+
 /// An assignment of GIVEN v[GIVEN v[...]], 1,020 rows deep, in a variable of two cells.
 pub fn deep_given() -> Vec<[i32; 4]> {
     let mut rows = vec![[1, 2, 0, 0], [22, 0, 2, 3], [10, 0, 0, 0]];

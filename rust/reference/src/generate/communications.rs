@@ -7,10 +7,10 @@ use crate::limits::Part;
 
 /// A communication that can be: from one component over an inner element to another.
 #[derive(Clone, Copy)]
-struct Passage {
-    sender: usize,
-    element: usize,
-    receiver: usize,
+pub struct Passage {
+    pub sender: usize,
+    pub element: usize,
+    pub receiver: usize,
 }
 
 impl Maker<'_> {
@@ -23,10 +23,24 @@ impl Maker<'_> {
             let members: Vec<usize> = (0..count).map(|_| self.process(rights, depth)).collect();
             return self.par(&members);
         }
-        let mut parts = self.part_rights(rights, count);
+        let by_subscripts = self.random.chance(50);
+        let share = match !by_subscripts && self.random.chance(60) {
+            true => self.style.share,
+            false => Share::default(),
+        };
+        let mut parts = rights.part(count, &self.layout.variables, share, self.random);
         let locals = self.locals_of(&mut parts);
         let mut actions: Vec<Vec<usize>> = vec![Vec::new(); count];
-        self.clashing_pair(&mut parts, &mut actions);
+        match by_subscripts {
+            true => self.clashing_subscripts(&mut parts, &mut actions),
+            false => self.clashing_pair(&mut parts, &mut actions),
+        }
+        if self.style.apart && self.random.chance(60) {
+            self.over_each_element(&mut parts, &mut actions);
+        }
+        if self.style.apart && self.random.chance(60) {
+            self.in_cells_apart(&mut parts, &mut actions);
+        }
         let (least, most) = if self.style.size > 40 {
             (count, 2 * count + 2)
         } else {
@@ -70,7 +84,7 @@ impl Maker<'_> {
     }
 
     /// For each component of a PAR at times a local, which it may use.
-    fn locals_of(&mut self, parts: &mut [Rights]) -> Vec<Option<Part>> {
+    pub fn locals_of(&mut self, parts: &mut [Rights]) -> Vec<Option<Part>> {
         let mut locals = Vec::new();
         for part in parts {
             let local = self.some_local(30);
@@ -78,15 +92,6 @@ impl Maker<'_> {
             locals.push(local);
         }
         locals
-    }
-
-    /// The rights of a PAR's components, at times shared as the style says.
-    fn part_rights(&mut self, rights: &Rights, count: usize) -> Vec<Rights> {
-        let share = match self.random.chance(60) {
-            true => self.style.share,
-            false => Share::default(),
-        };
-        rights.part(count, &self.layout.variables, share, self.random)
     }
 
     /// Adds two actions that clash, if the style shares inputs or outputs.
@@ -121,7 +126,7 @@ impl Maker<'_> {
     }
 
     /// The inner elements that one component may output to and another input from.
-    fn passages(&self, parts: &[Rights]) -> Vec<Passage> {
+    pub fn passages(&self, parts: &[Rights]) -> Vec<Passage> {
         let mut passages = Vec::new();
         let inner = |part: &&Part| self.declarations[part.row].b == INNER;
         for part in self.layout.channels.iter().filter(inner) {

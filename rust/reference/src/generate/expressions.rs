@@ -1,4 +1,4 @@
-//! Generated expressions, subscripts, targets and actions.
+//! Generated expressions, targets and actions.
 
 use super::maker::Maker;
 use super::rights::Rights;
@@ -110,7 +110,7 @@ impl Maker<'_> {
     }
 
     /// An element: some cell that may be read, set or not; often one that is likely to be unset.
-    fn any_element(&mut self, rights: &Rights, depth: usize) -> Option<usize> {
+    pub fn any_element(&mut self, rights: &Rights, depth: usize) -> Option<usize> {
         let cells = rights.read.len();
         let unset = self.random.chance(75);
         let may = |cell: usize| rights.read[cell] && !(unset && rights.set[cell]);
@@ -136,49 +136,8 @@ impl Maker<'_> {
         )
     }
 
-    /// A subscript for one number of a name: a literal, or computed if the whole name may be used.
-    fn subscript(
-        &mut self,
-        rights: &Rights,
-        part: Part,
-        number: usize,
-        whole: bool,
-        depth: usize,
-    ) -> usize {
-        let number = number as i32;
-        let length = part.length as i32;
-        if self.random.chance(self.style.carelessness) {
-            let outside = self
-                .random
-                .pick(&[-1, length, length + 6, i32::MAX, i32::MIN]);
-            return self.literal(outside);
-        }
-        if !whole || depth == 0 || !self.random.chance(30) {
-            return self.literal(number);
-        }
-        match self.random.below(4) {
-            0 => {
-                let minus = self.literal(-number);
-                self.monadic(0, minus)
-            }
-            1 => {
-                let left = self.literal(number + 3);
-                let right = self.literal(3);
-                self.dyadic(1, left, right)
-            }
-            2 if self.random.chance(10 * self.style.carelessness) => {
-                self.expression(rights, depth - 1)
-            }
-            _ => {
-                let left = self.expression(rights, depth - 1);
-                let right = self.literal(length);
-                self.dyadic(4, left, right)
-            }
-        }
-    }
-
     /// A cell that may be changed: the variable and a subscript; notes that it is set.
-    fn target(&mut self, rights: &mut Rights) -> Option<(usize, usize)> {
+    pub fn target(&mut self, rights: &mut Rights) -> Option<(usize, usize)> {
         let cell = self
             .random
             .pick_where(rights.change.len(), |cell| rights.change[cell])?;
@@ -229,11 +188,14 @@ impl Maker<'_> {
         let (variable, target_subscript) = self.target(rights)?;
         let target = self.element_of(variable, target_subscript);
         let subscript = self.subscript(&before, part, element - part.first, whole, 2);
-        let name = Slot::Number(part.row as i32);
-        Some(
-            self.tree
-                .add(INPUT, name, Slot::Node(subscript), Slot::Node(target)),
-        )
+        Some(self.input(part.row, subscript, target))
+    }
+
+    /// An input from a channel by name and subscript.
+    pub fn input(&mut self, channel: usize, subscript: usize, target: usize) -> usize {
+        let name = Slot::Number(channel as i32);
+        self.tree
+            .add(INPUT, name, Slot::Node(subscript), Slot::Node(target))
     }
 
     /// An output to this channel element; at times of a cell that may be unset.
@@ -246,7 +208,12 @@ impl Maker<'_> {
             false => None,
         };
         let expression = element.unwrap_or_else(|| self.expression(rights, self.style.depth - 1));
-        let name = Slot::Number(part.row as i32);
+        self.output(part.row, subscript, expression)
+    }
+
+    /// An output to a channel by name and subscript.
+    pub fn output(&mut self, channel: usize, subscript: usize, expression: usize) -> usize {
+        let name = Slot::Number(channel as i32);
         self.tree
             .add(OUTPUT, name, Slot::Node(subscript), Slot::Node(expression))
     }
@@ -278,14 +245,11 @@ impl Maker<'_> {
 
 /// The declaration to which a cell or element belongs.
 fn part_of(parts: &[Part], number: usize) -> Part {
-    let holds = |part: &&Part| (part.first..part.first + part.length).contains(&number);
+    let holds = |part: &&Part| part.positions().contains(&number);
     parts.iter().find(holds).copied().unwrap_or_default()
 }
 
 /// Whether the right holds for every number of a name, and there are several.
 fn whole(right: &[bool], part: Part) -> bool {
-    part.length > 1
-        && right[part.first..part.first + part.length]
-            .iter()
-            .all(|&may| may)
+    part.length > 1 && right[part.positions()].iter().all(|&may| may)
 }

@@ -27,8 +27,17 @@ pub struct Style {
     pub alt: bool,
     /// How many variables are kept for blocks.
     pub locals: usize,
+    /// Whether components of a PAR often have numbers of one array each.
+    pub apart: bool,
     /// What components of a PAR share in spite of the usage rules.
     pub share: Share,
+}
+
+impl Style {
+    /// Whether a program has room for little but a PAR whose components have numbers of one array.
+    fn is_bare(&self) -> bool {
+        self.apart && self.size <= 40
+    }
 }
 
 /// Makes one program.
@@ -68,19 +77,31 @@ pub fn program(random: &mut Random, style: Style) -> Vec<Row> {
 /// Some declarations within the limits, in any order; with a PAR at least one inner channel.
 fn declarations(random: &mut Random, style: Style) -> Vec<Row> {
     let many = if style.size > 60 { 2 } else { 1 };
+    let (variables, channels, host_channels) = match style.is_bare() {
+        true => (random.between(1, 2), 0, 2),
+        false => (
+            random.between(2, 2 + 2 * many),
+            random.between(usize::from(style.first == PAR), 1 + many),
+            2 + many,
+        ),
+    };
     let mut rows = Vec::new();
-    for _ in 0..style.locals + random.between(2, 2 + 2 * many) {
+    if style.apart {
+        rows.push(Row::new(VARIABLE, random.pick(&[2, 3, 4]), 0, 0));
+        rows.push(Row::new(CHANNEL, random.pick(&[2, 2, 3]), INNER, 0));
+    }
+    for _ in 0..style.locals + variables {
         let cells = random.pick(&[1, 1, 1, 2, 3, 5]);
         rows.push(Row::new(VARIABLE, cells, 0, 0));
     }
-    for _ in 0..random.between(usize::from(style.first == PAR), 1 + many) {
+    for _ in 0..channels {
         let elements = random.pick(&[1, 1, 2, 3]);
         rows.push(Row::new(CHANNEL, elements, INNER, 0));
     }
-    for _ in 0..random.below(2 + many) {
+    for _ in 0..random.below(host_channels) {
         rows.push(Row::new(CHANNEL, 1, FROM_HOST, 0));
     }
-    for _ in 0..random.below(2 + many) {
+    for _ in 0..random.below(host_channels) {
         let capacity = random.pick(&[0, 1, 3, 5, 8, 8, 20, 60]);
         rows.push(Row::new(CHANNEL, 1, TO_HOST, capacity));
     }
@@ -102,11 +123,15 @@ impl Maker<'_> {
                 _ => process,
             };
         }
+        if self.style.is_bare() && self.random.chance(70) {
+            return self.parallel_apart(&mut rights);
+        }
         let mut members = Vec::new();
         for _ in 0..self.random.below(if self.style.size > 40 { 4 } else { 2 }) {
             members.extend(self.assignment(&mut rights));
         }
         members.push(match self.style.first {
+            PAR if self.style.is_bare() => self.parallel_apart(&mut rights),
             PAR => self.parallel(&mut rights, 2),
             ALT => self.alternative(&mut rights, 2),
             IF => self.conditional(&mut rights, 2),

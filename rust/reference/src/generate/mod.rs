@@ -1,5 +1,6 @@
 //! Generated inputs: good and damaged tables, sheets, choices and budgets, from a seed alone.
 
+mod arrays;
 mod blocks;
 mod choices;
 mod communications;
@@ -10,6 +11,7 @@ mod maker;
 mod random;
 mod rights;
 mod shapes;
+mod subscripts;
 mod surroundings;
 mod text;
 mod tree;
@@ -112,6 +114,10 @@ pub fn generate(seed: u64, small: bool, aim: Option<Aim>) -> Input {
             Outcome::Spent,
         ]),
         first: random.pick(&[PAR, PAR, PAR, ALT, WHILE, IF, SEQ]),
+        apart: random.chance(match (small, aim) {
+            (false, _) | (_, Aim::Refusal(_)) => 60,
+            (true, _) => 45,
+        }),
     };
     let mut best = None;
     for _ in 0..60 {
@@ -145,6 +151,8 @@ struct Plan {
     outcome: Outcome,
     /// The kind of construction wanted in it.
     first: i32,
+    /// Whether the components of its PARs should often have numbers of one array each.
+    apart: bool,
 }
 
 /// Something to aim at: about half accepted.
@@ -189,7 +197,12 @@ fn worth(answer: &Answer, plan: Plan) -> u64 {
         (Aim::Shape, Answer::Ran(_)) => MOST_WORTH,
         (_, Answer::Ran(ran)) => {
             let wanted = ran.outcome == plan.outcome;
-            match wanted && ran.steps >= if plan.small { 3 } else { 4 } {
+            let several = match (plan.small, plan.apart) {
+                (true, true) => 2,
+                (true, false) => 3,
+                (false, _) => 4,
+            };
+            match wanted && ran.steps >= several {
                 true => MOST_WORTH,
                 false => 1 + ran.steps.min(20) + if wanted { 10 } else { 0 },
             }
@@ -240,15 +253,22 @@ fn some_rows(random: &mut Random, plan: Plan) -> Vec<Row> {
         let length = random.between(most / 2, most);
         return shapes::shape(random, length);
     }
-    let locals = match small {
-        true => random.pick(&[0, 0, 1, 2]),
-        false => random.pick(&[0, 0, 1, 2, 3, 5]),
+    let par = match aim {
+        Aim::Refusal(7..=9) => true,
+        Aim::WithoutAlt => matches!(plan.first, PAR | ALT | SEQ),
+        _ => plan.first == PAR || plan.apart && plan.first == ALT,
     };
-    let first = match (aim, plan.first) {
-        (Aim::Refusal(7..=9), _) => PAR,
-        _ if locals > 0 && random.chance(20) => WHILE,
-        (Aim::WithoutAlt, ALT | SEQ) => PAR,
-        (_, first) => first,
+    let apart = par && plan.apart;
+    let locals = match (small, apart) {
+        (true, true) => random.below(2),
+        (true, false) => random.pick(&[0, 1, 1, 2]),
+        (false, _) => random.pick(&[0, 0, 1, 2, 3, 5]),
+    };
+    let first = match aim {
+        Aim::Refusal(7..=9) => PAR,
+        _ if locals > 0 && !apart && random.chance(20) => WHILE,
+        _ if par => PAR,
+        _ => plan.first,
     };
     let shared = |number| matches!(aim, Aim::Refusal(aimed) if aimed == number);
     let alt = aim != Aim::WithoutAlt && (plan.first == ALT || random.chance(60));
@@ -268,6 +288,7 @@ fn some_rows(random: &mut Random, plan: Plan) -> Vec<Row> {
         first,
         alt,
         locals,
+        apart,
         share: Share {
             cells: shared(7),
             inputs: shared(8),

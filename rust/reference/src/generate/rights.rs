@@ -48,8 +48,12 @@ impl Rights {
                 part_cells(&mut parts, *variable, random);
             }
         }
+        let in_turn = random.chance(50);
         for element in 0..self.input.len() {
-            let inputs = random.below(count);
+            let inputs = match in_turn {
+                true => element % count,
+                false => random.below(count),
+            };
             let outputs = (inputs + 1 + random.below(count - 1)) % count;
             for (number, part) in parts.iter_mut().enumerate() {
                 part.input[element] &= share.inputs || number == inputs;
@@ -61,21 +65,21 @@ impl Rights {
 
     /// Forbids the cells of a variable.
     pub fn forbid(&mut self, variable: Part) {
-        self.change[variable.cells()].fill(false);
-        self.read[variable.cells()].fill(false);
+        self.change[variable.positions()].fill(false);
+        self.read[variable.positions()].fill(false);
     }
 
     /// Allows all cells of a block's variable, which are unset at its start.
     pub fn begin(&mut self, local: Part) {
-        self.change[local.cells()].fill(true);
-        self.read[local.cells()].fill(true);
-        self.set[local.cells()].fill(false);
+        self.change[local.positions()].fill(true);
+        self.read[local.positions()].fill(true);
+        self.set[local.positions()].fill(false);
     }
 
     /// The same rights, but to change this variable only.
     pub fn changing_only(&self, variable: Part) -> Rights {
         let mut narrowed = self.clone();
-        let others = |cell: &usize| !variable.cells().contains(cell);
+        let others = |cell: &usize| !variable.positions().contains(cell);
         for cell in (0..self.change.len()).filter(others) {
             narrowed.change[cell] = false;
         }
@@ -85,11 +89,11 @@ impl Rights {
     /// The same rights, but to read this variable only, as if it were unset.
     pub fn reading_only(&self, variable: Part) -> Rights {
         let mut narrowed = self.clone();
-        let others = |cell: &usize| !variable.cells().contains(cell);
+        let others = |cell: &usize| !variable.positions().contains(cell);
         for cell in (0..self.read.len()).filter(others) {
             narrowed.read[cell] = false;
         }
-        narrowed.set[variable.cells()].fill(false);
+        narrowed.set[variable.positions()].fill(false);
         narrowed
     }
 
@@ -103,12 +107,16 @@ impl Rights {
     }
 }
 
-/// Parts the cells of one variable: all to one component, each to some, or only for reading.
+/// Parts the cells of one variable: all to one component, in turn, each to some, or only for reading.
 fn part_cells(parts: &mut [Rights], variable: Part, random: &mut Random) {
-    let whole = random.chance(50).then(|| random.below(parts.len()));
+    let (way, first) = (random.below(4), random.below(parts.len()));
     let only_read = random.chance(20);
-    for cell in variable.first..variable.first + variable.length {
-        let owner = whole.unwrap_or_else(|| random.below(parts.len()));
+    for cell in variable.positions() {
+        let owner = match way {
+            0..=1 => first,
+            2 => (first + cell) % parts.len(),
+            _ => random.below(parts.len()),
+        };
         for (number, part) in parts.iter_mut().enumerate() {
             part.change[cell] &= !only_read && number == owner;
             part.read[cell] &= only_read || number == owner;

@@ -4,9 +4,7 @@ use super::maker::{Maker, Style};
 use super::random::Random;
 use super::rights::Share;
 use super::tree::{Slot, Tree};
-use crate::kinds::{
-    CHANNEL, CHOICE, FROM_HOST, IF, INNER, INPUT, OUTPUT, PAR, SKIP, TO_HOST, VARIABLE,
-};
+use crate::kinds::{CHANNEL, CHOICE, FROM_HOST, IF, INNER, PAR, SKIP, TO_HOST, VARIABLE};
 use crate::limits::check_limits;
 use crate::table::Row;
 
@@ -14,7 +12,7 @@ const NOTHING: Slot = Slot::Number(0);
 
 /// An accepted table of an unusual shape; `most` is about how many rows it may have.
 pub fn shape(random: &mut Random, most: usize) -> Vec<Row> {
-    let shape = random.below(10);
+    let shape = random.below(12);
     let declarations = match random.below(4) {
         _ if shape == 0 => many_variables(random, most),
         0 => at_the_limits(random),
@@ -33,6 +31,7 @@ pub fn shape(random: &mut Random, most: usize) -> Vec<Row> {
         first: PAR,
         alt: true,
         locals: 0,
+        apart: false,
         share: Share::default(),
     };
     let tree = Tree::default();
@@ -55,6 +54,7 @@ pub fn shape(random: &mut Random, most: usize) -> Vec<Row> {
         5 => maker.pipeline(most),
         6 => maker.deep_loops(most),
         7 => maker.deep_subscripts(most),
+        10..=11 => maker.ring(most),
         _ => maker.every_cell(most),
     };
     let Maker {
@@ -244,24 +244,41 @@ impl Maker<'_> {
     /// An output to an element of the channel in row 1.
     fn send(&mut self, element: i32, expression: usize) -> usize {
         let subscript = self.literal(element);
-        self.tree.add(
-            OUTPUT,
-            Slot::Number(1),
-            Slot::Node(subscript),
-            Slot::Node(expression),
-        )
+        self.output(1, subscript, expression)
     }
 
     /// An input from an element of the channel in row 1 to a cell.
     fn receive(&mut self, element: i32, cell: i32) -> usize {
         let subscript = self.literal(element);
         let target = self.read_cell(cell);
-        self.tree.add(
-            INPUT,
-            Slot::Number(1),
-            Slot::Node(subscript),
-            Slot::Node(target),
-        )
+        self.input(1, subscript, target)
+    }
+
+    /// A PAR of processes in a ring: each sets a cell of its neighbour, or sends to it and receives
+    /// from the one before.
+    fn ring(&mut self, most: usize) -> usize {
+        let by_cells = self.random.chance(40);
+        let rows = if by_cells { 8 } else { 15 };
+        let count = (most.saturating_sub(1) / rows).min(64) as i32;
+        let member = |number: i32| {
+            let (subscript, value) = (self.neighbour(number, count), self.literal(number));
+            if by_cells {
+                return self.assign(0, subscript, value);
+            }
+            let output = self.output(1, subscript, value);
+            let input = self.receive(number, number);
+            self.par(&[output, input])
+        };
+        let members: Vec<usize> = (0..count).map(member).collect();
+        self.par(&members)
+    }
+
+    /// The number after this one in a ring: (number + 1) REM count.
+    fn neighbour(&mut self, number: i32, count: i32) -> usize {
+        let (number, one) = (self.literal(number), self.literal(1));
+        let sum = self.dyadic(0, number, one);
+        let count = self.literal(count);
+        self.dyadic(4, sum, count)
     }
 
     /// A loop that sets every cell of the variable by a computed subscript, and writes to the host.
@@ -274,12 +291,7 @@ impl Maker<'_> {
         let (subscript, value) = (self.read_cell(63), self.read_cell(63));
         let sets = self.assign(0, subscript, value);
         let (host_subscript, value) = (self.literal(0), self.read_cell(63));
-        let writes = self.tree.add(
-            OUTPUT,
-            Slot::Number(3),
-            Slot::Node(host_subscript),
-            Slot::Node(value),
-        );
+        let writes = self.output(3, host_subscript, value);
         let (count, one) = (self.read_cell(63), self.literal(1));
         let sum = self.dyadic(0, count, one);
         let counts = self.set_cell(63, sum);

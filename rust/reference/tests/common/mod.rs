@@ -1,6 +1,8 @@
 //! Small tables written as rows with spaces between them.
 #![allow(dead_code)]
 
+pub mod clashes;
+
 use reference::printing::printed;
 use reference::{answer_bytes, answer_rows, Answer, Ran, BUDGET_LIMIT, BUFFER_LENGTHS};
 
@@ -76,4 +78,17 @@ pub fn ran(rows: &str, sheet: &str, choices: &[u16], budget: u64) -> Box<Ran> {
 pub fn outcome(rows: &str) -> (&'static str, u64) {
     let ran = ran(rows, "\n", &[], BUDGET_LIMIT);
     (ran.outcome.word(), ran.steps)
+}
+
+/// The rows of a process or expression that begins at this row: a field `+N` is its own row plus N.
+pub fn moved(rows: &str, start: usize) -> String {
+    let field = |field: &str| match field.strip_prefix('+').map(str::parse::<usize>) {
+        Some(Ok(offset)) => (start + offset).to_string(),
+        _ => field.to_string(),
+    };
+    let row = |row: &str| row.split(',').map(field).collect::<Vec<_>>().join(",");
+    rows.split_whitespace()
+        .map(row)
+        .collect::<Vec<_>>()
+        .join(" ")
 }

@@ -74,21 +74,27 @@ const MEANINGS: [Meaning; 12] = [
         place: "the lowest PAR with such a clash",
         advice:
             "A cell is changed by an assignment or as an input's target, and used wherever it\n\
-                 stands, subscripts included. A literal subscript counts for that cell only; any\n\
-                 other subscript counts for the whole array.",
+                 stands, subscripts included. A subscript made only of literals and operators\n\
+                 counts for the cell of its value only, or for none if that is outside the array;\n\
+                 any other subscript, or one without a value, counts for the whole array.",
         help: "give each member cells of its own, pass the value on a channel, or put the members in a SEQ",
     },
     Meaning {
         summary: "two members of a PAR input from the same channel element",
         place: "the lowest PAR with such a clash",
-        advice: "Inputs in the guards of an ALT count as inputs. A subscript that is no literal\n\
-                 counts for every element of the channel.",
+        advice: "Inputs in the guards of an ALT count as inputs. A subscript made only of literals\n\
+                 and operators counts for the element of its value only, or for none if that is\n\
+                 outside the array; any other subscript, or one without a value, counts for every\n\
+                 element of the channel.",
         help: "let one member alone input from that element, or give each an element of its own",
     },
     Meaning {
         summary: "two members of a PAR output to the same channel element",
         place: "the lowest PAR with such a clash",
-        advice: "A subscript that is no literal counts for every element of the channel.",
+        advice:
+            "A subscript made only of literals and operators counts for the element of its\n\
+                 value only, or for none if that is outside the array; any other subscript, or one\n\
+                 without a value, counts for every element of the channel.",
         help: "let one member alone output to that element, or give each an element of its own",
     },
     Meaning {

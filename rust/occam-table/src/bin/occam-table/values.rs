@@ -23,6 +23,17 @@ pub fn value(program: &Program, cells: &[Option<i32>], expression: i32) -> Optio
     }
 }
 
+/// The value of a constant, an expression made only of literals and operators; none if it is no
+/// constant or has no value.
+pub fn constant(program: &Program, expression: i32) -> Option<i32> {
+    let row = usize::try_from(expression).ok()?;
+    let mut rows = std::iter::once(row).chain(program.beneath(row));
+    let has_element = rows.any(|row| program.rows[row].kind == ELEMENT);
+    (!has_element)
+        .then(|| value(program, &[], expression))
+        .flatten()
+}
+
 /// The subscript's value, if it is inside what is declared.
 pub fn subscript(
     program: &Program,
@@ -108,6 +119,33 @@ mod tests {
         assert_eq!(value(&program, &[Some(2), Some(1)], 1), Some(1));
         assert_eq!(subscript(&program, &[], 0, 5), None);
         assert_eq!(subscript(&program, &[], 0, 3), Some(1));
+    }
+
+    #[test]
+    fn values_of_constants() {
+        // 2 - (0 AND (1 / 0)), then 0 AND x[0], then GIVEN x[1]
+        let program = Program::new(&[
+            [1, 2, 0, 0],
+            [13, 1, 2, 3],
+            [10, 2, 0, 0],
+            [13, 14, 4, 5],
+            [10, 0, 0, 0],
+            [13, 3, 6, 7],
+            [10, 1, 0, 0],
+            [10, 0, 0, 0],
+            [13, 14, 9, 10],
+            [10, 0, 0, 0],
+            [11, 0, 11, 0],
+            [10, 0, 0, 0],
+            [12, 2, 13, 0],
+            [11, 0, 14, 0],
+            [10, 1, 0, 0],
+        ]);
+        assert_eq!(constant(&program, 1), Some(2));
+        assert_eq!(constant(&program, 5), None);
+        assert_eq!(constant(&program, 8), None);
+        assert_eq!(constant(&program, 12), None);
+        assert_eq!(constant(&program, 14), Some(1));
     }
 
     #[test]

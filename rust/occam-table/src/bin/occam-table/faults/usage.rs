@@ -1,7 +1,8 @@
 //! Refusals 7, 8 and 9: what two members of a PAR have in common.
 
-use crate::kinds::{ASSIGNMENT, ELEMENT, INPUT, LITERAL, OUTPUT};
+use crate::kinds::{ASSIGNMENT, ELEMENT, INPUT, OUTPUT};
 use crate::program::Program;
+use crate::values::constant;
 use std::ops::Range;
 
 /// What a row does to cells or elements.
@@ -68,7 +69,7 @@ fn words(program: &Program, members: [usize; 2], one: &Access, other: &Access) -
     let deed = |access: &Access| {
         let row = &program.rows[access.row];
         let whole = match access.whole {
-            true => "; its subscript is no literal, so every number of the name counts",
+            true => "; its subscript has no constant value, so every number of the name counts",
             false => "",
         };
         format!("is {} by row {}: {row}{whole}", access.word(), access.row)
@@ -130,17 +131,17 @@ fn component(program: &Program, member: usize) -> Vec<Access> {
     .collect()
 }
 
-/// What a row does: with a literal subscript one position, or none if it is outside.
+/// What a row does: with a constant subscript one position, or none if it is outside.
 fn access(program: &Program, row: usize, deed: Deed, target: bool) -> Option<Access> {
     let declaration = usize::try_from(program.rows[row].a()).ok()?;
     let part = program.part(declaration);
-    let subscript = program.row(program.rows[row].b())?;
-    let positions = match subscript.kind {
-        LITERAL => {
-            let position = part.start + usize::try_from(subscript.a()).ok()?;
+    let number = constant(program, program.rows[row].b());
+    let positions = match number {
+        Some(number) => {
+            let position = part.start + usize::try_from(number).ok()?;
             position..(position + 1).min(part.end)
         }
-        _ => part,
+        None => part,
     };
     Some(Access {
         row,
@@ -148,6 +149,6 @@ fn access(program: &Program, row: usize, deed: Deed, target: bool) -> Option<Acc
         declaration,
         positions,
         target,
-        whole: subscript.kind != LITERAL,
+        whole: number.is_none(),
     })
 }

@@ -2,9 +2,9 @@
 
 use super::moves::Named;
 use super::words::{named_words, row_words};
-use crate::kinds::{ALT, FROM_HOST, GUARD, IF, INPUT, LITERAL, OUTPUT, SKIP, STOP, TO_HOST};
+use crate::kinds::{ALT, FROM_HOST, GUARD, IF, INPUT, OUTPUT, SKIP, STOP, TO_HOST};
 use crate::program::Program;
-use crate::values::{subscript, value};
+use crate::values::{constant, subscript, value};
 use occam_table::{RowState, Snapshot};
 
 /// One line for each row that is stopped, or is running and waits.
@@ -116,9 +116,8 @@ impl Rest<'_> {
     fn may_be(&self, row: usize, element: Named) -> bool {
         let row = &self.program.rows[row];
         let same_channel = usize::try_from(row.a()) == Ok(element.declaration);
-        let literal = self.program.row(row.b()).filter(|row| row.kind == LITERAL);
-        let same_number = match (literal, element.number) {
-            (Some(literal), Some(number)) => usize::try_from(literal.a()) == Ok(number),
+        let same_number = match (constant(self.program, row.b()), element.number) {
+            (Some(value), Some(number)) => usize::try_from(value) == Ok(number),
             _ => true,
         };
         same_channel && same_number
