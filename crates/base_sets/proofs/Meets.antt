@@ -1,16 +1,16 @@
 -- Two bit sets meet in a sort exactly if a number of it is in both; two lists of small numbers have one in common exactly if their sets meet.
-use mathlib.Core.Path.{_≡_, refl, sym, ap, ap₂, _∙_, subst}
-use mathlib.Core.Logic.{_⊎_, inl, inr, ⊎-elim}
-use mathlib.Core.Bool.{Bool, true, false, _||_, false≢true}
-use mathlib.Core.List.{List, List·Memᴰ}
-use Prim.Native.Nat.{ℕ, _+_, _*_, _/_, _%_, _^_, _<_}
+use mathlib.Core.Path.{_≡_, refl, sym, ap, ap₂, _∙_}
+use mathlib.Core.Logic.{_⊎_, inl, inr}
+use mathlib.Core.Bool.{Bool, true, false, false≢true}
+use mathlib.Core.List.{List}
+use Prim.Native.Nat.{ℕ, _+_, _*_, _/_, _%_, _<_}
 use native.Mathlib.Decide.{decLt}
 use native.Mathlib.Omega.{arith}
 use lib.ListN.{getD}
-use Rattle.meaning.specs.Basics.{anyPasses, among, common}
+use Rattle.meaning.specs.Basics.{among, common}
 use Rattle.meaning.proofs.Decides.{Decides, holding, failing, decides-iff, decides-or, decides-any}
 use Rattle.meaning.proofs.ReferenceCounts.{decides-among}
-use Rattle.base_sets.specs.Sets.{share, inCommon}
+use Rattle.base_sets.specs.Sets.{inCommon}
 use Rattle.base_sets.proofs.Words.{on, shares}
 use Rattle.base_sets.proofs.Holds.{holds, AllFit, fit-at}
 

@@ -1,16 +1,15 @@
 -- What a process counts for in one sort: of its marks, those of that sort are the cells changed, the cells used, the elements input from, the elements output to.
 use mathlib.Core.Path.{_≡_, refl, sym, ap, ap₂, _∙_}
 use mathlib.Core.Bool.{Bool, true, false, _||_}
-use mathlib.Core.List.{List, [], _∷_, _++_}
-use mathlib.Core.Option.{Option, none, some}
+use mathlib.Core.List.{List, [], _++_}
 use Prim.Native.Nat.{ℕ, _+_, _*_, _<_}
 use native.Mathlib.Omega.{arith}
 use Rattle.meaning.specs.Basics.{anyPasses, among}
-use Rattle.meaning.specs.Tree.{Expr, Target, ChannelInput, IfChoice, AltOption, Action, stop, skip, sequence, parallel, assign, input, output, conditional, loop, alternation, Process, node, Processes, empty, also}
-use Rattle.meaning.specs.Usage.{countsFor, standsIn, standsInChoices, changesBy, usesBy, inputsBy, ofGuard, ofGuards, standsInGuards, changes, uses, inputElements, outputElements, gather, gatherAll}
+use Rattle.meaning.specs.Tree.{Expr, Target, ChannelInput, Action}
+use Rattle.meaning.specs.Usage.{standsIn, changesBy, usesBy, inputsBy, changes, uses, inputElements, outputElements}
 use Rattle.base_sets.specs.Sets.{inSort}
-use Rattle.check_components.specs.Marks.{targetCells, markExpr, markTarget, markInput, markChoices, markGuard, markOptions, marks}
-use Rattle.base_sets.proofs.Bools.{or-assoc, or-none, or-front, or-turn, among-append, sort-same, sort-other}
+use Rattle.check_components.specs.Marks.{targetCells, markExpr, markTarget, markInput}
+use Rattle.base_sets.proofs.Bools.{or-none, among-append, sort-same, sort-other}
 
 pub data Sort : Type 0 where
   changed used inputFrom outputTo : Sort

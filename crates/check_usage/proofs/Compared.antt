@@ -1,19 +1,19 @@
 -- The clashes found by bit sets are those of the members compared two by two, where all numbers are below 256.
 use mathlib.Core.Path.{_≡_, refl, sym, ap, ap₂, _∙_}
 use mathlib.Core.Bool.{Bool, true, false, _||_, false≢true}
-use mathlib.Core.List.{List, [], _∷_, _++_}
+use mathlib.Core.List.{List, _++_}
 use Prim.Native.Nat.{ℕ, _+_, _*_, _<_}
 use native.Mathlib.Omega.{arith}
 use lib.ListN.{length}
 use Rattle.meaning.specs.Basics.{anyPasses, among, common}
 use Rattle.meaning.specs.Tree.{Process, Processes, empty, also}
-use Rattle.meaning.specs.Usage.{changes, uses, inputElements, outputElements, gather, gatherAll}
+use Rattle.meaning.specs.Usage.{gather, gatherAll}
 use Rattle.check_usage.specs.declared.clash.Clash.{Clash}
 use Rattle.base_sets.specs.Sets.{withAll, setUnion, inCommon, noNumbers}
 use Rattle.check_components.specs.Marks.{marks}
-use Rattle.check_usage.specs.Clashes.{noClash, bothOf, clashWith, clashesFrom}
+use Rattle.check_usage.specs.Clashes.{bothOf, clashWith, clashesFrom}
 use Rattle.base_sets.proofs.Bools.{or-none, among-append}
-use Rattle.check_components.proofs.Sorts.{Sort, changed, used, inputFrom, outputTo, code, code-below, listOf, marked}
+use Rattle.check_components.proofs.Sorts.{Sort, changed, used, inputFrom, outputTo, code, code-below, listOf}
 use Rattle.check_components.proofs.ProcessSorts.{gather-sort}
 use Rattle.base_sets.proofs.Holds.{holds, all-length, all-holds, none-holds, join-length, join-holds, AllFit, fit-all, fit-none, fit-join}
 use Rattle.base_sets.proofs.Meets.{decides-same, meets-both, common-both}

@@ -8,7 +8,7 @@ use native.Mathlib.Omega.{arith}
 use borrow.Author.Tests.{eq-eqb, ne-eqb, lt-ltb, le-ltb}
 use lib.ListN.{length}
 use lib.Dec.{eqb}
-use Rattle.read_phrases.specs.Outline.{OutlineLine, Lined, lined, Expect, one-process, expectedBeneath, expectedAfter, mayEnd, node, Trees, empty, also, Block, end, more, Levels, place, accept, acceptLine, acceptAll, allEnd, levelsEnded, wholeText, grown}
+use Rattle.read_phrases.specs.Outline.{OutlineLine, Lined, lined, Expect, expectedBeneath, expectedAfter, mayEnd, node, Trees, empty, also, Block, end, more, Levels, place, accept, acceptLine, acceptAll, allEnd, levelsEnded, wholeText, grown}
 use Rattle.read_phrases.specs.OutlineClaims.{LinesComplete}
 
 -- the next line, if there is one, is above a level

@@ -5,8 +5,8 @@ use mathlib.Core.Option.{none}
 use mathlib.Core.List.{List, [], _∷_, _++_, append-nil, append-assoc, List·Memᴰ, List·Memᴰ·not-nil, List·Memᴰ·append-cases}
 use Prim.Native.Nat.{ℕ, zero, suc, _+_, _<_, _≤_}
 use native.Mathlib.Omega.{arith}
-use lib.IntN.{ℤ, pos}
-use lib.ListN.{getD, set}
+use lib.IntN.{ℤ}
+use lib.ListN.{getD}
 use Rattle.meaning.specs.Declarations.{Variable, variableAt}
 use Rattle.meaning.specs.Answers.{check}
 use Rattle.meaning.specs.Tree.{block, Process, node, Processes, empty, also, Content, orStop, actionOf}

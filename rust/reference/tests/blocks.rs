@@ -2,16 +2,13 @@
 //! the cells after each step, and refusal 14 against a slow search that follows the paper's words.
 
 mod common;
-use common::{outcome, ran};
+use common::{assert_enough, outcome, ran, stored_inputs, Tally};
 use reference::explore::{explore, Finding};
 use reference::generate::{generate, Aim};
 use reference::kinds::{declaration_count, rows_referred_to, ASSIGNMENT, BLOCK, ELEMENT};
 use reference::printing::split_input;
 use reference::table::{rows_of_bytes, Row};
 use reference::{answer_bytes, check_bytes, Answer, Outcome, BUDGET_LIMIT, BUFFER_LENGTHS};
-use std::collections::HashMap;
-use std::fs;
-use std::path::Path;
 
 /// PAR of two loops with a block each (check 9 of the request's note).
 const TWO_LOOPS: &[u8] = include_bytes!("../../../cases/q5-two-loops-0.in");
@@ -140,7 +137,7 @@ fn compare(what: &str, table: &[u8]) -> Option<&'static str> {
 
 #[test]
 fn refusal_14_is_as_the_slow_search_finds_it() {
-    let mut sorts: HashMap<&str, usize> = HashMap::new();
+    let mut sorts = Tally::new();
     for seed in 0..1_200 {
         let aim = match seed % 3 {
             0 => Some(Aim::Accepted),
@@ -153,28 +150,22 @@ fn refusal_14_is_as_the_slow_search_finds_it() {
             *sorts.entry(sort).or_insert(0) += 1;
         }
     }
-    for (sort, least) in [
+    let least = [
         ("none", 400),
         ("root", 30),
         ("second", 30),
         ("outside", 100),
-    ] {
-        assert!(sorts.get(sort) >= Some(&least), "{sort} in {sorts:?}");
-    }
+    ];
+    assert_enough(&sorts, &least);
 }
 
 #[test]
 fn refusal_14_of_stored_cases_is_as_the_slow_search_finds_it() {
-    let folder = Path::new(env!("CARGO_MANIFEST_DIR")).join("../../cases");
     let mut refused = 0;
-    for file in fs::read_dir(folder).expect("the folder is there") {
-        let path = file.expect("a file").path();
-        if path.extension().is_some_and(|extension| extension == "in") {
-            let input = fs::read(&path).expect("bytes");
-            let (table, _) = split_input(&input);
-            let sort = compare(&path.display().to_string(), table);
-            refused += usize::from(sort.is_some_and(|sort| sort != "none"));
-        }
+    for (file, input) in stored_inputs() {
+        let (table, _) = split_input(&input);
+        let sort = compare(&file, table);
+        refused += usize::from(sort.is_some_and(|sort| sort != "none"));
     }
     assert!(refused >= 30, "{refused}");
 }

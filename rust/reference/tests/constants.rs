@@ -4,14 +4,23 @@
 
 mod common;
 use common::clashes::{clashes, differs, Rule};
-use common::{moved, refused};
+use common::{assert_enough, moved, refused, stored_inputs, Tally};
 use reference::explore::{explore, Finding};
 use reference::generate::{generate, Aim};
 use reference::printing::split_input;
 use reference::{check_bytes, Outcome};
-use std::collections::HashMap;
-use std::fs;
-use std::path::Path;
+
+/// The rings of six burners, of cells and of channel elements (checks 9 and 10 of the request's note).
+const RINGS: [(&str, &[u8]); 2] = [
+    (
+        "cells",
+        include_bytes!("../../../cases/q7-ring-of-cells.in"),
+    ),
+    (
+        "channel elements",
+        include_bytes!("../../../cases/q7-ring-of-channels-0.in"),
+    ),
+];
 
 /// A name of four numbers, each of which has a literal: a[K] := 2, c[K] ? y, c[K] ! 2.
 const SETS: &str = "22,0,+1,+2 10,K,0,0 10,2,0,0";
@@ -153,7 +162,7 @@ fn compare(what: &str, table: &[u8]) -> Option<&'static str> {
 
 #[test]
 fn generated_verdicts_are_those_of_the_slow_search() {
-    let mut sorts: HashMap<&str, usize> = HashMap::new();
+    let mut sorts = Tally::new();
     for seed in 0..1_500 {
         let aim = match seed % 4 {
             0 => Some(Aim::Accepted),
@@ -167,40 +176,30 @@ fn generated_verdicts_are_those_of_the_slow_search() {
             *sorts.entry(sort).or_insert(0) += 1;
         }
     }
-    for (sort, least) in [
+    let least = [
         ("accepted", 400),
         ("accepted by constants alone", 100),
         ("refused", 200),
         ("refused otherwise", 30),
-    ] {
-        assert!(sorts.get(sort) >= Some(&least), "{sort} in {sorts:?}");
-    }
+    ];
+    assert_enough(&sorts, &least);
 }
 
 #[test]
 fn stored_verdicts_are_those_of_the_slow_search() {
-    let folder = Path::new(env!("CARGO_MANIFEST_DIR")).join("../../cases");
     let mut by_constants = 0;
-    for file in fs::read_dir(folder).expect("the folder is there") {
-        let path = file.expect("a file").path();
-        if path.extension().is_some_and(|extension| extension == "in") {
-            let input = fs::read(&path).expect("bytes");
-            let (table, _) = split_input(&input);
-            let sort = compare(&path.display().to_string(), table);
-            by_constants += usize::from(sort == Some("accepted by constants alone"));
-        }
+    for (file, input) in stored_inputs() {
+        let (table, _) = split_input(&input);
+        let sort = compare(&file, table);
+        by_constants += usize::from(sort == Some("accepted by constants alone"));
     }
     assert!(by_constants >= 60, "{by_constants}");
 }
 
 #[test]
 fn all_orders_of_the_rings_agree() {
-    for ring in ["q7-ring-of-cells.in", "q7-ring-of-channels-0.in"] {
-        let path = Path::new(env!("CARGO_MANIFEST_DIR"))
-            .join("../../cases")
-            .join(ring);
-        let input = fs::read(path).expect("bytes");
-        let (table, sheet) = split_input(&input);
+    for (ring, input) in RINGS {
+        let (table, sheet) = split_input(input);
         let program = check_bytes(table).expect("accepted");
         // Six steps, none of which waits for another: 6 * 5 * 4 * 3 * 2 orders.
         let agree = Finding::Agree {

@@ -1,6 +1,8 @@
 //! Generated subscripts: constants of all sorts wherever a subscript counts, and what comes near to
 //! a constant.
 
+mod common;
+use common::{assert_enough, Tally};
 use reference::check_bytes;
 use reference::constants::{constants_of, Constant};
 use reference::generate::{generate, Aim};
@@ -94,8 +96,8 @@ fn sorts(program: &Program, constants: &[Constant], named: usize) -> Vec<&'stati
 }
 
 /// How many tables of these seeds have a subscript of each sort, and constants in each place.
-fn tally(small: bool, seeds: u64) -> BTreeMap<&'static str, usize> {
-    let mut tally = BTreeMap::new();
+fn tally(small: bool, seeds: u64) -> Tally {
+    let mut tally = Tally::new();
     for seed in 0..seeds {
         let aim = [Aim::Accepted, Aim::WithoutAlt][(seed % 2) as usize];
         let input = generate(seed, small, Some(aim));
@@ -115,13 +117,6 @@ fn tally(small: bool, seeds: u64) -> BTreeMap<&'static str, usize> {
             .for_each(|sort| *tally.entry(sort).or_insert(0) += 1);
     }
     tally
-}
-
-/// Asks for so many tables of each sort at least.
-fn assert_enough(found: &BTreeMap<&str, usize>, least: &[(&str, usize)]) {
-    for (sort, least) in least {
-        assert!(found.get(sort) >= Some(least), "{sort} in {found:?}");
-    }
 }
 
 #[test]

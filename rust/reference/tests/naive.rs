@@ -1,6 +1,8 @@
 //! A slow machine that follows the paper's words, beside the fast one: settling by its rules
 //! until none applies, and a search for the other side of each communication.
 
+mod common;
+use common::stored_inputs;
 use reference::generate::{generate, Aim};
 use reference::kinds::{
     fields_of, Field, ALT, ASSIGNMENT, BLOCK, ELEMENT, FROM_HOST, GUARD, IF, INNER, INPUT, OUTPUT,
@@ -14,8 +16,6 @@ use reference::state::State;
 use reference::steps::{ready_steps, take_step, Step};
 use reference::values::{is_true, number_named, value, Reason};
 use reference::{check_bytes, Outcome};
-use std::fs;
-use std::path::Path;
 
 /// All rows reachable from a row by references, the row itself excluded.
 fn beneath(program: &Program, row: usize) -> Vec<usize> {
@@ -368,16 +368,10 @@ fn larger_tables_step_as_the_slow_machine_does() {
 
 #[test]
 fn stored_cases_step_as_the_slow_machine_does() {
-    let folder = Path::new(env!("CARGO_MANIFEST_DIR")).join("../../cases");
     let mut steps = 0;
-    for file in fs::read_dir(folder).expect("the folder is there") {
-        let path = file.expect("a file").path();
-        if path.extension().is_some_and(|extension| extension == "in") {
-            let input = fs::read(&path).expect("bytes");
-            for seed in [0, 1] {
-                let followed = follow(&path.display().to_string(), seed, &input, 51);
-                steps += followed.unwrap_or(0);
-            }
+    for (file, input) in stored_inputs() {
+        for seed in [0, 1] {
+            steps += follow(&file, seed, &input, 51).unwrap_or(0);
         }
     }
     assert!(steps > 1_500, "{steps}");

@@ -1,5 +1,4 @@
 -- The mask's kinds are those of processes. Assumes nothing.
-use mathlib.Core.Path.{_≡_, refl}
 use Rattle.meaning.specs.Basics.{allBelow}
 use Rattle.base_kinds.specs.Table.{numbersIn}
 use borrow.Author.Needs.{needs}

@@ -1,13 +1,12 @@
 -- Field by field: each row that the row refers to gets its number. Assumes nothing.
 use mathlib.Core.Path.{_≡_, sym, ap, _∙_, subst}
-use mathlib.Core.List.{List}
-use Prim.Native.Nat.{ℕ, _+_, _≤_}
+use Prim.Native.Nat.{_+_, _≤_}
 use native.Mathlib.Omega.{arith}
 use lib.IntN.{ℤ}
 use lib.ListN.{getD}
 use mir.Syntax.{w32}
 use mir.ValLaws.{toZ-ofZ}
-use Rattle.meaning.specs.References.{of-a, of-b, of-c}
+use Rattle.meaning.specs.References.{of-a, of-b}
 use Rattle.base_kinds.specs.Table.{fieldMeant}
 use Rattle.base_top_down.specs.Forms.{isReference, formSize}
 use Rattle.base_top_down.specs.New.{itemOfRow, Numbered}

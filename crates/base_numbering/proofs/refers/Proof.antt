@@ -1,5 +1,5 @@
 -- By the sort of the entry. Assumes nothing.
-use mathlib.Core.Path.{_≡_, refl, sym}
+use mathlib.Core.Path.{sym}
 use Rattle.base_kinds.specs.Table.{fieldMeant}
 use Rattle.base_top_down.specs.Forms.{isReference}
 use Rattle.base_numbering.proofs.Entries.{no-reference}

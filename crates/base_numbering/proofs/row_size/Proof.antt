@@ -1,10 +1,9 @@
 -- Field by field. Assumes nothing.
 use mathlib.Core.Path.{_≡_, ap, _∙_}
-use Prim.Native.Nat.{ℕ, _+_, _≤_}
+use Prim.Native.Nat.{_+_, _≤_}
 use lib.IntN.{ℤ}
 use mir.Syntax.{w32}
 use mir.ValLaws.{toZ-ofZ}
-use Rattle.meaning.specs.Rows.{rowCount}
 use Rattle.meaning.specs.References.{of-a, of-b, of-c}
 use Rattle.base_kinds.specs.Table.{fieldMeant}
 use Rattle.base_top_down.specs.Forms.{isReference, formAt, formSize}

@@ -1,5 +1,5 @@
 -- By the sign of the number. Assumes nothing.
-use mathlib.Core.Path.{_≡_, sym}
+use mathlib.Core.Path.{sym}
 use mathlib.Core.Bool.{true, false}
 use mir.Syntax.{w32}
 use mir.ValLaws.{toZ-ofZ}

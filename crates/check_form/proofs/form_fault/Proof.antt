@@ -1,10 +1,4 @@
 -- As its callee ensures, of the declarations that it counts. Assumes nothing.
-use mathlib.Core.Path.{_≡_, ap, _∙_}
-use Prim.Native.Nat.{ℕ}
-use Rattle.meaning.specs.Basics.{lowest}
-use Rattle.meaning.specs.Rows.{rowCount}
-use Rattle.meaning.specs.Verdict.{formFaultAt}
-use Rattle.base_rows.specs.Places.{placeOf}
 use borrow.Author.Needs.{needs}
 use Rattle.check_form.proofs.form_fault.Statement.{statement}
 use Rattle.check_form.proofs.form_fault.Tie as tie

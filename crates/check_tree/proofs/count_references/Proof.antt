@@ -1,6 +1,6 @@
 -- Row by row. Assumes nothing.
-use mathlib.Core.Path.{_≡_, refl, sym, ap, _∙_}
-use Prim.Native.Nat.{_≤_, _-_, _+_}
+use mathlib.Core.Path.{_≡_, refl, ap, _∙_}
+use Prim.Native.Nat.{_≤_, _-_}
 use lib.ListN.{length}
 use Rattle.meaning.specs.Rows.{rowCount}
 use Rattle.meaning.specs.Kinds.{shapeOf}

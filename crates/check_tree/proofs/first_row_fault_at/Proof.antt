@@ -1,9 +1,8 @@
 -- No place so far is at fault. Assumes nothing.
 use mathlib.Core.Path.{_≡_, sym, ap, _∙_}
 use mathlib.Core.Bool.{false}
-use Prim.Native.Nat.{ℕ, suc, _≤_, _<_, _-_, _+_}
+use Prim.Native.Nat.{ℕ, suc, _≤_, _<_, _-_}
 use borrow.Author.Count.{below-more}
-use Rattle.meaning.specs.Basics.{lowest}
 use Rattle.meaning.specs.Rows.{rowCount}
 use Rattle.meaning.specs.Verdict.{targetsBelow, treeFaultAt}
 use Rattle.base_rows.specs.Places.{placeOf}

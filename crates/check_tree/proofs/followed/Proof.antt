@@ -1,6 +1,6 @@
 -- By the sign of the reference, and then by the row that it means. Assumes nothing.
 use mathlib.Core.Path.{_≡_, sym, ap, _∙_}
-use mathlib.Core.Bool.{Bool, true, false}
+use mathlib.Core.Bool.{true, false}
 use Prim.Native.Nat.{ℕ}
 use borrow.Author.Tests.{lt-ltb, le-ltb}
 use mir.Syntax.{w32}
@@ -9,7 +9,7 @@ use Rattle.meaning.specs.Basics.{among}
 use Rattle.meaning.specs.Rows.{naturalOf, rowCount, kindAt}
 use Rattle.base_kinds.specs.Table.{numbersIn}
 use Rattle.base_rows.proofs.Signs.{sign}
-use Rattle.check_tree.proofs.TreeLaws.{leadsThere, refers-negative, refers-right, refers-wrong}
+use Rattle.check_tree.proofs.TreeLaws.{refers-negative, refers-right, refers-wrong}
 use borrow.Author.Needs.{needs}
 use native.Mathlib.Omega.{arith}
 use Rattle.check_tree.proofs.followed.Statement.{statement}

@@ -1,5 +1,4 @@
 -- By whether the row is the root. Assumes nothing.
-use mathlib.Core.Path.{_≡_}
 use borrow.Author.Tests.{eq-eqb, ne-eqb}
 use borrow.Author.Needs.{needs}
 use Rattle.check_tree.proofs.not_referred_once.Statement.{statement}

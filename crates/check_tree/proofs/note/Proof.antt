@@ -1,5 +1,4 @@
 -- The place of the row is one more, up to two. Assumes nothing.
-use mathlib.Core.Path.{_≡_, refl, sym}
 use lib.ListN.{length, getD}
 use borrow.Author.Tests.{lt-ltb, le-ltb}
 use Rattle.check_tree.specs.Counts.{oneMoreFor}

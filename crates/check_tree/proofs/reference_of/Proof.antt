@@ -1,8 +1,8 @@
 -- By the sort of the entry. Assumes nothing.
-use mathlib.Core.Path.{_≡_, refl, sym, ap, _∙_}
+use mathlib.Core.Path.{_≡_, sym, _∙_}
 use mathlib.Core.Bool.{true, false}
-use Prim.Native.Nat.{_/_, _%_}
-use lib.IntN.{ℤ, pos, negsuc}
+use Prim.Native.Nat.{_/_}
+use lib.IntN.{negsuc}
 use mir.Syntax.{w32}
 use mir.ValLaws.{toZ-ofZ}
 use Rattle.meaning.specs.Basics.{eqZ}

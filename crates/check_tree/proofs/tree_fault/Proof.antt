@@ -1,5 +1,4 @@
 -- The counts are those of the definition, for 1,024 rows at most. Assumes nothing.
-use mathlib.Core.Path.{_≡_}
 use Rattle.check_tree.proofs.NotedCounts.{counted}
 use borrow.Author.Needs.{needs}
 use Rattle.check_tree.proofs.tree_fault.Statement.{statement}

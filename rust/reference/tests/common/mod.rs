@@ -1,10 +1,33 @@
-//! Small tables written as rows with spaces between them.
+//! Small tables written as rows with spaces between them; the stored cases; counts by sort.
 #![allow(dead_code)]
 
 pub mod clashes;
 
 use reference::printing::printed;
 use reference::{answer_bytes, answer_rows, Answer, Ran, BUDGET_LIMIT, BUFFER_LENGTHS};
+use std::collections::BTreeMap;
+use std::fs;
+use std::path::Path;
+
+/// How often each sort came.
+pub type Tally = BTreeMap<&'static str, usize>;
+
+/// Asks for so many of each sort at least.
+pub fn assert_enough(found: &Tally, least: &[(&str, usize)]) {
+    for (sort, least) in least {
+        assert!(found.get(sort) >= Some(least), "{sort} in {found:?}");
+    }
+}
+
+/// The inputs of the stored cases, with their files.
+pub fn stored_inputs() -> impl Iterator<Item = (String, Vec<u8>)> {
+    let folder = Path::new(env!("CARGO_MANIFEST_DIR")).join("../../cases");
+    let files = fs::read_dir(folder).expect("the folder is there");
+    files
+        .map(|file| file.expect("a file").path())
+        .filter(|path| path.extension().is_some_and(|extension| extension == "in"))
+        .map(|path| (path.display().to_string(), fs::read(&path).expect("bytes")))
+}
 
 /// The bytes of a table of these rows.
 pub fn table(rows: &str) -> Vec<u8> {

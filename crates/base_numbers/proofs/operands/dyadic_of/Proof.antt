@@ -1,6 +1,6 @@
 -- `dyadic_of` meets its contract, by the cases of the first operand and by whether it decides.
 use borrow.Author.Needs.{needs}
-use mathlib.Core.Path.{sym, _∙_}
+use mathlib.Core.Path.{sym}
 use mir.Syntax.{w32}
 use mir.Val.{SFits}
 use mir.ValLaws.{toZ-ofZ}

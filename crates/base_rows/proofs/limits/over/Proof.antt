@@ -1,5 +1,4 @@
 -- The code's five tests are those of the definition. Assumes nothing.
-use mathlib.Core.Path.{_≡_}
 use borrow.Author.Tests.{lt-ltb, le-ltb}
 use Rattle.base_rows.proofs.limits.over.Statement.{statement}
 use Rattle.base_rows.proofs.limits.over.Tie as tie

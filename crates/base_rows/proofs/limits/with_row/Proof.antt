@@ -1,5 +1,4 @@
 -- Sums that pass no limit have room for one row more. Assumes nothing.
-use mathlib.Core.Path.{_≡_}
 use Prim.Native.Nat.{_+_}
 use Rattle.meaning.specs.Declarations.{sumBelow}
 use Rattle.base_rows.proofs.LimitLaws.{small}

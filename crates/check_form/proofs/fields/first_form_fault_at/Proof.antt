@@ -1,7 +1,7 @@
 -- No row so far is at fault. Assumes nothing.
 use mathlib.Core.Path.{_≡_, sym, ap, _∙_}
 use mathlib.Core.Bool.{false}
-use Prim.Native.Nat.{ℕ, _≤_, _<_, _-_, _+_}
+use Prim.Native.Nat.{ℕ, _≤_, _<_, _-_}
 use borrow.Author.Count.{below-none, below-more}
 use Rattle.meaning.specs.Rows.{rowCount}
 use Rattle.meaning.specs.Verdict.{formFaultAt}

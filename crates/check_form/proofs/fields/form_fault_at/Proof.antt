@@ -1,6 +1,5 @@
 -- By the two tests of the definition. Assumes nothing.
-use mathlib.Core.Path.{_≡_, sym, ap, _∙_}
-use mathlib.Core.Bool.{Bool}
+use mathlib.Core.Path.{sym, ap, _∙_}
 use mathlib.Core.Logic.{⊎-elim}
 use Rattle.meaning.specs.Kinds.{shapeOf}
 use Rattle.base_kinds.specs.Table.{meantShape}

@@ -1,6 +1,6 @@
 -- Arm by arm, by the sort of the entry. Assumes nothing.
-use mathlib.Core.Path.{_≡_, _∙_}
-use Prim.Native.Nat.{_/_, _%_, _<_}
+use mathlib.Core.Path.{_∙_}
+use Prim.Native.Nat.{_/_, _%_}
 use mir.Syntax.{w32}
 use mir.ValLaws.{toZ-ofZ, toZ-pos}
 use Rattle.meaning.specs.Basics.{inside}

@@ -1,13 +1,11 @@
 -- By the sign of the number, and then by the row that it names. Assumes nothing.
 use mathlib.Core.Path.{_≡_, sym, ap, _∙_}
-use mathlib.Core.Bool.{Bool, true, false}
-use mathlib.Core.List.{List}
+use mathlib.Core.Bool.{true, false}
 use Prim.Native.Nat.{ℕ, _<_}
-use lib.IntN.{ℤ}
 use mir.Syntax.{w32}
 use mir.ValLaws.{toZ-ofZ}
 use Rattle.meaning.specs.Basics.{anyPasses, among}
-use Rattle.meaning.specs.Rows.{naturalOf, naturalAt}
+use Rattle.meaning.specs.Rows.{naturalOf}
 use Rattle.meaning.specs.Declarations.{isChannel, hasRole}
 use Rattle.base_kinds.specs.Table.{numbersIn}
 use Rattle.check_form.proofs.FieldLaws.{channel-below}

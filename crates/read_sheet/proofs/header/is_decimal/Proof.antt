@@ -1,6 +1,5 @@
 -- The loop keeps which digits are compared. Assumes nothing.
 use mathlib.Core.Path.{sym}
-use Prim.Native.Nat.{_-_}
 use native.Mathlib.Omega.{arith}
 use borrow.Author.Needs.{needs}
 use Rattle.read_sheet.proofs.DecimalSteps.{Compared, nothing-compared, too-few, digit-equal, digit-differs, not-one, by-first-digit}

@@ -3,12 +3,12 @@ use mathlib.Core.Path.{_≡_, refl, sym, ap, _∙_}
 use mathlib.Core.List.{List, _∷_}
 use Prim.Native.Nat.{ℕ, _<_, _-_}
 use native.Mathlib.Omega.{arith}
-use lib.ListN.{length, getD, set, length-set}
+use lib.ListN.{length, getD}
 use borrow.Author.Needs.{needs}
 use Rattle.meaning.specs.Basics.{among}
 use Rattle.meaning.specs.Rows.{rowCount}
 use Rattle.base_layout.proofs.Parts.{operand-higher}
-use Rattle.run_parents.specs.Marks.{firstNote, noteAt}
+use Rattle.run_parents.specs.Marks.{firstNote}
 use Rattle.run_parents.proofs.OptionLinks.{optionsFrom, options-past, options-here, options-none}
 use Rattle.run_parents.proofs.Noting.{noted-none, note-given, note-length}
 use Rattle.run_parents.proofs.owners.note_options.Statement.{statement}
