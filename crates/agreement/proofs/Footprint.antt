@@ -69,7 +69,7 @@ value-mem first n (Number (negsuc k)) a e = never e
 value-mem first n (Missing k) a e = never e
 
 -- the value of a constant is the same whatever the cells hold
-pub constant-value : (c d : List (Option ℤ)) (e : Expr) → constant e ≡ true → value c e ≡ value d e
+constant-value : (c d : List (Option ℤ)) (e : Expr) → constant e ≡ true → value c e ≡ value d e
 unfolding constant value
 constant-value c d (literal x) h = refl
 constant-value c d (element v e) h = absurd (false≢true h)

@@ -29,7 +29,7 @@ use Rattle.meaning.proofs.ComputesAnswers.{computesAnswers}
 use Rattle.meaning.proofs.NoFault.{lowest-none}
 use Rattle.agreement.specs.Statements.{NoAlt}
 use Rattle.agreement.specs.NotEmptyClaims.{LongOrder, TwoOrders, TwoOrdersOfBlocks, TwoOrdersOfConstants, NeverRests}
-use Rattle.agreement.specs.SubscriptClaims.{LiteralCounts, any-other}
+use Rattle.agreement.specs.SubscriptClaims.{LiteralCounts, not-literal}
 use Rattle.agreement.proofs.Steps.{ready-allowed, allowed-ready}
 use Rattle.agreement.proofs.Reached.{order-more}
 use Rattle.agreement.proofs.Fit.{Fit}
@@ -164,7 +164,7 @@ ring-members =
 -- by literals alone both assignments change cell 0
 ring-changes : (r b c : ℕ) → nodeAt ringRows r ≡ Assignment 0 b c → kindAt ringRows b ≡ 13 → Changed ringRows (LiteralCounts ringRows) r 0 0
 unfolding computesAnswers
-ring-changes r b c e k = (r, inl refl, changed-by-assignment e (any-other (λ f. omega arith) (omega arith)))
+ring-changes r b c e k = (r, inl refl, changed-by-assignment e (not-literal (λ f. omega arith) (omega arith)))
 
 pub two-orders-of-constants : TwoOrdersOfConstants
 unfolding computesAnswers both-orders

@@ -14,7 +14,7 @@ use Rattle.meaning.specs.Tree.{contentAt}
 use Rattle.meaning.specs.Values.{value}
 use Rattle.meaning.specs.Clash.{Constant, HasValue, literal-value, monadic-value, dyadic-value, and-false, or-true, Counts, its-value, every-number, Changes, changed-by-assignment, changed-by-input, Stands, stands, Inputs, input-row, Outputs, output-row, Clash, cell-clash, input-clash, output-clash}
 use Rattle.meaning.proofs.Decides.{is-true}
-use Rattle.agreement.specs.SubscriptClaims.{SubscriptsCount, LiteralCounts, literal-only, any-other, LiteralClash, AcceptedStill}
+use Rattle.agreement.specs.SubscriptClaims.{SubscriptsCount, LiteralCounts, literal-only, not-literal, LiteralClash, AcceptedStill}
 use Rattle.agreement.proofs.Footprint.{index-counts}
 use Rattle.agreement.proofs.UsageRows.{node-of-kind}
 use Rattle.agreement.proofs.UsageConstants.{number-same, number-not-missing, made-of, value-of, has-value, constant-decides}
@@ -67,8 +67,8 @@ module _ (rows : List ℤ) where
       go : Dec (kindAt rows b ≡ 10) → Counts rows n b i → LiteralCounts rows n b i
       go (yes k) (its-value c v l) = literal-only k (literal-number (node-of-kind rows b 10 k) v) l
       go (yes k) (every-number f l) = absurd (f (fieldAt rows b 1) (literal-constant b k) (literal-value (node-of-kind rows b 10 k)))
-      go (no k) (its-value c v l) = any-other k l
-      go (no k) (every-number f l) = any-other k l
+      go (no k) (its-value c v l) = not-literal k l
+      go (no k) (every-number f l) = not-literal k l
 
   changes-by-literal : {r v i : ℕ} → Changes rows (Counts rows) r v i → Changes rows (LiteralCounts rows) r v i
   changes-by-literal (changed-by-assignment e c) = changed-by-assignment e (counts-by-literal _ _ _ c)

@@ -17,8 +17,6 @@ use Rattle.meaning.specs.Clash.{Within, Counts, Changes, changed-by-assignment,
 use Rattle.meaning.proofs.Decides.{Decides, decides-iff, decides-or, decides-any}
 use Rattle.meaning.proofs.ReferenceCounts.{decides-among}
 use Rattle.agreement.specs.VerdictClaims.{Passed}
-use Rattle.agreement.proofs.UsageRows.{Fits}
-use Rattle.agreement.proofs.UsageReferences.{passed-fits}
 use Rattle.agreement.proofs.UsageTree.{Mark, InProcess, InOption, in-process}
 use Rattle.agreement.proofs.UsageWithin.{Bears, at-process, Some, within-below, at-some}
 use Rattle.agreement.proofs.UsageGather.{markChanges, markUses, markInputs, markOutputs, gathers-changes, gathers-uses, gathers-inputs, gathers-outputs}
@@ -39,9 +37,6 @@ module _ (rows : List ℤ) where
   In R p v i = (r : ℕ) × Within rows p r × R r v i
 
   module _ (passed : Passed rows) where
-    fits : (r : ℕ) → r < rowCount rows → Fits rows r (nodeAt rows r)
-    fits = passed-fits rows passed
-
     -- a mark of number n is in the process exactly if the place of that number is one of which R holds in it
     located : (n : ℕ) (M : Mark) (size : ℕ → ℕ) (R : ℕ → ℕ → ℕ → Type 0) → ((r : ℕ) → r < rowCount rows → Bears rows M (nodeAt rows r) ↔ Of n size R r)
         → (p : ℕ) (x : Process) → IsProcess p x → InProcess M x ↔ ((v : ℕ) × ((i : ℕ) × Numbers size n v i × In R p v i))

@@ -17,13 +17,12 @@ use Rattle.meaning.specs.Nodes.{nodeAt}
 use Rattle.meaning.specs.Tree.{Process, Content, noContent, contentOf, contentAt}
 use Rattle.meaning.specs.Usage.{Pair, pairs, Comparison, comparisonsIn, comparisonsOf, clashes, firstClash}
 use Rattle.meaning.specs.Clash.{IsMember, member-first, member-next, Components, components, Clash}
-use Rattle.meaning.proofs.Decides.{Decides, holding, failing}
+use Rattle.meaning.proofs.Decides.{Decides, holding, failing, is-true}
 use Rattle.agreement.specs.VerdictClaims.{Passed}
 use Rattle.agreement.proofs.TableReferences.{Fields, fields-are}
 use Rattle.agreement.proofs.UsageRows.{Fits}
 use Rattle.agreement.proofs.UsageReferences.{first-node, process-node, passed-fits, first-refers}
 use Rattle.agreement.proofs.UsageParts.{part-is}
-use Rattle.agreement.proofs.UsageNames.{test-true}
 use Rattle.agreement.proofs.UsageClashes.{IsProcess}
 use Rattle.agreement.proofs.UsageMembers.{Chain, process-at, chain-at, Apart, apart, member-is, pairs-to, member-from, pairs-from}
 
@@ -177,8 +176,8 @@ module _ (rows : List ℤ) where
                 s .0,
                 s .1,
                 ⊎-elim
-                    (λ k. ap (λ (z : Process). test z (s .0 .other)) (k .0) ∙ ap (test (x .0)) (k .1) ∙ test-true (decides-rel p q (x .0) (y .0) (x .1) (y .1)) rel)
-                    (λ k. ap (λ (z : Process). test z (s .0 .other)) (k .0) ∙ ap (test (y .0)) (k .1) ∙ test-true (decides-rel q p (y .0) (x .0) (y .1) (x .1)) (turned p q rel))
+                    (λ k. ap (λ (z : Process). test z (s .0 .other)) (k .0) ∙ ap (test (x .0)) (k .1) ∙ is-true (decides-rel p q (x .0) (y .0) (x .1) (y .1)) rel)
+                    (λ k. ap (λ (z : Process). test z (s .0 .other)) (k .0) ∙ ap (test (y .0)) (k .1) ∙ is-true (decides-rel q p (y .0) (x .0) (y .1) (x .1)) (turned p q rel))
                     (s .2),
               )
 

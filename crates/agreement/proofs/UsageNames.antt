@@ -14,15 +14,10 @@ use Rattle.meaning.specs.Tree.{contentAt}
 use Rattle.meaning.specs.Usage.{countsFor}
 use Rattle.meaning.specs.References.{IsTarget}
 use Rattle.meaning.specs.Clash.{Counts}
-use Rattle.meaning.proofs.Decides.{Decides, holding, failing, decides-and, decides-lt, decides-eq}
+use Rattle.meaning.proofs.Decides.{decides-and, decides-lt, decides-eq, is-true}
 use Rattle.agreement.specs.VerdictClaims.{Passed}
 use Rattle.agreement.proofs.UsageRows.{ToChannel}
 use Rattle.agreement.proofs.UsageNumbers.{Numbers, Counted, counts-below, counts-is}
-
--- a test of what holds is true
-pub test-true : {A : Type 0} {t : Bool} → Decides A t → A → t ≡ true
-test-true (holding a) h = refl
-test-true (failing f) h = absurd (f h)
 
 module _ (rows : List ℤ) where
   -- the numbers that a name counts for with the subscript at row b, as places in it
@@ -52,7 +47,7 @@ module _ (rows : List ℤ) where
   channel-is role c h = go (hasRole 0 rows c || hasRole role rows c) named
     where
       of : (j : ℕ) → naturalAt rows c 2 ≡ j → hasRole j rows c ≡ true
-      of j e = test-true (decides-and (decides-and (decides-lt c (declarations rows)) (decides-eq (kindAt rows c) 2)) (decides-eq (naturalAt rows c 2) j)) ((h .0, h .1), e)
+      of j e = is-true (decides-and (decides-and (decides-lt c (declarations rows)) (decides-eq (kindAt rows c) 2)) (decides-eq (naturalAt rows c 2) j)) ((h .0, h .1), e)
 
       or-left : (s t : Bool) → s ≡ true → (s || t) ≡ true
       or-left s t e = ap (λ (x : Bool). x || t) e

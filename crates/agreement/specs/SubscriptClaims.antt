@@ -32,7 +32,7 @@ SubscriptsCount = (rows : List ℤ) → Passed rows → (b : ℕ) → b < rowCou
 -- document 01's rule: "With a literal subscript only that number of that name counts, and nothing if it is outside the array; with any other, every number of the name"
 pub data LiteralCounts (rows : List ℤ) (n b i : ℕ) : Type 0 where
   literal-only : kindAt rows b ≡ 10 → fieldAt rows b 1 ≡ pos i → i < n → LiteralCounts rows n b i
-  any-other : kindAt rows b ≢ 10 → i < n → LiteralCounts rows n b i
+  not-literal : kindAt rows b ≢ 10 → i < n → LiteralCounts rows n b i
 
 -- a clash by that rule
 abbrev pub LiteralClash : List ℤ → ℕ → ℕ → Type 0
