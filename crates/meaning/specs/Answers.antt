@@ -1,10 +1,11 @@
 -- The verdicts, and the answer to a call with what it leaves in the lent buffers: made of the one list of stages.
-use mathlib.Core.List.{List}
+use mathlib.Core.List.{List, _++_, map}
 use mathlib.Core.Option.{Option, none, some}
 use Prim.Native.Nat.{ℕ}
 use lib.IntN.{ℤ}
 use Rattle.meaning.specs.Refusals.{Refusal, Stage, firstFault}
-use Rattle.meaning.specs.Stages.{Limits, limits, Table, ofNumbers, ofBytes, rowsGiven, Call, tableStages, stages}
+use Rattle.meaning.specs.Stages.{Limits, limits, Table, ofNumbers, ofBytes, rowsGiven, Call, inRows, inputStages, stagesBeforeUsage, tableStages, stages}
+use Rattle.meaning.specs.Usage.{pairsCompared}
 use Rattle.meaning.specs.Sheet.{readings}
 use Rattle.meaning.specs.Buffers.{Buffers, encode}
 use Rattle.meaning.specs.Run.{RunResult, run}
@@ -12,6 +13,7 @@ use Rattle.meaning.specs.declared.Answer.{Answer}
 use Rattle.meaning.specs.declared.Answer.the-variants.{Refused, Ran}
 use Rattle.meaning.specs.declared.Verdict.{Verdict}
 use Rattle.meaning.specs.declared.Verdict.the-variants.{Accepted, Rejected}
+use Rattle.meaning.specs.declared.Checked.{Checked}
 
 -- the verdict on a table: "A table is accepted if these rules refuse nothing in it"
 abbrev pub tableFault : Stage Table
@@ -29,6 +31,27 @@ checkBytes table = tableFault (ofBytes table)
 abbrev pub verdictOf : Option Refusal → Verdict
 verdictOf none = Accepted
 verdictOf (some f) = Rejected (f .0) (f .1)
+
+-- no pair is compared in a table that a stage before refuses
+abbrev pub ifPassed : Option Refusal → ℕ → ℕ
+ifPassed none k = k
+ifPassed (some f) k = 0
+
+-- "the count of pairs compared" in a table
+abbrev pub pairsIn : Table → ℕ
+pairsIn t = let k = pairsCompared (rowsGiven t) in ifPassed (firstFault (inputStages ++ map inRows stagesBeforeUsage) t) k
+
+-- a verdict and the count "beside" it, as the public entries that count answer
+abbrev pub checked : Option Refusal → ℕ → Checked
+checked f k = record { verdict = verdictOf f; pairs = k }
+
+-- on rows
+unfoldable pub checkCounted : List ℤ → Checked
+checkCounted rows = checked (check rows) (pairsIn (ofNumbers rows))
+
+-- on bytes
+unfoldable pub checkBytesCounted : List ℕ → Checked
+checkBytesCounted table = checked (checkBytes table) (pairsIn (ofBytes table))
 
 -- a refusal, or a run
 pub data Result : Type 0 where

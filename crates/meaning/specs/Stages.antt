@@ -82,9 +82,9 @@ inputStages =
     ∷ inRows numbersFault
     ∷ []
 
--- Its rows
-abbrev pub rowStages : List (Stage (List ℤ))
-rowStages =
+-- Its rows, before components are compared
+abbrev pub stagesBeforeUsage : List (Stage (List ℤ))
+stagesBeforeUsage =
     -- 4, "lowest row at fault": "unknown kind, late declaration, operator or value out of range, a name that is no declaration ..."
     formFault
     -- 5, "lowest row at fault, or the count of rows if there is no root": "reference wrong ..., a root that is no process, or a row referred to other than once"
@@ -93,9 +93,14 @@ rowStages =
     ∷ limitFault
     -- 14, "lowest such row": "A block as root, a second block for a name, or the name outside its block"
     ∷ blockFault
-    -- 7, 8, 9, "lowest PAR with a clash of that sort": "7 cell, 8 input, 9 output"
-    ∷ usageFault
     ∷ []
+
+-- Its rows
+abbrev pub rowStages : List (Stage (List ℤ))
+rowStages =
+    stagesBeforeUsage
+    -- 7, 8, 9, "lowest PAR with a clash of that sort": "7 cell, 8 input, 9 output"
+    ++ (usageFault ∷ [])
 
 -- The table: what the verdict looks at
 abbrev pub tableStages : List (Stage Table)

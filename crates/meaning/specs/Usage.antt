@@ -217,6 +217,15 @@ unfoldable pub firstClash : List Comparison → Option Comparison
 firstClash [] = none
 firstClash (c ∷ l) = let later = firstClash l in ifElse (clashes c) (some c) later
 
+-- "the count of pairs compared: up to that one, it included, or all in each of the three sorts if there is no clash"
+unfoldable pub compared : List Comparison → ℕ
+compared [] = 0
+compared (c ∷ l) = let later = suc (compared l) in ifElse (clashes c) 1 later
+
+-- in a table
+unfoldable pub pairsCompared : List ℤ → ℕ
+pairsCompared rows = compared (comparisons rows)
+
 abbrev pub refusalOf : Option Comparison → Option Refusal
 refusalOf none = none
 refusalOf (some c) = some (c .number, c .row)

@@ -55,3 +55,9 @@ pub enum Verdict {
     Accepted,
     Rejected(u8, u32),
 }
+
+// The verdict on a table alone, and the count of pairs of components compared.
+pub struct Checked {
+    pub verdict: Verdict,
+    pub pairs: u32,
+}
