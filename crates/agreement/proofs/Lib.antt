@@ -82,6 +82,10 @@ pub mod UsageMembers
 pub mod UsageFirst
 pub mod VerdictStages
 pub mod UsageExact
+pub mod PairOrder
+pub mod PairMembers
+pub mod PairsInOrder
+pub mod PairsCounted
 pub mod VerdictExact
 pub mod SubscriptsCount
 pub mod TreeRows
@@ -108,6 +112,7 @@ pub mod GivenElements
 pub mod ChoicesUsedUp
 pub mod WhileReset
 pub mod RefusalPlaces
+pub mod CheckCounts
 pub mod AsDeclared
 pub mod HostOutputs
 pub mod WrittenLists

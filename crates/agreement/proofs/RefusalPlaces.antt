@@ -72,15 +72,16 @@ line-place long ls L e = go (decLt 1026 L)
         absurd (omega arith)
     go (no h) = omega arith
 
-bytes-place : (table : List ℕ) (f : Refusal) → bytesFault table ≡ some f → TableRefusal (rowsOf table) (f .0) (f .1)
+-- it is a 2 or a 3
+pub bytes-place : (table : List ℕ) (f : Refusal) → bytesFault table ≡ some f → TableRefusal (rowsOf table) (f .0) (f .1) × (f .0 ≤ 3)
 unfolding bytesFault
 bytes-place table f e =
     let (L, at, is) = mapped (refusalAt (overlong table) (lines table)) (lowest (λ i. malformed (overlong table) (lines table) i || oneTooMany (lines table) i) (2 + length (lines table))) f e in
     go (malformed (overlong table) (lines table) L) (line-place (overlong table) (lines table) L at) is
   where
-    go : {L : ℕ} (t : Bool) → L ≤ 1026 → ifElse {A = Refusal} t (2, L) (3, 1024) ≡ f → TableRefusal (rowsOf table) (f .0) (f .1)
-    go true h is = subst (λ (g : Refusal). TableRefusal (rowsOf table) (g .0) (g .1)) is (malformed-line h)
-    go false h is = subst (λ (g : Refusal). TableRefusal (rowsOf table) (g .0) (g .1)) is (rows-not-whole (omega arith))
+    go : {L : ℕ} (t : Bool) → L ≤ 1026 → ifElse {A = Refusal} t (2, L) (3, 1024) ≡ f → TableRefusal (rowsOf table) (f .0) (f .1) × (f .0 ≤ 3)
+    go true h is = subst (λ (g : Refusal). TableRefusal (rowsOf table) (g .0) (g .1) × (g .0 ≤ 3)) is (malformed-line h, omega arith)
+    go false h is = subst (λ (g : Refusal). TableRefusal (rowsOf table) (g .0) (g .1) × (g .0 ≤ 3)) is (rows-not-whole (omega arith), omega arith)
 
 -- a faulty line of a sheet is line 130 at most
 sheet-line : (long : Bool) (cs : List ℕ) (ls : List (List ℕ)) (L : ℕ) → lowest (sheetLineWrong long cs ls) (2 + length ls) ≡ some L → L ≤ 130
@@ -176,7 +177,7 @@ module _ (rows : List ℤ) (r : ℕ) where
       go false i = absurd (false≢true (sym (no-par i) ∙ ap isPar e))
 
 -- a clash is of a PAR
-clash-par : (rows : List ℤ) {r number : ℕ} → Clash rows r number → (7 ≤ number) × (number ≤ 9) × (kindAt rows r ≡ 31) × (r < rowCount rows)
+pub clash-par : (rows : List ℤ) {r number : ℕ} → Clash rows r number → (7 ≤ number) × (number ≤ 9) × (kindAt rows r ≡ 31) × (r < rowCount rows)
 clash-par rows {r} h = go h
   where
     at : {m : ℕ} → IsMember rows r m → (kindAt rows r ≡ 31) × (r < rowCount rows)
@@ -228,7 +229,7 @@ pub bytes-refused : BytesRefused
 bytes-refused table number place e = go (of-either (bytesFault table) (check (rowsOf table)) (number, place) (sym (check-bytes table) ∙ e))
   where
     go : (bytesFault table ≡ some (number, place)) ⊎ (check (rowsOf table) ≡ some (number, place)) → TableRefusal (rowsOf table) number place
-    go (inl h) = bytes-place table (number, place) h
+    go (inl h) = bytes-place table (number, place) h .0
     go (inr h) = rows-refused (rowsOf table) number place h .0
 
 -- a result that is refused
@@ -283,7 +284,7 @@ bytes-call-refused table sheet choices budget b number place e =
     (refused-answer (rowsOf table) b (unless (bufferFault b) (resultOfBytes table sheet choices budget)) number place (ap (λ (r : Reply). r .answer) (sym (reply-to-bytes table sheet choices budget b)) ∙ e)))
   where
     bytes : (bytesFault table ≡ some (number, place)) ⊎ (result (record { rows = rowsOf table; sheet = sheet; choices = choices; budget = budget }) ≡ refused (number, place)) → CallRefusal (rowsOf table) number place
-    bytes (inl h) = of-table (bytes-place table (number, place) h)
+    bytes (inl h) = of-table (bytes-place table (number, place) h .0)
     bytes (inr h) = result-place (record { rows = rowsOf table; sheet = sheet; choices = choices; budget = budget }) (number, place) h .0
 
     buffers : (bufferFault b ≡ some (number, place)) ⊎ (resultOfBytes table sheet choices budget ≡ refused (number, place)) → CallRefusal (rowsOf table) number place

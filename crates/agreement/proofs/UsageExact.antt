@@ -23,19 +23,19 @@ use Rattle.agreement.proofs.UsageClashes.{Cells, BothInput, BothOutput,
 use Rattle.agreement.proofs.UsageFirst.{member-par, orElse, first-append, FromRow, from-row}
 
 -- a clash's test, by its number
-seven : (c : Comparison) → c .number ≡ 7 → clashes c ≡ cellClash (c .pair .one) (c .pair .other)
+pub seven : (c : Comparison) → c .number ≡ 7 → clashes c ≡ cellClash (c .pair .one) (c .pair .other)
 unfolding clashes
 seven c e =
     let p = c .pair .one in let q = c .pair .other in
     ap (λ (k : ℕ). ifElse (eqb k 7) (cellClash p q) (ifElse (eqb k 8) (inputClash p q) (outputClash p q))) e
 
-eight : (c : Comparison) → c .number ≡ 8 → clashes c ≡ inputClash (c .pair .one) (c .pair .other)
+pub eight : (c : Comparison) → c .number ≡ 8 → clashes c ≡ inputClash (c .pair .one) (c .pair .other)
 unfolding clashes
 eight c e =
     let p = c .pair .one in let q = c .pair .other in
     ap (λ (k : ℕ). ifElse (eqb k 7) (cellClash p q) (ifElse (eqb k 8) (inputClash p q) (outputClash p q))) e
 
-nine : (c : Comparison) → c .number ≡ 9 → clashes c ≡ outputClash (c .pair .one) (c .pair .other)
+pub nine : (c : Comparison) → c .number ≡ 9 → clashes c ≡ outputClash (c .pair .one) (c .pair .other)
 unfolding clashes
 nine c e =
     let p = c .pair .one in let q = c .pair .other in
@@ -85,11 +85,11 @@ module _ (rows : List ℤ) (passed : Passed rows) where
       to (inr (inr h)) = h .1
 
   -- the parts of all rows
-  parts-length : length (contents rows) + 0 ≡ rowCount rows
+  pub parts-length : length (contents rows) + 0 ≡ rowCount rows
   unfolding contents
   parts-length = omega (arith, lastRows-length noContent (λ r at. contentOf rows r at (nodeAt rows r)) (rowCount rows) (rowCount rows))
 
-  parts-at : (k : ℕ) → getD (contents rows) k noContent ≡ contentAt rows (k + 0)
+  pub parts-at : (k : ℕ) → getD (contents rows) k noContent ≡ contentAt rows (k + 0)
   unfolding contents contentAt atRow
   parts-at k = ap (contentAt rows) (omega arith)
 

@@ -58,7 +58,7 @@ first-append (c ∷ l) m = go (clashes c) (first-append l m)
     go false e = e
 
 -- the first member of a PAR
-parOf : Node → Option ℕ
+unfoldable pub parOf : Node → Option ℕ
 parOf (Literal x) = none
 parOf (Element a b) = none
 parOf (Monadic a b) = none
@@ -82,11 +82,11 @@ parOf Other = none
 
 module _ (rows : List ℤ) where
   -- a row is a PAR, or has nothing to compare
-  data Looks (number r : ℕ) (x : Node) : Type 0 where
+  pub data Looks (number r : ℕ) (x : Node) : Type 0 where
     a-par : (a : ℕ) → x ≡ Par a → Looks number r x
     no-par : parOf x ≡ none → comparisonsIn number (contentOf rows r (contentAt rows) x .process) ≡ [] → Looks number r x
 
-  looks : (number r : ℕ) (x : Node) → Looks number r x
+  pub looks : (number r : ℕ) (x : Node) → Looks number r x
   unfolding parOf
   looks k r (Literal x) = no-par refl refl
   looks k r (Element a b) = no-par refl refl
@@ -114,7 +114,7 @@ module _ (rows : List ℤ) where
   member-par {r} (member-first {m} k h) = let f = first-node rows r m k h in let u = f .2 in let v = f .3 in (m, f .0, omega arith)
   member-par (member-next i h) = member-par i
 
-  par-one : (r a c : ℕ) → nodeAt rows r ≡ Par a → nodeAt rows r ≡ Par c → c ≡ a
+  pub par-one : (r a c : ℕ) → nodeAt rows r ≡ Par a → nodeAt rows r ≡ Par c → c ≡ a
   unfolding parOf
   par-one r a c e f = Option·some-injective c a (ap parOf (sym f ∙ e))
 

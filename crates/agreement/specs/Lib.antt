@@ -3,6 +3,7 @@ pub mod Statements
 pub mod NotEmptyClaims
 pub mod SettlingClaims
 pub mod VerdictClaims
+pub mod PairClaims
 pub mod SubscriptClaims
 pub mod Coherence
 pub mod TreeClaims

@@ -11,14 +11,14 @@ use Rattle.meaning.specs.Limits.{maxBudget}
 use Rattle.meaning.specs.declared.Verdict.the-variants.{Accepted, Rejected}
 use Rattle.meaning.specs.Rows.{rowCount}
 use Rattle.meaning.specs.TableBytes.{bytesFault, rowsOf, numbersFault}
-use Rattle.meaning.specs.Usage.{usageFault}
+use Rattle.meaning.specs.Usage.{usageFault, pairsCompared}
 use Rattle.meaning.specs.Sheet.{sheetFault, readings}
 use Rattle.meaning.specs.Buffers.{Buffers}
 use Rattle.meaning.specs.Run.{run}
 use Rattle.meaning.specs.Refusals.{Refusal, Stage, either, firstFault}
 use Rattle.meaning.specs.Declarations.{declarations}
-use Rattle.meaning.specs.Stages.{Limits, limits, Call, onTable, bufferFault, budgetFault, lentStages, rowStages, tableStages, callStages}
-use Rattle.meaning.specs.Answers.{tableFault, check, checkBytes, verdictOf, Result, ran, unless, runOf, resultOf, Task, onRows, onBytes, result, resultOfBytes, replyOf, reply, replyToBytes}
+use Rattle.meaning.specs.Stages.{Limits, limits, Call, onTable, bufferFault, budgetFault, lentStages, stagesBeforeUsage, rowStages, tableStages, callStages}
+use Rattle.meaning.specs.Answers.{tableFault, check, checkBytes, verdictOf, ifPassed, checked, checkCounted, checkBytesCounted, Result, ran, unless, runOf, resultOf, Task, onRows, onBytes, result, resultOfBytes, replyOf, reply, replyToBytes}
 use Rattle.meaning.specs.PrintedForms.{Each, each-none, each-more}
 use Rattle.meaning.specs.Faults.{WellFormed, WellPlaced, WithinLimits, WellBlocked}
 use Rattle.meaning.proofs.StageLaws.{form-none, tree-none, limit-none, block-none}
@@ -59,6 +59,25 @@ check-stages rows = refl
 pub check-bytes : (table : List ℕ) → checkBytes table ≡ either (bytesFault table) (check (rowsOf table))
 unfolding checkBytes check firstFault
 check-bytes table = refl
+
+-- the stages on rows before components are compared
+abbrev pub rowsBeforeUsage : List (Stage (List ℤ))
+rowsBeforeUsage = numbersFault ∷ stagesBeforeUsage
+
+-- the verdict on rows: that of the stages before usage, then that of usage
+pub check-usage : (rows : List ℤ) → check rows ≡ either (firstFault rowsBeforeUsage rows) (usageFault rows)
+unfolding firstFault
+check-usage rows = check-stages rows ∙ first-of-both rows rowsBeforeUsage (usageFault ∷ []) ∙ ap (either (firstFault rowsBeforeUsage rows)) (or-nothing (usageFault rows))
+
+-- the count of pairs on rows, and on bytes
+pub counted-rows : (rows : List ℤ) → checkCounted rows ≡ checked (check rows) (ifPassed (firstFault rowsBeforeUsage rows) (pairsCompared rows))
+unfolding checkCounted firstFault
+counted-rows rows = refl
+
+pub counted-bytes : (table : List ℕ)
+    → checkBytesCounted table ≡ checked (checkBytes table) (ifPassed (either (bytesFault table) (firstFault rowsBeforeUsage (rowsOf table))) (pairsCompared (rowsOf table)))
+unfolding checkBytesCounted firstFault
+counted-bytes table = refl
 
 -- the result of a call, part by part: the lent buffers, the table, what else is given, or else the run
 pub call-stages : (l : Limits) (c : Call)

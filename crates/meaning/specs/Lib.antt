@@ -16,6 +16,7 @@ pub mod References
 -- What is right in a table, with no test and no order of looking: refusals 4, 5 and 6, and usage in a PAR, refusals 7, 8 and 9
 pub mod Faults
 pub mod Clash
+pub mod MemberPairs
 -- The same as tests, and the tree
 pub mod Verdict
 pub mod HigherRows

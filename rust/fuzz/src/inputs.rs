@@ -16,7 +16,7 @@ pub fn versions(seed: u64) -> impl Iterator<Item = Given> {
     (0..VERSIONS).map(move |number| version(&mut random, number, &base))
 }
 
-/// The generated input of a seed: a mix, with more runs, odd shapes and overlong tables.
+/// The generated input of a seed: a mix, with more runs, odd shapes, overlong tables and wide PARs.
 fn base(seed: u64) -> Parts {
     let aim = match seed % 16 {
         0 => Some(Aim::Shape),
@@ -24,10 +24,11 @@ fn base(seed: u64) -> Parts {
         4 => Some(Aim::Refusal(3)),
         5 => Some(Aim::Refusal([6, 7, 8, 9, 14][(seed / 16 % 5) as usize])),
         6 => Some(Aim::Mutated),
+        7 => Some(Aim::Pairs),
         _ => None,
     };
     let large = match seed % 16 {
-        0 | 3 | 4 => true,
+        0 | 3 | 4 | 7 => true,
         _ => seed.is_multiple_of(7),
     };
     generate(seed, !large, aim).parts()

@@ -1,16 +1,18 @@
 //! Comparisons of the proved library with the separate program, in whole answers.
 
+mod checks;
 pub mod inputs;
 mod lending;
 mod packed;
 pub mod random;
 mod traces;
 
+use checks::{compare_checks_of_bytes, compare_checks_of_rows};
 use lending::Lending;
 use occam_table::{calls, strip, Buffers, Machine, RowState, Run, Strip};
-use packed::{packed_answer, packed_answer_at, packed_verdict};
+use packed::{packed_answer, packed_answer_at};
 use reference::table::rows_of_bytes;
-use reference::{answer_bytes, answer_rows, check_bytes, check_rows, traced_bytes};
+use reference::{answer_bytes, answer_rows, traced_bytes};
 use reference::{Answer, Ran, BUFFER_LENGTHS, TRACE_LENGTH};
 pub use traces::compare_traces;
 
@@ -44,12 +46,7 @@ impl Given {
 /// Compares all that the library answers about an input: the separate program's answer to the
 /// bytes, or the first difference.
 pub fn compare(given: &Given, machine: &mut Machine) -> Result<Answer, String> {
-    let verdict = packed_verdict(&check_bytes(&given.table));
-    same(
-        "verdict on bytes",
-        calls::check_table(&given.table),
-        verdict,
-    )?;
+    compare_checks_of_bytes(&given.table)?;
     let answer = compare_bytes(given)?;
     let rows = compare_rows_read(given)?;
     compare_strips(&rows, &answer)?;
@@ -117,7 +114,8 @@ fn compare_bytes(given: &Given) -> Result<Answer, String> {
     Ok(answer)
 }
 
-/// Compares the answer to rows lent as numbers, and what each lent buffer then holds.
+/// Compares the verdict on rows lent as numbers and the answer to them, and what each lent buffer
+/// then holds.
 fn compare_numbers(given: &Given, numbers: &[i32]) -> Result<(), String> {
     let Given {
         sheet,
@@ -126,8 +124,7 @@ fn compare_numbers(given: &Given, numbers: &[i32]) -> Result<(), String> {
         lengths,
         ..
     } = given;
-    let verdict = packed_verdict(&check_rows(numbers));
-    same("verdict on rows", calls::check_rows(numbers), verdict)?;
+    compare_checks_of_rows(numbers)?;
     let answer = answer_rows(numbers, sheet, choices, u64::from(*budget), *lengths);
     let mut lent = Lending::new(*lengths);
     let packed = calls::run_rows(numbers, sheet, choices, *budget, lent.lend());

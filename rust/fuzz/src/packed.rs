@@ -1,6 +1,6 @@
 //! Answers of the separate program as the library packs them.
 
-use reference::{Answer, Outcome, Refusal, Traced};
+use reference::{Answer, Checked, Outcome, Refusal, Traced};
 
 /// A refusal: its number, and 65,536 times its place.
 fn packed_refusal(refusal: &Refusal) -> u64 {
@@ -10,6 +10,11 @@ fn packed_refusal(refusal: &Refusal) -> u64 {
 /// A verdict: 0, or a refusal.
 pub fn packed_verdict<T>(verdict: &Result<T, Refusal>) -> u64 {
     verdict.as_ref().err().map_or(0, packed_refusal)
+}
+
+/// A verdict with 2 to the power of 40 times the count of pairs compared.
+pub fn packed_checked(checked: &Checked) -> u64 {
+    packed_verdict(&checked.verdict) + ((checked.pairs as u64) << 40)
 }
 
 /// A run: 256 times the outcome, 65,536 times the steps, 2 to the power of 40 times how many are

@@ -26,6 +26,17 @@ impl std::error::Error for Refusal {}
 /// The verdict on a table: accepted, or the first of refusals 2 to 6, 14, and 7 to 9.
 pub type Verdict = Result<(), Refusal>;
 
+/// The verdict on a table, and beside it the count of pairs compared (request 03 of document 02).
+#[derive(Clone, Copy, Debug, PartialEq, Eq, Hash)]
+pub struct Checked {
+    /// Accepted, or a refusal.
+    pub verdict: Verdict,
+    /// How many pairs of components of PARs the search for a clash compared: those up to the clash,
+    /// it included; all in each of the three sorts (7 cell, 8 input, 9 output) if there is none; 0
+    /// if the table is refused before. At most 390,915.
+    pub pairs: u32,
+}
+
 /// How a run came to its end.
 #[derive(Clone, Copy, Debug, PartialEq, Eq, Hash)]
 pub enum Outcome {
@@ -135,6 +146,14 @@ pub(crate) fn verdict(packed: u64) -> Verdict {
     }
 }
 
+/// The verdict of a packed one, and 2 to the power of 40 times the count of pairs compared.
+pub(crate) fn checked(packed: u64) -> Checked {
+    Checked {
+        verdict: verdict(packed),
+        pairs: upper(packed),
+    }
+}
+
 /// What a packed answer tells of a run.
 #[derive(Clone, Copy, Debug, PartialEq, Eq)]
 pub(crate) struct Told {
@@ -150,8 +169,8 @@ pub(crate) fn answer(packed: u64) -> Result<Told, Refusal> {
         Some(refusal) => Err(refusal),
         None => Ok(Told {
             outcome: outcome(packed),
-            steps: (packed >> 16) as u32 & 0xFF_FFFF,
-            ready: (packed >> 40) as u32,
+            steps: middle(packed),
+            ready: upper(packed),
         }),
     }
 }
@@ -159,8 +178,18 @@ pub(crate) fn answer(packed: u64) -> Result<Told, Refusal> {
 /// The refusal of a packed answer; none if its number is 0.
 fn refusal(packed: u64) -> Option<Refusal> {
     let number = packed as u8;
-    let place = (packed >> 16) as u32;
+    let place = middle(packed);
     (number != 0).then_some(Refusal { number, place })
+}
+
+/// The 24 bits of a packed answer from bit 16 on: a refusal's place, or the steps.
+fn middle(packed: u64) -> u32 {
+    (packed >> 16) as u32 & 0xFF_FFFF
+}
+
+/// The bits of a packed answer from bit 40 on: how many steps are ready, or the count of pairs.
+fn upper(packed: u64) -> u32 {
+    (packed >> 40) as u32
 }
 
 /// The outcome of a packed answer that is no refusal.
@@ -187,6 +216,10 @@ mod tests {
         assert_eq!(verdict(0), Ok(()));
         assert_eq!(verdict(4 + 65_536 * 12), Err(refused));
         assert_eq!(answer(4 + 65_536 * 12), Err(refused));
+        let of = |verdict, pairs| Checked { verdict, pairs };
+        assert_eq!(checked(390_915 << 40), of(Ok(()), 390_915));
+        let clash = 4 + 65_536 * 12 + (7 << 40);
+        assert_eq!(checked(clash), of(Err(refused), 7));
         let told = |outcome, steps, ready| {
             Ok(Told {
                 outcome,

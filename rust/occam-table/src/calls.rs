@@ -44,6 +44,8 @@ mod exported {
     extern "C" {
         pub fn occam_check_rows(rows: *const i32, rows_length: usize) -> u64;
         pub fn occam_check_table(table: *const u8, table_length: usize) -> u64;
+        pub fn occam_check_rows_counted(rows: *const i32, rows_length: usize) -> u64;
+        pub fn occam_check_table_counted(table: *const u8, table_length: usize) -> u64;
         declare_run!(occam_run_rows(i32));
         declare_run!(occam_run_table(u8));
         declare_run!(occam_run_rows_traced(i32, u16, u16));
@@ -71,6 +73,18 @@ pub fn check_rows(rows: &[i32]) -> u64 {
 pub fn check_table(table: &[u8]) -> u64 {
     // SAFETY: the pointer comes from a slice, with its length; nothing is written.
     unsafe { exported::occam_check_table(table.as_ptr(), table.len()) }
+}
+
+/// The packed verdict on rows lent as numbers, with the count of pairs compared.
+pub fn check_rows_counted(rows: &[i32]) -> u64 {
+    // SAFETY: the pointer comes from a slice, with its length; nothing is written.
+    unsafe { exported::occam_check_rows_counted(rows.as_ptr(), rows.len()) }
+}
+
+/// The packed verdict on a table's bytes, with the count of pairs compared.
+pub fn check_table_counted(table: &[u8]) -> u64 {
+    // SAFETY: the pointer comes from a slice, with its length; nothing is written.
+    unsafe { exported::occam_check_table_counted(table.as_ptr(), table.len()) }
 }
 
 /// Calls an exported run: each slice goes as its pointer and its length.

@@ -58,10 +58,11 @@ mod run;
 mod sizes;
 mod traced;
 
-pub use answers::{Outcome, Reason, Refusal, RowState, Verdict};
+pub use answers::{Checked, Outcome, Reason, Refusal, RowState, Verdict};
 pub use buffers::{Buffers, Lent, LentTrace};
 pub use buffers::{BUDGET, CAPACITIES, CELLS, HOST_CHANNELS, ROWS, TRACE};
-pub use machine::{check_rows, check_table, read_rows, strip, Machine, Strip};
+pub use machine::{check_rows, check_rows_counted, check_table, check_table_counted};
+pub use machine::{read_rows, strip, Machine, Strip};
 pub use run::{Run, Snapshot};
 pub use traced::{Step, Traced};
 

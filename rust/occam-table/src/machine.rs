@@ -1,6 +1,6 @@
 //! The machine: buffers owned once and lent to every run.
 
-use crate::answers::{self, Refusal, Verdict};
+use crate::answers::{self, Checked, Refusal, Verdict};
 use crate::buffers::{Buffers, Trace, HOST_CHANNELS, ROWS};
 use crate::calls;
 use crate::run::Run;
@@ -31,6 +31,47 @@ pub fn check_table(table: &[u8]) -> Verdict {
 /// ```
 pub fn check_rows(rows: &[i32]) -> Verdict {
     answers::verdict(calls::check_rows(rows))
+}
+
+/// The verdict on a table's bytes, and the count of pairs of components compared.
+///
+/// ```
+/// use occam_table::{check_table_counted, Checked, Refusal};
+///
+/// // PAR(SKIP, SKIP, SKIP): three pairs in each of the three sorts.
+/// let table = b"kind,a,b,c\n31,1,0,0\n40,2,3,0\n21,0,0,0\n40,4,5,0\n21,0,0,0\n40,6,-1,0\n21,0,0,0\n";
+/// let accepted = Checked { verdict: Ok(()), pairs: 9 };
+/// assert_eq!(check_table_counted(table), accepted);
+///
+/// // Refused before a pair is compared.
+/// let refusal = Refusal { number: 2, place: 1 };
+/// let refused = Checked { verdict: Err(refusal), pairs: 0 };
+/// assert_eq!(check_table_counted(b""), refused);
+/// ```
+pub fn check_table_counted(table: &[u8]) -> Checked {
+    answers::checked(calls::check_table_counted(table))
+}
+
+/// The verdict on rows lent as numbers, four to each, and the count of pairs of components compared.
+///
+/// ```
+/// use occam_table::{check_rows_counted, Checked, Refusal};
+///
+/// // c of one element; PAR(c ! 1, SKIP, c ! 2)
+/// let rows = [
+///     [2, 1, 0, 0], [31, 2, 0, 0],
+///     [40, 3, 6, 0], [24, 0, 4, 5], [10, 0, 0, 0], [10, 1, 0, 0],
+///     [40, 7, 8, 0], [21, 0, 0, 0],
+///     [40, 9, -1, 0], [24, 0, 10, 11], [10, 0, 0, 0], [10, 2, 0, 0],
+/// ];
+/// // Three pairs for cells, three for inputs; of those for outputs the second clashes, and the
+/// // search ends.
+/// let refusal = Refusal { number: 9, place: 1 };
+/// let refused = Checked { verdict: Err(refusal), pairs: 3 + 3 + 2 };
+/// assert_eq!(check_rows_counted(rows.as_flattened()), refused);
+/// ```
+pub fn check_rows_counted(rows: &[i32]) -> Checked {
+    answers::checked(calls::check_rows_counted(rows))
 }
 
 /// The rows of a table's bytes; none if the bytes are refused (2, 3) or hold no row.

@@ -20,6 +20,8 @@ macro_rules! missing {
 missing! {
     check_rows(&[i32]) -> u64;
     check_table(&[u8]) -> u64;
+    check_rows_counted(&[i32]) -> u64;
+    check_table_counted(&[u8]) -> u64;
     run_rows(&[i32], &[u8], &[u16], u32, Lent) -> u64;
     run_table(&[u8], &[u8], &[u16], u32, Lent) -> u64;
     run_rows_traced(&[i32], &[u8], &[u16], u32, Lent, LentTrace) -> u64;

@@ -106,17 +106,23 @@ fn stored_verdicts_are_those_of_check() {
     let mut count = 0;
     for file in fs::read_dir(cases).expect("the folder is there") {
         let case = file.expect("a file").path();
-        if case.extension().is_none_or(|extension| extension != "in") || words(&case) != ["--check"]
-        {
+        let words = words(&case);
+        let flags = match words.first().is_some_and(|word| word == "--check") {
+            true => &words[1..],
+            false => continue,
+        };
+        let input_of_check = flags.iter().all(|flag| flag == "--pairs");
+        if case.extension().is_none_or(|extension| extension != "in") || !input_of_check {
             continue;
         }
         let input = fs::read(&case).expect("bytes");
         let table = folder.join("verdict.in");
         fs::write(&table, parted(&input).0).expect("written");
         let stored = fs::read_to_string(case.with_extension("out")).expect("stored");
-        assert_eq!(printed_plain("check", &table, &[]), stored);
+        let name = case.display();
+        assert_eq!(printed_plain("check", &table, flags), stored, "{name}");
         count += 1;
     }
     fs::remove_dir_all(&folder).expect("it is there");
-    assert!(count > 4, "{count} verdicts");
+    assert!(count > 100, "{count} verdicts");
 }

@@ -58,6 +58,16 @@ pub struct Ran {
     pub layout: Layout,
 }
 
+/// The verdict on a table, and beside it the count of pairs compared (request 03).
+#[derive(Clone, Debug)]
+pub struct Checked {
+    /// The program, or the first of refusals 2 to 9 and 14.
+    pub verdict: Result<Program, Refusal>,
+    /// How many pairs of components the clash search compared: up to the clash, it included, or all
+    /// in each of the three sorts if there is none; 0 if the table is refused before.
+    pub pairs: usize,
+}
+
 /// The answer to a traced call: the answer, and what each step of the run shows.
 #[derive(Clone, Debug)]
 pub struct Traced {
@@ -148,12 +158,29 @@ pub fn traced_rows(
 
 /// The verdict on a table of bytes: the program, or the first of refusals 2 to 9 and 14.
 pub fn check_bytes(table: &[u8]) -> Result<Program, Refusal> {
-    Program::check(rows_of_bytes(table)?)
+    check_bytes_counted(table).verdict
 }
 
 /// The verdict on rows lent as numbers: the program, or the first of refusals 3 to 9 and 14.
 pub fn check_rows(rows: &[i32]) -> Result<Program, Refusal> {
-    Program::check(rows_of_numbers(rows)?)
+    check_rows_counted(rows).verdict
+}
+
+/// The verdict on a table of bytes, and the count of pairs compared.
+pub fn check_bytes_counted(table: &[u8]) -> Checked {
+    checked(rows_of_bytes(table))
+}
+
+/// The verdict on rows lent as numbers, and the count of pairs compared.
+pub fn check_rows_counted(rows: &[i32]) -> Checked {
+    checked(rows_of_numbers(rows))
+}
+
+/// The verdict on rows that were read or refused, and the count of pairs compared.
+fn checked(rows: Result<Vec<Row>, Refusal>) -> Checked {
+    let mut pairs = 0;
+    let verdict = rows.and_then(|rows| Program::check_counting(rows, &mut pairs));
+    Checked { verdict, pairs }
 }
 
 /// Whether the seven lent buffers are as long as their limits.

@@ -31,7 +31,8 @@ pub mod printing;
 pub mod explore;
 pub mod generate;
 
-pub use answer::{answer_bytes, answer_rows, check_bytes, check_rows, Answer, Ran};
+pub use answer::{answer_bytes, answer_rows, Answer, Ran};
+pub use answer::{check_bytes, check_bytes_counted, check_rows, check_rows_counted, Checked};
 pub use answer::{traced_bytes, traced_rows, Traced};
 pub use answer::{BUDGET_LIMIT, BUFFER_LENGTHS, TRACE_LENGTH};
 pub use refusal::Refusal;

@@ -1,13 +1,12 @@
 //! The sheet runner of "A run on paper", with flags for comparing programs.
 
-use reference::answer::{answer_bytes, answer_rows, check_bytes, check_rows};
+use reference::answer::{answer_bytes, answer_rows, check_bytes_counted, check_rows_counted};
 use reference::answer::{traced_bytes, traced_rows, Traced, TRACE_LENGTH};
 use reference::explore::explore;
 use reference::number::read_number;
 use reference::printing::{printed, printed_ready, printed_trace, split_input};
-use reference::program::Program;
-use reference::refusal::Refusal;
-use reference::{Answer, BUDGET_LIMIT, BUFFER_LENGTHS};
+use reference::printing::{printed_pairs, printed_verdict};
+use reference::{Answer, Checked, BUDGET_LIMIT, BUFFER_LENGTHS};
 use std::io::{self, Read, Write};
 use std::process::ExitCode;
 use std::str::FromStr;
@@ -36,6 +35,8 @@ With no flags it prints what the sheet runner of \"A run on paper\" prints.
                     ready and of the rows taken (default 65536,65536)
   --check           the verdict alone: accepted,0,0,0 or refused,NUMBER,PLACE,0
                     (only the table is looked at)
+  --pairs           with --check the count of pairs of components that the clash search compared:
+                    accepted,COUNT or refused,NUMBER,PLACE,COUNT
   --explore MAX     looks at all orders of steps of any length, up to MAX points (a
                     point is a state and the steps taken to it), and prints one line:
                       agree,ORDERS,LENGTH,OUTCOME  every order comes to rest, all after
@@ -62,6 +63,7 @@ struct Request {
     trace: bool,
     lists: [usize; 2],
     check: bool,
+    pairs: bool,
     explore: Option<usize>,
 }
 
@@ -112,6 +114,7 @@ fn requested(arguments: &[String]) -> Result<Request, String> {
         trace: false,
         lists: [TRACE_LENGTH; 2],
         check: false,
+        pairs: false,
         explore: None,
     };
     let mut rest = arguments.iter();
@@ -139,8 +142,12 @@ fn requested(arguments: &[String]) -> Result<Request, String> {
             "--ready" => request.ready = true,
             "--trace" => request.trace = true,
             "--check" => request.check = true,
+            "--pairs" => request.pairs = true,
             _ => return Err(format!("unknown flag {flag:?} (see --help)")),
         }
+    }
+    if request.pairs && !request.check {
+        return Err("--pairs goes with --check (see --help)".to_string());
     }
     Ok(request)
 }
@@ -165,14 +172,14 @@ fn respond(request: &Request, input: &[u8]) -> Result<String, String> {
     if request.numbers {
         let rows = lent_numbers(table)?;
         let calls = Calls {
-            check: || check_rows(&rows),
+            check: || check_rows_counted(&rows),
             answer: || answer_rows(&rows, sheet, choices, budget, lengths),
             traced: || traced_rows(&rows, sheet, choices, budget, lengths, lists),
         };
         Ok(calls.respond(request, sheet))
     } else {
         let calls = Calls {
-            check: || check_bytes(table),
+            check: || check_bytes_counted(table),
             answer: || answer_bytes(table, sheet, choices, budget, lengths),
             traced: || traced_bytes(table, sheet, choices, budget, lengths, lists),
         };
@@ -189,20 +196,22 @@ struct Calls<C, A, T> {
 
 impl<C, A, T> Calls<C, A, T>
 where
-    C: FnOnce() -> Result<Program, Refusal>,
+    C: FnOnce() -> Checked,
     A: FnOnce() -> Answer,
     T: FnOnce() -> Traced,
 {
     /// The text of the verdict, of all orders, of the trace, or of the answer.
     fn respond(self, request: &Request, sheet: &[u8]) -> String {
         if request.check {
-            return match (self.check)() {
-                Ok(_) => "accepted,0,0,0\n".to_string(),
-                Err(refusal) => format!("{refusal}\n"),
+            let checked = (self.check)();
+            return match request.pairs {
+                true => printed_pairs(&checked),
+                false => printed_verdict(&checked),
             };
         }
         if let Some(most_points) = request.explore {
-            return match (self.check)().and_then(|program| explore(&program, sheet, most_points)) {
+            let verdict = (self.check)().verdict;
+            return match verdict.and_then(|program| explore(&program, sheet, most_points)) {
                 Ok(finding) => format!("{finding}\n"),
                 Err(refusal) => format!("{refusal}\n"),
             };

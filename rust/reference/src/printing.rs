@@ -1,7 +1,8 @@
 //! The sheet runner's input and printing: "A run on paper".
 
-use crate::answer::{Answer, Ran, Traced};
+use crate::answer::{Answer, Checked, Ran, Traced};
 use crate::limits::Part;
+use crate::refusal::Refusal;
 use crate::state::STOPPED;
 use std::fmt::{Result, Write};
 
@@ -36,6 +37,23 @@ pub fn printed_ready(answer: &Answer) -> String {
     match answer {
         Answer::Refused(refusal) => format!("{refusal}\n"),
         Answer::Ran(ran) => format!("ready,{}\n", ran.ready),
+    }
+}
+
+/// One line: accepted, or a refusal.
+pub fn printed_verdict(checked: &Checked) -> String {
+    match &checked.verdict {
+        Ok(_) => "accepted,0,0,0\n".to_string(),
+        Err(refusal) => format!("{refusal}\n"),
+    }
+}
+
+/// One line: accepted, or a refusal's number and place; then the count of pairs compared.
+pub fn printed_pairs(checked: &Checked) -> String {
+    let pairs = checked.pairs;
+    match &checked.verdict {
+        Ok(_) => format!("accepted,{pairs}\n"),
+        Err(Refusal { number, place }) => format!("refused,{number},{place},{pairs}\n"),
     }
 }
 

@@ -45,11 +45,16 @@ pub struct Program {
 impl Program {
     /// The program of a table's rows, or the first of refusals 4, 5, 6, 14, 7, 8 and 9.
     pub fn check(rows: Vec<Row>) -> Result<Program, Refusal> {
+        Program::check_counting(rows, &mut 0)
+    }
+
+    /// The same; raises `pairs` by one for each pair of components that the clash search compares.
+    pub fn check_counting(rows: Vec<Row>, pairs: &mut usize) -> Result<Program, Refusal> {
         check_kinds(&rows)?;
         check_references(&rows)?;
         let layout = check_limits(&rows)?;
         check_blocks(&rows)?;
-        check_usage(&rows, &layout)?;
+        check_usage(&rows, &layout, pairs)?;
         Ok(Program::of_accepted(rows, layout))
     }
 

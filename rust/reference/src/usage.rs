@@ -51,37 +51,79 @@ impl Usage {
         self.inputs.add_all(&other.inputs);
         self.outputs.add_all(&other.outputs);
     }
+
+    /// Whether a cell changed in one of two components is used in the other.
+    fn cells_clash(&self, other: &Usage) -> bool {
+        self.changed.meets(&other.used) || self.used.meets(&other.changed)
+    }
+
+    /// Whether a channel element is input from in both.
+    fn inputs_clash(&self, other: &Usage) -> bool {
+        self.inputs.meets(&other.inputs)
+    }
+
+    /// Whether a channel element is output to in both.
+    fn outputs_clash(&self, other: &Usage) -> bool {
+        self.outputs.meets(&other.outputs)
+    }
 }
 
-/// The sorts of clash in one PAR.
-#[derive(Clone, Copy, Default)]
-struct Clash {
-    cell: bool,
-    input: bool,
-    output: bool,
+/// A PAR: its row, and the usage of each of its components, by position in the list of members.
+struct Par {
+    row: usize,
+    components: Vec<Usage>,
 }
 
-/// Refusals 7, 8 and 9: a 7 anywhere before an 8, an 8 before a 9, each at the lowest PAR.
-pub fn check_usage(rows: &[Row], layout: &Layout) -> Result<(), Refusal> {
-    let usages = usages_of(rows, layout);
-    let mut first: [Option<usize>; 3] = [None; 3];
-    for (index, row) in rows.iter().enumerate().filter(|(_, row)| row.kind == PAR) {
-        let clash = clash_of(rows, &usages, row);
-        for (lowest, found) in first
-            .iter_mut()
-            .zip([clash.cell, clash.input, clash.output])
-        {
-            if found && lowest.is_none() {
-                *lowest = Some(index);
+/// Refusals 7, 8 and 9, in the order of the refusal table: a 7 anywhere before an 8, an 8 before a
+/// 9, each at the lowest PAR. No pair of components is compared after the clash; `pairs` is raised
+/// by one for each pair that is compared (request 03).
+pub fn check_usage(rows: &[Row], layout: &Layout, pairs: &mut usize) -> Result<(), Refusal> {
+    let pars = pars_of(rows, &usages_of(rows, layout));
+    compare_pairs(7, &pars, Usage::cells_clash, pairs)?;
+    compare_pairs(8, &pars, Usage::inputs_clash, pairs)?;
+    compare_pairs(9, &pars, Usage::outputs_clash, pairs)
+}
+
+/// Compares the pairs of components of each PAR in one sort, by first, then second member, up to
+/// the first clash.
+fn compare_pairs(
+    number: u8,
+    pars: &[Par],
+    clash: impl Fn(&Usage, &Usage) -> bool,
+    pairs: &mut usize,
+) -> Result<(), Refusal> {
+    for Par { row, components } in pars {
+        for (first, one) in components.iter().enumerate() {
+            for other in &components[first + 1..] {
+                *pairs += 1;
+                if clash(one, other) {
+                    return Err(Refusal::new(number, *row));
+                }
             }
         }
     }
-    match (first[0], first[1], first[2]) {
-        (Some(row), _, _) => Err(Refusal::new(7, row)),
-        (None, Some(row), _) => Err(Refusal::new(8, row)),
-        (None, None, Some(row)) => Err(Refusal::new(9, row)),
-        (None, None, None) => Ok(()),
+    Ok(())
+}
+
+/// The PARs by row.
+fn pars_of(rows: &[Row], usages: &[Usage]) -> Vec<Par> {
+    let pars = rows.iter().enumerate().filter(|(_, row)| row.kind == PAR);
+    pars.map(|(row, par)| Par {
+        row,
+        components: components_of(rows, usages, par),
+    })
+    .collect()
+}
+
+/// The usage of each component of a PAR.
+fn components_of(rows: &[Row], usages: &[Usage], par: &Row) -> Vec<Usage> {
+    let mut components = Vec::new();
+    let mut next = par.a;
+    while let Ok(member) = usize::try_from(next) {
+        components.push(usages[rows[member].a as usize]);
+        next = rows[member].b;
     }
+    components
 }
 
 /// The usage of each row with all beneath it, from the last row up: references go to higher rows.
@@ -128,21 +170,4 @@ fn add_numbers(set: &mut NumberSet, layout: &Layout, constants: &[Constant], row
         Some(Ok(subscript)) => set.add(part.at(subscript)),
         Some(Err(_)) | None => set.add(part.positions()),
     }
-}
-
-/// The clashes between the components of one PAR.
-fn clash_of(rows: &[Row], usages: &[Usage], par: &Row) -> Clash {
-    let mut clash = Clash::default();
-    let mut before = Usage::default();
-    let mut next = par.a;
-    while let Ok(member) = usize::try_from(next) {
-        let component = &usages[rows[member].a as usize];
-        clash.cell |= component.changed.meets(&before.used);
-        clash.cell |= component.used.meets(&before.changed);
-        clash.input |= component.inputs.meets(&before.inputs);
-        clash.output |= component.outputs.meets(&before.outputs);
-        before.add_all(component);
-        next = rows[member].b;
-    }
-    clash
 }

@@ -101,6 +101,29 @@ fn check() {
 }
 
 #[test]
+fn pairs() {
+    // PAR(x := 1, SKIP, x := 2)
+    let clash = "1,1,0,0\n31,2,0,0\n40,3,6,0\n22,0,4,5\n10,0,0,0\n10,1,0,0\n40,7,8,0\n21,0,0,0\n\
+        40,9,-1,0\n22,0,10,11\n10,0,0,0\n10,2,0,0\n";
+    let bytes = format!("kind,a,b,c\n{clash}");
+    assert_eq!(reference("--check --pairs", &bytes).1, "refused,7,1,2\n");
+    assert_eq!(
+        reference("--numbers --pairs --check", clash).1,
+        "refused,7,1,2\n"
+    );
+    assert_eq!(reference("--check", &bytes).1, "refused,7,1,0\n");
+    assert_eq!(reference("--check --pairs", TABLE).1, "accepted,0\n");
+    let clean = bytes.replace("22,0,10,11\n10,0,0,0\n10,2,0,0\n", "20,0,0,0\n");
+    assert_eq!(reference("--check --pairs", &clean).1, "accepted,9\n");
+    let malformed = format!("{bytes}21,0,0\n");
+    assert_eq!(
+        reference("--check --pairs", &malformed).1,
+        "refused,2,14,0\n"
+    );
+    assert_eq!(reference("--pairs", TABLE), (2, String::new()));
+}
+
+#[test]
 fn ready_and_trace() {
     let input = format!("{TABLE}=\n\n");
     assert_eq!(reference("--ready", &input).1, "ready,0\n");
@@ -172,6 +195,7 @@ fn bad_flags_and_help() {
         "--trace",
         "--lists",
         "--check",
+        "--pairs",
         "--explore",
     ] {
         assert!(help.contains(flag), "{flag}");

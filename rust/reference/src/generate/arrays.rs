@@ -4,8 +4,7 @@
 use super::communications::Passage;
 use super::maker::Maker;
 use super::rights::{Rights, Share};
-use super::tree::Slot;
-use crate::kinds::{ALT, GIVEN, OPTION};
+use crate::kinds::GIVEN;
 use crate::limits::Part;
 
 /// A right over each cell or element.
@@ -145,8 +144,7 @@ impl Maker<'_> {
         if !self.style.alt || self.random.chance(50) {
             return Some(input);
         }
-        let option = (self.skip(), Slot::Node(input));
-        Some(self.list(ALT, OPTION, vec![option]))
+        Some(self.alt_of(input))
     }
 
     /// Adds to each component an assignment to one of its own cells of some array.

@@ -59,8 +59,14 @@ impl Maker<'_> {
         self.list(ALT, OPTION, options)
     }
 
+    /// An ALT with this input as its only guard.
+    pub fn alt_of(&mut self, input: usize) -> usize {
+        let option = (self.skip(), Slot::Node(input));
+        self.list(ALT, OPTION, vec![option])
+    }
+
     /// A guard of a boolean and SKIP.
-    fn skip_guard(&mut self, boolean: usize, skip: usize) -> Slot {
+    pub fn skip_guard(&mut self, boolean: usize, skip: usize) -> Slot {
         Slot::Node(
             self.tree
                 .add(GUARD, Slot::Node(boolean), Slot::Node(skip), NOTHING),

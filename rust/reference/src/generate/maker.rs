@@ -68,10 +68,7 @@ pub fn program(random: &mut Random, style: Style) -> Vec<Row> {
         style,
     };
     let root = maker.root();
-    let Maker {
-        tree, declarations, ..
-    } = maker;
-    tree.rows(&declarations, root, random)
+    maker.rows(root)
 }
 
 /// Some declarations within the limits, in any order; with a PAR at least one inner channel.
@@ -107,6 +104,35 @@ fn declarations(random: &mut Random, style: Style) -> Vec<Row> {
     }
     random.shuffle(&mut rows);
     rows
+}
+
+impl<'r> Maker<'r> {
+    /// A maker of a program that is put together by hand: without locals, of this size.
+    pub fn by_hand(random: &'r mut Random, declarations: Vec<Row>, size: usize) -> Maker<'r> {
+        let style = Style {
+            size,
+            carelessness: 0,
+            depth: 2,
+            first: PAR,
+            alt: true,
+            locals: 0,
+            apart: false,
+            share: Share::default(),
+        };
+        Maker {
+            random,
+            tree: Tree::default(),
+            layout: check_limits(&declarations).unwrap_or_default(),
+            declarations,
+            locals: Vec::new(),
+            style,
+        }
+    }
+
+    /// The rows of the program with this root.
+    pub fn rows(self, root: usize) -> Vec<Row> {
+        self.tree.rows(&self.declarations, root, self.random)
+    }
 }
 
 impl Maker<'_> {

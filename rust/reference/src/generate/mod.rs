@@ -8,6 +8,7 @@ mod damage;
 mod expressions;
 mod loops;
 mod maker;
+mod pairs;
 mod random;
 mod rights;
 mod shapes;
@@ -42,6 +43,8 @@ pub enum Aim {
     Refusal(u8),
     /// Random changes to rows or bytes.
     Mutated,
+    /// PARs for the count of pairs compared: a table that is accepted, or refused as 7, 8 or 9.
+    Pairs,
 }
 
 /// A generated input: the runner's input, choices and budget.
@@ -169,7 +172,8 @@ fn some_aim(random: &mut Random, small: bool) -> Aim {
             };
             Aim::Refusal(random.pick(numbers))
         }
-        _ => Aim::Mutated,
+        85..=96 => Aim::Mutated,
+        _ => Aim::Pairs,
     }
 }
 
@@ -191,10 +195,11 @@ const MOST_WORTH: u64 = u64::MAX;
 fn worth(answer: &Answer, plan: Plan) -> u64 {
     match (plan.aim, answer) {
         (Aim::Mutated, _) => MOST_WORTH,
+        (Aim::Pairs, Answer::Refused(refusal)) if (7..=9).contains(&refusal.number) => MOST_WORTH,
         (Aim::Refusal(number), Answer::Refused(refusal)) if refusal.number == number => MOST_WORTH,
         (Aim::Refusal(_), _) => 0,
         (_, Answer::Refused(_)) => 0,
-        (Aim::Shape, Answer::Ran(_)) => MOST_WORTH,
+        (Aim::Shape | Aim::Pairs, Answer::Ran(_)) => MOST_WORTH,
         (_, Answer::Ran(ran)) => {
             let wanted = ran.outcome == plan.outcome;
             let several = match (plan.small, plan.apart) {
@@ -252,6 +257,13 @@ fn some_rows(random: &mut Random, plan: Plan) -> Vec<Row> {
         let most = if small { SMALL_ROWS } else { ROWS };
         let length = random.between(most / 2, most);
         return shapes::shape(random, length);
+    }
+    if aim == Aim::Pairs {
+        let most = match small {
+            true => random.between(SMALL_ROWS / 2, SMALL_ROWS),
+            false => random.pick(&[SMALL_ROWS, 100, 250, 600, ROWS]),
+        };
+        return pairs::pars(random, most);
     }
     let par = match aim {
         Aim::Refusal(7..=9) => true,

@@ -1,11 +1,9 @@
 //! Generated tables of an unusual shape: deep, long, or at a limit.
 
-use super::maker::{Maker, Style};
+use super::maker::Maker;
 use super::random::Random;
-use super::rights::Share;
-use super::tree::{Slot, Tree};
-use crate::kinds::{CHANNEL, CHOICE, FROM_HOST, IF, INNER, PAR, SKIP, TO_HOST, VARIABLE};
-use crate::limits::check_limits;
+use super::tree::Slot;
+use crate::kinds::{CHANNEL, CHOICE, FROM_HOST, IF, INNER, SKIP, TO_HOST, VARIABLE};
 use crate::table::Row;
 
 const NOTHING: Slot = Slot::Number(0);
@@ -23,26 +21,7 @@ pub fn shape(random: &mut Random, most: usize) -> Vec<Row> {
             Row::new(CHANNEL, 1, TO_HOST, 20),
         ],
     };
-    let layout = check_limits(&declarations).unwrap_or_default();
-    let style = Style {
-        size: most,
-        carelessness: 0,
-        depth: 2,
-        first: PAR,
-        alt: true,
-        locals: 0,
-        apart: false,
-        share: Share::default(),
-    };
-    let tree = Tree::default();
-    let mut maker = Maker {
-        random,
-        tree,
-        declarations,
-        layout,
-        locals: Vec::new(),
-        style,
-    };
+    let mut maker = Maker::by_hand(random, declarations, most);
     let most = most.saturating_sub(maker.declarations.len());
     let root = match shape {
         0 => maker.deep_blocks(),
@@ -57,10 +36,7 @@ pub fn shape(random: &mut Random, most: usize) -> Vec<Row> {
         10..=11 => maker.ring(most),
         _ => maker.every_cell(most),
     };
-    let Maker {
-        tree, declarations, ..
-    } = maker;
-    tree.rows(&declarations, root, random)
+    maker.rows(root)
 }
 
 /// Variables, each of which gets a block; at most as many as there can be cells.

@@ -1,5 +1,6 @@
 //! The clashes of a table's PARs by a slow search that follows the papers' words, under the rule of
-//! document 01 or of request 07 about what a subscript counts for.
+//! document 01 or of request 07 about what a subscript counts for; and all comparisons of pairs in the
+//! order of request 03.
 
 use reference::kinds::{
     rows_referred_to, ASSIGNMENT, DYADIC, ELEMENT, GIVEN, INPUT, LITERAL, MONADIC, OUTPUT, PAR,
@@ -7,7 +8,7 @@ use reference::kinds::{
 use reference::limits::{check_limits, Layout};
 use reference::table::{rows_of_bytes, Row};
 use reference::{check_bytes, Refusal};
-use std::collections::BTreeSet;
+use std::collections::{BTreeMap, BTreeSet};
 
 /// What a subscript counts for.
 #[derive(Clone, Copy, PartialEq, Eq)]
@@ -24,11 +25,30 @@ pub enum Rule {
     WithoutAll,
 }
 
+/// A comparison of two components: the sort by its refusal's number, the PAR, the first member and
+/// the second by position. Their order is that of request 03: "the order that the refusal table
+/// gives, pairs in one PAR by first, then second member".
+pub type Comparison = (u8, u32, usize, usize);
+
+/// All comparisons in their order, each with whether the two clash.
+pub type Comparisons = BTreeMap<Comparison, bool>;
+
 /// Refusals 7, 8 and 9, each with its PAR; the first is the one that the paper gives.
 pub type Clashes = BTreeSet<(u8, u32)>;
 
 /// The clashes of a table under a rule, if no refusal goes before 7.
 pub fn clashes(table: &[u8], rule: Rule) -> Option<Clashes> {
+    let comparisons = comparisons(table, rule)?;
+    let clashing = comparisons.into_iter().filter(|&(_, clash)| clash);
+    Some(
+        clashing
+            .map(|((number, par, ..), _)| (number, par))
+            .collect(),
+    )
+}
+
+/// All comparisons of a table's components under a rule, if no refusal goes before 7.
+pub fn comparisons(table: &[u8], rule: Rule) -> Option<Comparisons> {
     let refusal = check_bytes(table).err();
     if refusal.is_some_and(|Refusal { number, .. }| !(7..=9).contains(&number)) {
         return None;
@@ -40,7 +60,7 @@ pub fn clashes(table: &[u8], rule: Rule) -> Option<Clashes> {
         layout: &layout,
         rule,
     };
-    Some(search.clashes())
+    Some(search.comparisons())
 }
 
 /// Whether a table has a clash under one rule and none under another.
@@ -64,15 +84,35 @@ struct Search<'a> {
 }
 
 impl Search<'_> {
-    /// All clashes.
-    fn clashes(&self) -> Clashes {
+    /// All comparisons.
+    fn comparisons(&self) -> Comparisons {
         let pars = (0..self.rows.len()).filter(|&row| self.rows[row].kind == PAR);
-        pars.flat_map(|par| self.clashes_in(par)).collect()
+        pars.flat_map(|par| self.comparisons_in(par)).collect()
     }
 
-    /// The clashes of one PAR, by each pair of its components.
-    fn clashes_in(&self, par: usize) -> Clashes {
-        let mut components: Vec<Sets> = Vec::new();
+    /// The comparisons of one PAR: each pair of its components once in each sort.
+    fn comparisons_in(&self, par: usize) -> Comparisons {
+        let components = self.components(par);
+        let mut found = Comparisons::new();
+        for (second, other) in components.iter().enumerate() {
+            for (first, one) in components[..second].iter().enumerate() {
+                let meet =
+                    |of_one: usize, of_other: usize| !one[of_one].is_disjoint(&other[of_other]);
+                for (number, clash) in [
+                    (7, meet(CHANGED, USED) || meet(USED, CHANGED)),
+                    (8, meet(INPUT_FROM, INPUT_FROM)),
+                    (9, meet(OUTPUT_TO, OUTPUT_TO)),
+                ] {
+                    found.insert((number, par as u32, first, second), clash);
+                }
+            }
+        }
+        found
+    }
+
+    /// What each component of a PAR does: "its members' processes with all beneath them".
+    fn components(&self, par: usize) -> Vec<Sets> {
+        let mut components = Vec::new();
         let mut next = self.rows[par].a;
         while let Ok(member) = usize::try_from(next) {
             let mut sets = Sets::default();
@@ -80,18 +120,7 @@ impl Search<'_> {
             components.push(sets);
             next = self.rows[member].b;
         }
-        let mut found = Clashes::new();
-        for (number, one) in components.iter().enumerate() {
-            for (other_number, other) in components.iter().enumerate() {
-                let meet = |of_one: usize, of_other: usize| {
-                    number != other_number && !one[of_one].is_disjoint(&other[of_other])
-                };
-                found.extend(meet(CHANGED, USED).then_some((7, par as u32)));
-                found.extend(meet(INPUT_FROM, INPUT_FROM).then_some((8, par as u32)));
-                found.extend(meet(OUTPUT_TO, OUTPUT_TO).then_some((9, par as u32)));
-            }
-        }
-        found
+        components
     }
 
     /// Adds what a row does with all beneath it.

@@ -2,6 +2,7 @@
 #![allow(dead_code)]
 
 pub mod clashes;
+pub mod ends;
 
 use reference::printing::printed;
 use reference::{answer_bytes, answer_rows, Answer, Ran, BUDGET_LIMIT, BUFFER_LENGTHS};

@@ -18,18 +18,23 @@ Exit status: 0 done, 1 the table, sheet or budget is refused, 2 wrong use or an 
 ";
 
 const CHECK: &str = "\
-occam-table check TABLE [--plain]
+occam-table check TABLE [--pairs] [--plain]
 
 Tells whether a table is accepted. If it is refused: the number and the place, which are the
 proved answer, and what is wrong there in plain words: the line or row as written, which field,
 what stands there, what was expected; for a clash in a PAR the two members and the cell or
 channel element; and what to do. A `-` for TABLE is a table on standard input.
 
-  --plain           one line alone: accepted,0,0,0 or refused,NUMBER,PLACE,0
+  --pairs           also how many pairs of components of PARs were compared in search of a clash
+                    (for cells, then inputs, then outputs; none after the first that clashes), and
+                    how long the check took
+  --plain           one line alone: accepted,0,0,0 or refused,NUMBER,PLACE,0;
+                    with --pairs accepted,COUNT or refused,NUMBER,PLACE,COUNT
 Exit status: 0 accepted, 1 refused, 2 wrong use or an unreadable file.
 
 Examples:
   occam-table check examples/kiln.csv
+  occam-table check --pairs examples/burners.csv
   occam-table check - --plain < examples/kiln.csv
   occam-table check edited-on-site.csv && echo may be loaded
 ";

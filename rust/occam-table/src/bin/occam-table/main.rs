@@ -11,6 +11,7 @@ mod help;
 mod input;
 mod kinds;
 mod orders;
+mod pairs;
 mod program;
 mod random;
 mod ready;
