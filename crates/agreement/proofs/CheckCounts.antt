@@ -1,26 +1,25 @@
 -- The count that a check gives beside its verdict: of the pairs compared, and 0 if an earlier stage refuses.
 use mathlib.Core.Path.{_≡_, refl, sym, ap, _∙_, subst}
 use mathlib.Core.Logic.{_⊎_, inl, inr}
-use mathlib.Core.List.{List, [], _∷_}
-use mathlib.Core.Option.{Option, none, some, Option·some-injective}
+use mathlib.Core.List.{List}
+use mathlib.Core.Option.{Option, none, some, Option·some-ne-none}
 use Prim.Native.Nat.{ℕ, _<_}
 use native.Mathlib.Omega.{arith}
 use lib.IntN.{ℤ}
 use Rattle.meaning.specs.declared.Checked.{Checked}
 use Rattle.meaning.specs.Refusals.{Refusal, Stage, either, firstFault}
-use Rattle.meaning.specs.TableBytes.{bytesFault, rowsOf, numbersFault}
-use Rattle.meaning.specs.Verdict.{formFault, treeFault, limitFault, blockFault}
+use Rattle.meaning.specs.TableBytes.{bytesFault, rowsOf}
 use Rattle.meaning.specs.Usage.{usageFault, pairsCompared}
-use Rattle.meaning.specs.Answers.{check, checkBytes, ifPassed, checkCounted, checkBytesCounted}
-use Rattle.meaning.specs.PrintedForms.{Each, each-none, each-more}
+use Rattle.meaning.specs.Answers.{check, checkBytes, ifPassed}
+use Rattle.meaning.specs.PrintedForms.{Each, each-more}
 use Rattle.meaning.proofs.AnswerLaws.{check-bytes, rowsBeforeUsage, check-usage, counted-rows, counted-bytes, First, here, later, first-found, none-found}
 use Rattle.agreement.specs.VerdictClaims.{Passed}
-use Rattle.agreement.specs.RefusalClaims.{TableRefusal}
-use Rattle.agreement.specs.PairClaims.{CountBeside, of-all-pairs, up-to-clash, refused-before, CountsOfChecks}
+use Rattle.agreement.specs.PairClaims.{CountBeside, of-all-pairs, up-to-clash, refused-before, CountsOfChecks, CountOfAccepted}
 use Rattle.agreement.proofs.VerdictStages.{whole-faults, form-faults, tree-faults, limit-faults, block-faults}
 use Rattle.agreement.proofs.UsageExact.{usage-faults}
 use Rattle.agreement.proofs.RefusalPlaces.{clash-par, bytes-place}
 use Rattle.agreement.proofs.PairsCounted.{count-of-compared, count-of-all}
+use Rattle.agreement.proofs.PairSums.{all-length}
 
 -- the numbers of refusals before usage
 abbrev Before : ℕ → Type 0
@@ -71,3 +70,13 @@ counts-of-checks = (
   λ rows. let e = counted-rows rows in (ap (λ (c : Checked). c .verdict) e, subst (λ (c : Checked). CountBeside rows (check rows) (c .pairs)) (sym e) (beside-check rows)),
   λ table. let e = counted-bytes table in (ap (λ (c : Checked). c .verdict) e, subst (λ (c : Checked). CountBeside (rowsOf table) (checkBytes table) (c .pairs)) (sym e) (beside-bytes table)),
 )
+
+-- the first of two refusals, where there is none
+neither : (a b : Option Refusal) → either a b ≡ none → (a ≡ none) × (b ≡ none)
+neither none b e = (refl, e)
+neither (some f) b e = absurd (Option·some-ne-none f e)
+
+pub count-of-accepted : CountOfAccepted
+count-of-accepted rows m e counts =
+    let (before, usage) = neither (firstFault rowsBeforeUsage rows) (usageFault rows) (sym (check-usage rows) ∙ e) in
+    all-length rows (passed-before rows before) m counts usage

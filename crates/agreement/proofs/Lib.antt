@@ -86,6 +86,7 @@ pub mod PairOrder
 pub mod PairMembers
 pub mod PairsInOrder
 pub mod PairsCounted
+pub mod PairSums
 pub mod VerdictExact
 pub mod SubscriptsCount
 pub mod TreeRows

@@ -1,17 +1,15 @@
 -- The count of a check is that of the pairs compared: those before which none clashes; of all pairs if none clashes, and 0 if an earlier stage refuses.
 use mathlib.Core.Path.{_≡_, refl, sym, ap, _∙_, subst}
-use mathlib.Core.Logic.{_⊎_, inl, inr, ⊎-elim, _↔_}
-use mathlib.Core.Bool.{Bool, true, false, false≢true}
+use mathlib.Core.Logic.{_⊎_, inl, inr, ⊎-elim}
+use mathlib.Core.Bool.{Bool, true, false}
 use mathlib.Core.List.{List, [], _∷_, List·Memᴰ, List·Memᴰ·head, List·Memᴰ·tail, List·Memᴰ·not-nil, List·Memᴰ·cases-cons, List·Memᴰ·eq-of-singleton}
-use mathlib.Core.Option.{Option, none, some, Option·none-ne-some, Option·some-ne-none}
-use Prim.Native.Nat.{ℕ, suc, _≤_, _<_}
+use mathlib.Core.Option.{none, some, Option·some-ne-none}
+use Prim.Native.Nat.{ℕ, suc}
 use native.Mathlib.Nat.{eq-or-lt-of-le}
 use native.Mathlib.Omega.{arith}
 use lib.IntN.{ℤ}
 use lib.ListN.{length}
 use Rattle.meaning.specs.Basics.{ifElse}
-use Rattle.meaning.specs.TableBytes.{rowsOf}
-use Rattle.meaning.specs.Refusals.{Refusal}
 use Rattle.meaning.specs.Usage.{Comparison, comparisons, clashes, firstClash, compared, pairsCompared, refusalOf, usageFault}
 use Rattle.meaning.specs.MemberPairs.{MemberPair, Earlier, InOrder, ComponentAt, IsPair, ClashOf, first-changes, second-changes, both-input, both-output, PairClashes, Compared}
 use Rattle.meaning.proofs.Decides.{Decides, holding, failing, decides-iff}
@@ -138,7 +136,7 @@ module _ (rows : List ℤ) (passed : Passed rows) where
       (t, d, (λ x. ((λ m. let h = e x .0 m in (b x .0 (h .0), λ y p. h .1 y (b y .1 p))), (λ h. e x .1 (b x .1 (h .0), λ y m. h .1 y (b y .0 m))))), f)
 
   -- of all pairs, if none clashes
-  compared-all : (l : List Comparison) → refusalOf (firstClash l) ≡ none → compared l ≡ length l
+  pub compared-all : (l : List Comparison) → refusalOf (firstClash l) ≡ none → compared l ≡ length l
   unfolding firstClash compared
   compared-all [] e = refl
   compared-all (c ∷ l) e = go (clashes c) e (compared-all l)

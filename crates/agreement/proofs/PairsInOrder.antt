@@ -2,9 +2,8 @@
 use mathlib.Core.Path.{_≡_, refl, sym, ap, _∙_, subst}
 use mathlib.Core.Logic.{_⊎_, inl, inr, ⊎-elim, _↔_}
 use mathlib.Core.List.{List, [], _∷_, _++_, map, map-append, List·Memᴰ, List·Memᴰ·head, List·Memᴰ·tail, List·Memᴰ·not-nil, List·Memᴰ·cases-cons, Memᴰ·append-left, Memᴰ·append-right, List·Memᴰ·append-cases}
-use mathlib.Core.Option.{Option, none, Option·none-ne-some}
-use Prim.Native.Nat.{ℕ, zero, suc, _+_, _≤_, _<_}
-use native.Mathlib.Decide.{decLt}
+use mathlib.Core.Option.{Option·none-ne-some}
+use Prim.Native.Nat.{ℕ, suc, _+_, _≤_, _<_}
 use native.Mathlib.Nat.{eq-or-lt-of-le}
 use native.Mathlib.Omega.{arith}
 use lib.IntN.{ℤ}
@@ -17,7 +16,7 @@ use Rattle.meaning.specs.Tree.{Process, Processes, empty, also, Content, noCont
 use Rattle.meaning.specs.Usage.{Pair, pairsWith, pairs, Comparison, comparisonsIn, comparisonsOf, comparisons}
 use Rattle.meaning.specs.MemberPairs.{MemberPair, Earlier, by-number, by-row, by-first, by-second, InOrder, ComponentAt, IsPair}
 use Rattle.agreement.specs.VerdictClaims.{Passed}
-use Rattle.agreement.specs.PairClaims.{ComponentIs, ComparisonOf, OneByOne, no-more, one-more, ComparisonsInOrder}
+use Rattle.agreement.specs.PairClaims.{ComponentIs, OneByOne, no-more, one-more, ComparisonsInOrder}
 use Rattle.agreement.proofs.UsageReferences.{passed-fits}
 use Rattle.agreement.proofs.UsageParts.{part-is}
 use Rattle.agreement.proofs.UsageFirst.{Looks, a-par, no-par, looks, parOf}
@@ -94,7 +93,7 @@ module _ (rows : List ℤ) where
   one-by-one-append (one-more c g) h = one-more c (one-by-one-append g h)
 
   module _ (number r : ℕ) where
-    abbrev comparing : Pair → Comparison
+    abbrev pub comparing : Pair → Comparison
     comparing d = record { number = number; row = r; pair = d }
 
     rest-one : (i j : ℕ) (x : Process) (ms : Processes) → ComponentIs rows r i x → ((k : ℕ) (y : Process) → AtPlace ms k y → ComponentIs rows r (j + k) y) → OneByOne rows (map comparing (pairsWith x ms)) (withRest number r i j ms)

@@ -3,11 +3,13 @@ use mathlib.Core.Path.{_≡_}
 use mathlib.Core.Logic.{_⊎_, _↔_}
 use mathlib.Core.List.{List, [], _∷_, List·Memᴰ}
 use mathlib.Core.Option.{Option, none, some}
-use Prim.Native.Nat.{ℕ, _≤_, _<_}
+use Prim.Native.Nat.{ℕ, _-_, _*_, _≤_, _<_}
 use lib.IntN.{ℤ}
 use lib.ListN.{length}
 use Rattle.meaning.specs.Refusals.{Refusal}
 use Rattle.meaning.specs.TableBytes.{rowsOf}
+use Rattle.meaning.specs.Rows.{rowCount}
+use Rattle.meaning.specs.Declarations.{sumBelow}
 use Rattle.meaning.specs.Tree.{Process, contentAt}
 use Rattle.meaning.specs.MemberPairs.{MemberPair, InOrder, ComponentAt, IsPair, Compared}
 use Rattle.meaning.specs.Usage.{Comparison, comparisons, pairsCompared}
@@ -56,3 +58,8 @@ pub data CountBeside (rows : List ℤ) : Option Refusal → ℕ → Type 0 where
 abbrev pub CountsOfChecks : Type 0
 CountsOfChecks = ((rows : List ℤ) → (checkCounted rows .verdict ≡ verdictOf (check rows)) × CountBeside rows (check rows) (checkCounted rows .pairs))
     × ((table : List ℕ) → (checkBytesCounted table .verdict ≡ verdictOf (checkBytes table)) × CountBeside (rowsOf table) (checkBytes table) (checkBytesCounted table .pairs))
+
+-- in closed form, for an accepted table: three times half of m (m - 1) for each PAR of m components
+abbrev pub CountOfAccepted : Type 0
+CountOfAccepted = (rows : List ℤ) (m : ℕ → ℕ) → check rows ≡ none → ((r i : ℕ) → (i < m r) ↔ ((p : ℕ) × ComponentAt rows r i p))
+    → 2 * pairsCompared rows ≡ 3 * sumBelow (λ r. m r * (m r - 1)) (rowCount rows)

@@ -1,8 +1,8 @@
 //! Times of the proved code beside those of the separate program, on this machine.
 //!
-//! `cargo run --offline --release -p bench` prints one table, `bench largest` its last lines: the
-//! largest sheets. The other words are for counts of instructions (`rust/bench/instructions`):
-//! `bench once SHEET SIDE BUDGET` makes one call on a sheet that `bench sheets` lists, `bench grown
+//! `cargo run --offline --release -p bench` prints one table, `bench pairs` its lines about the count of
+//! pairs compared (request 03), `bench largest` its last lines: the largest sheets. The other words are
+//! for counts of instructions (`rust/bench/instructions`): `bench once SHEET SIDE BUDGET` makes one call on a sheet that `bench sheets` lists, `bench grown
 //! PART NUMBER SIDE BUDGET` one on a sheet with so many of a part that `bench growth` lists, and
 //! `bench calls NUMBER SIDE` so many on a table of one row. SIDE is proved or separate.
 
@@ -11,7 +11,7 @@ mod sheets;
 mod tree;
 
 use occam_table::{calls, Buffers};
-use reference::{answer_bytes, check_bytes, Answer, BUFFER_LENGTHS};
+use reference::{answer_bytes, check_bytes, check_bytes_counted, Answer, BUFFER_LENGTHS};
 use sheets::Sheet;
 use std::hint::black_box;
 use std::time::Instant;
@@ -42,6 +42,10 @@ fn main() {
     let words: Vec<&str> = words.iter().map(String::as_str).collect();
     match words[..] {
         [] => print_times(),
+        ["pairs"] => {
+            print_headings();
+            print_pairs();
+        }
         ["largest"] => print_largest(),
         ["sheets"] => print_sheets(),
         ["growth"] => print_growth(),
@@ -58,7 +62,7 @@ fn main() {
         }
         _ => {
             eprintln!(
-                "usage: bench | bench largest | bench sheets | bench growth | bench once SHEET SIDE BUDGET | \
+                "usage: bench | bench pairs | bench largest | bench sheets | bench growth | bench once SHEET SIDE BUDGET | \
                  bench grown PART NUMBER SIDE BUDGET | bench calls NUMBER SIDE"
             );
             std::process::exit(2);
@@ -100,6 +104,15 @@ fn check(side: Side, sheet: &Sheet) {
     assert!(accepted, "{} is refused", sheet.name);
 }
 
+/// Reads and checks a table; tells how many pairs of components were compared.
+fn check_counted(side: Side, sheet: &Sheet) -> usize {
+    let table = black_box(&sheet.table);
+    match side {
+        Side::Proved => occam_table::check_table_counted(table).pairs as usize,
+        Side::Separate => check_bytes_counted(table).pairs,
+    }
+}
+
 /// The least and the middle of some times, in microseconds.
 struct Times {
     least: f64,
@@ -132,11 +145,22 @@ fn print_times() {
         let checked = times(|side| check(side, &sheet), CHECKS, ROUNDS);
         println!("{}", line(&sheet, 0, &checked));
     }
+    print_pairs();
     for sheet in sheets::runs() {
         print_runs(&sheet, ROUNDS);
     }
     for sheet in growth::largest() {
         print_runs(&sheet, LARGE_ROUNDS);
+    }
+}
+
+/// Prints the times of checks with the count of pairs compared, which stands in the column of steps.
+fn print_pairs() {
+    for sheet in sheets::pairs() {
+        let pairs = check_counted(Side::Separate, &sheet);
+        let counted = |side| assert_eq!(check_counted(side, &sheet), pairs);
+        let checked = times(counted, CHECKS, ROUNDS);
+        println!("{}", line(&sheet, pairs as u64, &checked));
     }
 }
 
@@ -154,7 +178,7 @@ fn print_headings() {
     println!(
         "which the programs take turns. Ratio: proved / separate. Net: the least time, less that"
     );
-    println!("of a call with budget 0.");
+    println!("of a call with budget 0. Pairs: a check with the count of pairs, which stands for the steps.");
     println!();
     println!("{}", HEADINGS.join("\n"));
 }

@@ -4,7 +4,7 @@ use crate::tree::{
     bytes, dyadic, raised, repeat, table, Expression, Name, Process, DIVIDE, LESS, PLUS, REMAINDER,
 };
 use Expression::{At, Cell, Literal};
-use Process::{Assign, AssignAt, If, Input, Output, Par, Seq, While};
+use Process::{Assign, AssignAt, If, Input, Output, Par, Seq, Skip, While};
 
 /// A table and its readings.
 pub struct Sheet {
@@ -30,6 +30,21 @@ pub fn tables() -> Vec<Sheet> {
         sheet("check: assignments", bytes(&assignments())),
         sheet("check: one expression", bytes(&deep())),
         sheet("check: constant subscripts", constant_subscripts()),
+    ]
+}
+
+/// Tables of PARs, whose checks with the count of pairs compared are timed.
+pub fn pairs() -> Vec<Sheet> {
+    let sheet = |name, declarations: &[[i32; 4]], root: &Process| Sheet {
+        name,
+        table: table(declarations, root),
+        readings: b"\n".to_vec(),
+    };
+    vec![
+        sheet("pairs: forty components", &[[1, 40, 0, 0]], &forty()),
+        sheet("pairs: 511 components", &[], &skips(511)),
+        sheet("pairs: 508 nested PARs", &[], &nested(507, skips(4), false)),
+        sheet("pairs: 255 nested of two", &[], &nested(255, Skip, true)),
     ]
 }
 
@@ -139,6 +154,26 @@ fn sequence() -> Sheet {
         table: table(&[[1, 1, 0, 0]; 3], &root),
         readings: b"\n".to_vec(),
     }
+}
+
+/// A PAR of 40 assignments x[i] := 1: the customers' case of request 03.
+fn forty() -> Process {
+    let assignment = |number| Assign(Name(0, number), Literal(1));
+    Par((0..40).map(assignment).collect())
+}
+
+/// A PAR of so many SKIPs.
+fn skips(count: usize) -> Process {
+    Par((0..count).map(|_| Skip).collect())
+}
+
+/// So many PARs around a process, each with a SKIP beside the next or alone.
+fn nested(count: usize, innermost: Process, beside: bool) -> Process {
+    let around = |inner, _| match beside {
+        true => Par(vec![Skip, inner]),
+        false => Par(vec![inner]),
+    };
+    (0..count).fold(innermost, around)
 }
 
 const ROWS: usize = 1_024;

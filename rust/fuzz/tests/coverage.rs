@@ -1,11 +1,15 @@
 //! What the inputs from seeds make runs do: GIVEN, absences that pass to inputs, to options of an ALT
 //! and to the host, and blocks, whose start unsets cells that are set, each in sufficient number. And
-//! what their verdicts rest on: constant subscripts, and subscripts that count as every number.
+//! what their verdicts rest on: constant subscripts, and subscripts that count as every number. And
+//! where their clash searches end, by the count of pairs.
 
 #[path = "../../reference/tests/common/clashes.rs"]
 mod clashes;
+#[path = "../../reference/tests/common/ends.rs"]
+mod ends;
 
 use clashes::{differs, Rule};
+use ends::{end_of_search, EVERY_END};
 use fuzz::inputs::versions;
 use fuzz::Given;
 use reference::check_bytes;
@@ -121,6 +125,12 @@ fn absences_pass_and_blocks_begin_again() {
         ("block that unsets", 400),
     ];
     assert_enough(|given| deeds(given).unwrap_or_default(), &least);
+}
+
+#[test]
+fn clash_searches_end_everywhere() {
+    let least = EVERY_END.map(|end| (end, 40));
+    assert_enough(|given| vec![end_of_search(&given.table)], &least);
 }
 
 #[test]

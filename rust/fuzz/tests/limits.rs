@@ -6,13 +6,15 @@
 mod tables;
 
 use fuzz::{compare, Given};
-use occam_table::{calls, Buffers, Machine, STACK};
+use occam_table::{calls, check_rows_counted, check_table_counted};
+use occam_table::{Buffers, Checked, Machine, Refusal, STACK};
 use std::process::{Command, Stdio};
 use std::thread;
 use tables::{
     absences_everywhere, blocks_of_all_cells, bytes, deep_alts, deep_blocks_in_a_loop,
     deep_constant, deep_expression, deep_given, deep_ifs, deep_loops, deep_pars_in_a_loop,
-    deep_subscript, deep_sum, largest, nested, readings, wide_in_a_loop,
+    deep_subscript, deep_sum, largest, nested, nested_pars, outputs_after_skips, readings, skips,
+    wide_in_a_loop,
 };
 
 /// The stack of a call in KiB, for the tests; `OCCAM_STACK` asks for another one.
@@ -31,6 +33,15 @@ fn within<T: Send + 'static>(kib: usize, test: impl FnOnce() -> T + Send + 'stat
         .expect("no panic")
 }
 
+/// Compares the library with the separate program, with room for the latter.
+fn compare_with_room(given: Given) {
+    within(65_536, move || {
+        compare(&given, &mut Machine::new())
+            .map(|_| ())
+            .expect("equal answers")
+    });
+}
+
 /// The library's answer within the stack of a call; then the comparison, with room for the separate program.
 fn answered(rows: Vec<[i32; 4]>, sheet: &[u8], budget: u32) -> u64 {
     let (table, sheet) = (bytes(&rows), sheet.to_vec());
@@ -39,11 +50,7 @@ fn answered(rows: Vec<[i32; 4]>, sheet: &[u8], budget: u32) -> u64 {
         let mut buffers = Buffers::default();
         calls::run_table(&table, &sheet, &[3, 1, 4, 1, 5, 9], budget, buffers.lend())
     });
-    within(65_536, move || {
-        compare(&given, &mut Machine::new())
-            .map(|_| ())
-            .expect("equal answers")
-    });
+    compare_with_room(given);
     packed & OUTCOME_AND_STEPS
 }
 
@@ -153,6 +160,62 @@ fn the_largest_of_everything() {
     let rows = largest();
     assert_eq!(rows.len(), 1_023);
     assert_eq!(answered(rows, &readings(), 65_536) & 0xff, 0);
+}
+
+/// The verdict with the count of pairs compared, on bytes and on rows, within the stack of a call; then
+/// the comparison, with room for the separate program.
+fn counted(rows: Vec<[i32; 4]>) -> Checked {
+    let table = bytes(&rows);
+    let given = Given::new(&table, b"\n", Vec::new(), 5_000);
+    let [of_bytes, of_rows] = within(stack(), move || {
+        let of_rows = check_rows_counted(rows.as_flattened());
+        [check_table_counted(&table), of_rows]
+    });
+    assert_eq!(of_bytes, of_rows);
+    compare_with_room(given);
+    of_bytes
+}
+
+/// An accepted table with this count.
+fn accepted(pairs: u32) -> Checked {
+    Checked {
+        verdict: Ok(()),
+        pairs,
+    }
+}
+
+#[test]
+fn pairs_of_511_components() {
+    assert_eq!(counted(skips(511)), accepted(3 * 130_305));
+}
+
+#[test]
+fn pairs_up_to_the_last_of_508_components() {
+    let refusal = Refusal {
+        number: 9,
+        place: 1,
+    };
+    let last = Checked {
+        verdict: Err(refusal),
+        pairs: 3 * 128_778,
+    };
+    assert_eq!(counted(outputs_after_skips()), last);
+}
+
+#[test]
+fn pairs_of_508_nested_pars() {
+    assert_eq!(counted(nested_pars()), accepted(3 * 6));
+}
+
+#[test]
+fn pairs_of_255_nested_pars_with_two_members() {
+    assert_eq!(counted(deep_pars_in_a_loop()), accepted(3 * 255));
+}
+
+#[test]
+fn pairs_of_the_largest_of_everything() {
+    // 8 inputs, 8 outputs, 231 assignments and a SKIP: 248 members
+    assert_eq!(counted(largest()), accepted(3 * 30_628));
 }
 
 /// The names of the tests above.

@@ -25,6 +25,14 @@ fn words(case: &Path) -> Vec<String> {
     line.split_whitespace().map(str::to_string).collect()
 }
 
+/// The words of a case for `check` after `--check`, if it has them all.
+fn flags_of_check(case: &Path) -> Option<Vec<String>> {
+    let words = words(case);
+    let (first, flags) = words.split_first()?;
+    let known = first == "--check" && flags.iter().all(|flag| flag == "--pairs");
+    known.then(|| flags.to_vec())
+}
+
 /// What the program printed; its status tells a refusal.
 fn checked(case: &Path, output: Output) -> String {
     let text = String::from_utf8(output.stdout).expect("text");
@@ -106,21 +114,16 @@ fn stored_verdicts_are_those_of_check() {
     let mut count = 0;
     for file in fs::read_dir(cases).expect("the folder is there") {
         let case = file.expect("a file").path();
-        let words = words(&case);
-        let flags = match words.first().is_some_and(|word| word == "--check") {
-            true => &words[1..],
-            false => continue,
-        };
-        let input_of_check = flags.iter().all(|flag| flag == "--pairs");
-        if case.extension().is_none_or(|extension| extension != "in") || !input_of_check {
+        let is_case = case.extension().is_some_and(|extension| extension == "in");
+        let Some(flags) = flags_of_check(&case).filter(|_| is_case) else {
             continue;
-        }
+        };
         let input = fs::read(&case).expect("bytes");
         let table = folder.join("verdict.in");
         fs::write(&table, parted(&input).0).expect("written");
         let stored = fs::read_to_string(case.with_extension("out")).expect("stored");
         let name = case.display();
-        assert_eq!(printed_plain("check", &table, flags), stored, "{name}");
+        assert_eq!(printed_plain("check", &table, &flags), stored, "{name}");
         count += 1;
     }
     fs::remove_dir_all(&folder).expect("it is there");

@@ -3,7 +3,8 @@
 //! A file `commands/NAME.txt` holds a command line after `$ `, what it prints on standard output,
 //! after `--- error` what it prints on standard error (if anything), and after `--- status` its
 //! exit status. It runs in the folder `commands`; ` < FILE` at its end is standard input, which is
-//! empty otherwise. `OCCAM_STORE=1` writes the files anew: read them before they are kept.
+//! empty otherwise. The time of a check is stored as `...`. `OCCAM_STORE=1` writes the files anew:
+//! read them before they are kept.
 
 use std::fs::{self, File};
 use std::path::{Path, PathBuf};
@@ -12,6 +13,18 @@ use std::process::{Command, Stdio};
 /// The folder of the stored outputs.
 fn folder() -> PathBuf {
     Path::new(env!("CARGO_MANIFEST_DIR")).join("tests/commands")
+}
+
+/// The line that tells the time of a check, up to the time.
+const TIME: &str = "time of the check: ";
+
+/// The lines of a text, the time of a check as `...`.
+fn without_time(text: &str) -> String {
+    let line = |line: &str| match line.starts_with(TIME) {
+        true => format!("{TIME}...\n"),
+        false => line.to_string(),
+    };
+    text.split_inclusive('\n').map(line).collect()
 }
 
 /// What a command line prints, in the stored form.
@@ -31,7 +44,7 @@ fn printed(line: &str) -> String {
         .output()
         .expect("the program starts");
     let text = |bytes: Vec<u8>| String::from_utf8(bytes).expect("text");
-    let (out, error) = (text(output.stdout), text(output.stderr));
+    let (out, error) = (without_time(&text(output.stdout)), text(output.stderr));
     let status = output.status.code().expect("a status");
     let error = match error.is_empty() {
         true => String::new(),

@@ -3,7 +3,7 @@
 
 mod common;
 use common::clashes::{comparisons, Rule};
-use common::ends::{end_of_search, pair_count, widths};
+use common::ends::{end_of_search, pair_count, widths, EVERY_END};
 use common::{assert_enough, stored_inputs, table, Tally};
 use reference::generate::{generate, Aim};
 use reference::kinds::{rows_referred_to, PAR};
@@ -70,25 +70,6 @@ fn stored_counts_are_those_of_the_slow_search() {
     }
     assert_enough(&ends, &EVERY_END.map(|end| (end, 2)));
 }
-
-/// The ends of a clash search.
-const EVERY_END: [&str; 15] = [
-    "7 at the only pair",
-    "7 at the first pair",
-    "7 at a middle pair",
-    "7 at the last pair",
-    "8 at the only pair",
-    "8 at the first pair",
-    "8 at a middle pair",
-    "8 at the last pair",
-    "9 at the only pair",
-    "9 at the first pair",
-    "9 at a middle pair",
-    "9 at the last pair",
-    "no pair",
-    "no clash",
-    "refused before",
-];
 
 /// How many pairs are compared where each member of a PAR clashes with each other in a sort.
 #[test]

@@ -213,6 +213,49 @@ pub fn wide_in_a_loop(outer: i32) -> Vec<[i32; 4]> {
     rows
 }
 
+/// A PAR of so many SKIPs; 511 are as many as a table can have.
+pub fn skips(count: i32) -> Vec<[i32; 4]> {
+    let mut rows = vec![[31, 1, 0, 0]];
+    let mut links = Vec::new();
+    for _ in 0..count {
+        member(&mut rows, &mut links, |_| vec![[21, 0, 0, 0]]);
+    }
+    tie(&mut rows, &links);
+    rows
+}
+
+/// A PAR of 506 SKIPs and two outputs to one channel element, the last of its members: 1,022 rows.
+pub fn outputs_after_skips() -> Vec<[i32; 4]> {
+    let mut rows = vec![[2, 1, 0, 0], [31, 2, 0, 0]];
+    let mut links = Vec::new();
+    for _ in 0..506 {
+        member(&mut rows, &mut links, |_| vec![[21, 0, 0, 0]]);
+    }
+    for _ in 0..2 {
+        member(&mut rows, &mut links, |r| {
+            vec![[24, 0, r + 1, r + 2], [10, 0, 0, 0], [10, 1, 0, 0]]
+        });
+    }
+    tie(&mut rows, &links);
+    rows
+}
+
+/// 508 PARs in one another, of one member each but the innermost, which has four SKIPs: 1,023 rows.
+pub fn nested_pars() -> Vec<[i32; 4]> {
+    let mut rows = Vec::new();
+    for _ in 0..507 {
+        let row = rows.len() as i32;
+        rows.extend([[31, row + 1, 0, 0], [40, row + 2, -1, 0]]);
+    }
+    rows.push([31, rows.len() as i32 + 1, 0, 0]);
+    let mut links = Vec::new();
+    for _ in 0..4 {
+        member(&mut rows, &mut links, |_| vec![[21, 0, 0, 0]]);
+    }
+    tie(&mut rows, &links);
+    rows
+}
+
 /// Puts a member of a PAR down: its link, then its rows. The links are tied together afterwards.
 fn member(
     rows: &mut Vec<[i32; 4]>,

@@ -4,26 +4,24 @@ use reference::check_bytes_counted;
 use reference::kinds::PAR;
 use reference::table::{rows_of_bytes, Row};
 
-/// The ends at a clash of each sort: among its pairs the only one, the first, a middle one, the last.
-const AT_A_CLASH: [[&str; 4]; 3] = [
-    [
-        "7 at the only pair",
-        "7 at the first pair",
-        "7 at a middle pair",
-        "7 at the last pair",
-    ],
-    [
-        "8 at the only pair",
-        "8 at the first pair",
-        "8 at a middle pair",
-        "8 at the last pair",
-    ],
-    [
-        "9 at the only pair",
-        "9 at the first pair",
-        "9 at a middle pair",
-        "9 at the last pair",
-    ],
+/// The ends: in each sort a clash at its only pair, at the first, at a middle one, at the last; then
+/// those without a clash.
+pub const EVERY_END: [&str; 15] = [
+    "7 at the only pair",
+    "7 at the first pair",
+    "7 at a middle pair",
+    "7 at the last pair",
+    "8 at the only pair",
+    "8 at the first pair",
+    "8 at a middle pair",
+    "8 at the last pair",
+    "9 at the only pair",
+    "9 at the first pair",
+    "9 at a middle pair",
+    "9 at the last pair",
+    "no pair",
+    "no clash",
+    "refused before",
 ];
 
 /// How many members each PAR has, by row; the references of these rows are right.
@@ -60,5 +58,5 @@ pub fn end_of_search(table: &[u8]) -> &'static str {
         last if last == all => 3,
         _ => 2,
     };
-    AT_A_CLASH[sort][place]
+    EVERY_END[4 * sort + place]
 }
