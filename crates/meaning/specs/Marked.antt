@@ -1,5 +1,5 @@
 -- The marked cases (●), the run on paper and cases of requests 01 and 07: whole sheets, each with the answer that the paper expects, the state that is left and what
--- the sheet runner prints.
+-- the sheet runner prints. Then tables of request 03, each with its verdict and the count beside it.
 use mathlib.Core.Path.{_≡_}
 use mathlib.Core.Option.{none, some}
 use mathlib.Core.List.{List, [], _∷_, _++_, map}
@@ -8,11 +8,14 @@ use Prim.Native.String.{String}
 use lib.IntN.{pos, negsuc}
 use Rattle.meaning.specs.declared.Outcome.{Outcome}
 use Rattle.meaning.specs.declared.Outcome.the-variants.{Ended, Stuck, Broken}
+use Rattle.meaning.specs.declared.Verdict.{Verdict}
+use Rattle.meaning.specs.declared.Verdict.the-variants.{Accepted, Rejected}
+use Rattle.meaning.specs.declared.Checked.{Checked}
 use Rattle.meaning.specs.Texts.{bytes}
 use Rattle.meaning.specs.TableBytes.{header}
 use Rattle.meaning.specs.Values.{Message}
 use Rattle.meaning.specs.State.{State}
-use Rattle.meaning.specs.Answers.{Result, refused, ran, resultOfBytes}
+use Rattle.meaning.specs.Answers.{Result, refused, ran, resultOfBytes, checkBytesCounted}
 use Rattle.meaning.specs.Runner.{separator, runner}
 
 -- a sheet: the table's rows and the readings as texts, the budget, and what is expected; what the sheet runner prints for it
@@ -229,3 +232,49 @@ markedCases =
 -- every case is answered as the paper expects, and printed so byte for byte
 abbrev pub MarkedCases : Type 0
 MarkedCases = (map answered markedCases ≡ map (λ (e : MarkedCase). e .expected) markedCases) × (map printedFor markedCases ≡ map (λ (e : MarkedCase). bytes (e .prints)) markedCases)
+
+-- a table of request 03: its rows as text, the verdict, and the count of pairs compared
+pub record CountedCase : Type 0 where
+  pub rows : String
+  pub expected : Checked
+
+abbrev pub countedCase : String → Verdict → ℕ → CountedCase
+countedCase rows verdict pairs = record { rows = rows; expected = record { verdict = verdict; pairs = pairs } }
+
+-- the answer to it
+unfoldable pub checkedFor : CountedCase → Checked
+checkedFor e = checkBytesCounted (header ++ bytes (e .rows))
+
+abbrev pub countedCases : List CountedCase
+countedCases =
+    -- PAR of x:=1 and y:=x: one pair
+    countedCase "1,1,0,0\n1,1,0,0\n31,3,0,0\n40,4,7,0\n22,0,5,6\n10,0,0,0\n10,1,0,0\n40,8,-1,0\n22,1,9,10\n10,0,0,0\n11,0,11,0\n10,0,0,0\n" (Rejected 7 2) 1
+    -- a 7 of the second and the third of three: (0,1), (0,2), (1,2)
+    ∷ countedCase "1,1,0,0\n31,2,0,0\n40,3,4,0\n21,0,0,0\n40,5,8,0\n22,0,6,7\n10,0,0,0\n10,1,0,0\n40,9,-1,0\n22,0,10,11\n10,0,0,0\n10,2,0,0\n" (Rejected 7 1) 3
+    -- a 7 of the first and the third: (0,1), (0,2)
+    ∷ countedCase "1,1,0,0\n31,2,0,0\n40,3,6,0\n22,0,4,5\n10,0,0,0\n10,1,0,0\n40,7,8,0\n21,0,0,0\n40,9,-1,0\n22,0,10,11\n10,0,0,0\n10,2,0,0\n" (Rejected 7 1) 2
+    -- an 8 of the first two: three pairs for cells, and one
+    ∷ countedCase "1,1,0,0\n1,1,0,0\n2,1,0,0\n31,4,0,0\n40,5,9,0\n23,2,6,7\n10,0,0,0\n11,0,8,0\n10,0,0,0\n40,10,14,0\n23,2,11,12\n10,0,0,0\n11,1,13,0\n10,0,0,0\n40,15,-1,0\n21,0,0,0\n" (Rejected 8 3) 4
+    -- an 8 of the first and the third
+    ∷ countedCase "1,1,0,0\n1,1,0,0\n2,1,0,0\n31,4,0,0\n40,5,9,0\n23,2,6,7\n10,0,0,0\n11,0,8,0\n10,0,0,0\n40,10,11,0\n21,0,0,0\n40,12,-1,0\n23,2,13,14\n10,0,0,0\n11,1,15,0\n10,0,0,0\n" (Rejected 8 3) 5
+    -- a 9 of the last pair: all nine
+    ∷ countedCase "2,1,0,0\n31,2,0,0\n40,3,4,0\n21,0,0,0\n40,5,8,0\n24,0,6,7\n10,0,0,0\n10,1,0,0\n40,9,-1,0\n24,0,10,11\n10,0,0,0\n10,2,0,0\n" (Rejected 9 1) 9
+    -- no clash: all pairs in each of the three sorts
+    ∷ countedCase "1,1,0,0\n1,1,0,0\n1,1,0,0\n31,4,0,0\n40,5,8,0\n22,0,6,7\n10,0,0,0\n10,1,0,0\n40,9,12,0\n22,1,10,11\n10,0,0,0\n10,2,0,0\n40,13,-1,0\n22,2,14,15\n10,0,0,0\n10,3,0,0\n" Accepted 9
+    -- a PAR of four, and a clash in a higher one: six pairs, and one
+    ∷ countedCase "1,1,0,0\n30,2,0,0\n40,3,12,0\n31,4,0,0\n40,5,6,0\n21,0,0,0\n40,7,8,0\n21,0,0,0\n40,9,10,0\n21,0,0,0\n40,11,-1,0\n21,0,0,0\n40,13,-1,0\n31,14,0,0\n40,15,18,0\n22,0,16,17\n10,0,0,0\n10,1,0,0\n40,19,-1,0\n22,0,20,21\n10,0,0,0\n10,2,0,0\n" (Rejected 7 13) 7
+    -- the same with the clash in the lower one
+    ∷ countedCase "1,1,0,0\n30,2,0,0\n40,3,12,0\n31,4,0,0\n40,5,8,0\n22,0,6,7\n10,0,0,0\n10,1,0,0\n40,9,-1,0\n22,0,10,11\n10,0,0,0\n10,2,0,0\n40,13,-1,0\n31,14,0,0\n40,15,16,0\n21,0,0,0\n40,17,18,0\n21,0,0,0\n40,19,20,0\n21,0,0,0\n40,21,-1,0\n21,0,0,0\n" (Rejected 7 3) 1
+    -- an 8 in the lower PAR and a 7 in the higher: the cells of both PARs are compared first
+    ∷ countedCase "1,1,0,0\n1,1,0,0\n1,1,0,0\n2,1,0,0\n30,5,0,0\n40,6,17,0\n31,7,0,0\n40,8,12,0\n23,3,9,10\n10,0,0,0\n11,0,11,0\n10,0,0,0\n40,13,-1,0\n23,3,14,15\n10,0,0,0\n11,1,16,0\n10,0,0,0\n40,18,-1,0\n31,19,0,0\n40,20,23,0\n22,2,21,22\n10,0,0,0\n10,1,0,0\n40,24,-1,0\n22,2,25,26\n10,0,0,0\n10,2,0,0\n" (Rejected 7 18) 2
+    -- a PAR of one: nothing to compare
+    ∷ countedCase "30,1,0,0\n40,2,3,0\n21,0,0,0\n40,4,-1,0\n31,5,0,0\n40,6,-1,0\n21,0,0,0\n" Accepted 0
+    -- a clash in a table that is refused before, as 6
+    ∷ countedCase "1,64,0,0\n1,64,0,0\n1,64,0,0\n1,64,0,0\n1,1,0,0\n31,6,0,0\n40,7,10,0\n22,0,8,9\n10,0,0,0\n10,1,0,0\n40,11,-1,0\n22,0,12,13\n10,0,0,0\n10,2,0,0\n" (Rejected 6 4) 0
+    -- as 14: a block as root
+    ∷ countedCase "1,1,0,0\n35,0,2,0\n31,3,0,0\n40,4,7,0\n22,0,5,6\n10,0,0,0\n10,1,0,0\n40,8,-1,0\n22,0,9,10\n10,0,0,0\n10,2,0,0\n" (Rejected 14 1) 0
+    ∷ []
+
+-- every one is answered so
+abbrev pub CountedCases : Type 0
+CountedCases = map checkedFor countedCases ≡ map (λ (e : CountedCase). e .expected) countedCases

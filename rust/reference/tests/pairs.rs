@@ -28,14 +28,15 @@ fn compare(what: &str, table: &[u8]) {
     if !numbers.is_empty() {
         assert_eq!(told(&check_rows_counted(&numbers)), found, "{what}");
     }
-    let Some(comparisons) = comparisons(table, Rule::Constant) else {
+    let Some(mut comparisons) = comparisons(table, Rule::Constant) else {
         assert_eq!(found.1, 0, "{what}");
         return;
     };
+    comparisons.sort_unstable();
     assert_eq!(comparisons.len(), 3 * pair_count(&rows), "{what}");
-    let first = comparisons.iter().position(|(_, &clash)| clash);
-    let wanted = match first.and_then(|at| comparisons.keys().nth(at).map(|&clash| (at, clash))) {
-        Some((at, (number, par, ..))) => (Some((number, par)), at + 1),
+    let first = comparisons.iter().position(|&(_, clash)| clash);
+    let wanted = match first.map(|at| (at, comparisons[at])) {
+        Some((at, ((number, par, ..), _))) => (Some((number, par)), at + 1),
         None => (None, comparisons.len()),
     };
     assert_eq!(found, wanted, "{what}");
@@ -115,9 +116,8 @@ fn sorts(table: &[u8]) -> Vec<&'static str> {
     let rows = rows_of_bytes(table).expect("rows");
     let widths = widths(&rows);
     let widest = widths.iter().copied().max().unwrap_or(0);
-    let clashes = comparisons(table, Rule::Constant).map_or(0, |comparisons| {
-        comparisons.into_values().filter(|&clash| clash).count()
-    });
+    let comparisons = comparisons(table, Rule::Constant).unwrap_or_default();
+    let clashes = comparisons.iter().filter(|&&(_, clash)| clash).count();
     let seen = [
         ("several PARs", widths.len() > 1),
         ("a PAR in a PAR", is_nested(&rows)),

@@ -1,6 +1,6 @@
 //! The clashes of a table's PARs by a slow search that follows the papers' words, under the rule of
-//! document 01 or of request 07 about what a subscript counts for; and all comparisons of pairs in the
-//! order of request 03.
+//! document 01 or of request 07 about what a subscript counts for; and all comparisons of pairs, of
+//! request 03.
 
 use reference::kinds::{
     rows_referred_to, ASSIGNMENT, DYADIC, ELEMENT, GIVEN, INPUT, LITERAL, MONADIC, OUTPUT, PAR,
@@ -8,7 +8,7 @@ use reference::kinds::{
 use reference::limits::{check_limits, Layout};
 use reference::table::{rows_of_bytes, Row};
 use reference::{check_bytes, Refusal};
-use std::collections::{BTreeMap, BTreeSet};
+use std::collections::BTreeSet;
 
 /// What a subscript counts for.
 #[derive(Clone, Copy, PartialEq, Eq)]
@@ -26,28 +26,25 @@ pub enum Rule {
 }
 
 /// A comparison of two components: the sort by its refusal's number, the PAR, the first member and
-/// the second by position. Their order is that of request 03: "the order that the refusal table
+/// the second by position. These order it as request 03 says: "the order that the refusal table
 /// gives, pairs in one PAR by first, then second member".
 pub type Comparison = (u8, u32, usize, usize);
 
-/// All comparisons in their order, each with whether the two clash.
-pub type Comparisons = BTreeMap<Comparison, bool>;
+/// Comparisons, each with whether the two clash.
+pub type Comparisons = Vec<(Comparison, bool)>;
 
 /// Refusals 7, 8 and 9, each with its PAR; the first is the one that the paper gives.
 pub type Clashes = BTreeSet<(u8, u32)>;
 
 /// The clashes of a table under a rule, if no refusal goes before 7.
 pub fn clashes(table: &[u8], rule: Rule) -> Option<Clashes> {
-    let comparisons = comparisons(table, rule)?;
-    let clashing = comparisons.into_iter().filter(|&(_, clash)| clash);
-    Some(
-        clashing
-            .map(|((number, par, ..), _)| (number, par))
-            .collect(),
-    )
+    let comparisons = comparisons(table, rule)?.into_iter();
+    let clashing = comparisons.filter(|&(_, clash)| clash);
+    let refusals = clashing.map(|((number, par, ..), _)| (number, par));
+    Some(refusals.collect())
 }
 
-/// All comparisons of a table's components under a rule, if no refusal goes before 7.
+/// The comparisons of a table under a rule, each once, in any order, if no refusal goes before 7.
 pub fn comparisons(table: &[u8], rule: Rule) -> Option<Comparisons> {
     let refusal = check_bytes(table).err();
     if refusal.is_some_and(|Refusal { number, .. }| !(7..=9).contains(&number)) {
@@ -84,7 +81,7 @@ struct Search<'a> {
 }
 
 impl Search<'_> {
-    /// All comparisons.
+    /// The comparisons of all PARs.
     fn comparisons(&self) -> Comparisons {
         let pars = (0..self.rows.len()).filter(|&row| self.rows[row].kind == PAR);
         pars.flat_map(|par| self.comparisons_in(par)).collect()
@@ -98,13 +95,13 @@ impl Search<'_> {
             for (first, one) in components[..second].iter().enumerate() {
                 let meet =
                     |of_one: usize, of_other: usize| !one[of_one].is_disjoint(&other[of_other]);
-                for (number, clash) in [
+                let sorts = [
                     (7, meet(CHANGED, USED) || meet(USED, CHANGED)),
                     (8, meet(INPUT_FROM, INPUT_FROM)),
                     (9, meet(OUTPUT_TO, OUTPUT_TO)),
-                ] {
-                    found.insert((number, par as u32, first, second), clash);
-                }
+                ];
+                let par = par as u32;
+                found.extend(sorts.map(|(sort, clash)| ((sort, par, first, second), clash)));
             }
         }
         found
