@@ -56,7 +56,7 @@ module _ (ws : List ℕ) (s x t y : ℕ) (l : length ws ≡ 16) (hs : s < 4) (ht
       go true e = word-of (ltb-true x 256 e) (eqb (4 * t + y / 64) here) refl
       go false e = let h = ltb-false x 256 e in ap (λ (b : Bool). b || holds ws t y) (sym (ne-eqb (4 * y + t) (4 * x + s) (λ p. omega arith)))
 
-one-length : (ws : List ℕ) (s x : ℕ) → length (withOne ws s x) ≡ length ws
+pub one-length : (ws : List ℕ) (s x : ℕ) → length (withOne ws s x) ≡ length ws
 unfolding withOne
 one-length ws s x = go (ltb x 256)
   where
@@ -87,7 +87,7 @@ none-holds t y = ap (λ (w : ℕ). on w (y % 64)) (defaults-at 0 16 (4 * t + y /
 
 -- Two joined ----------------------------------------------------------------------------------------------------------------------
 
-joined-at : (vs ws : List ℕ) → length vs ≡ length ws → (j : ℕ) → getD (setUnion vs ws) j 0 ≡ bitOr (getD vs j 0) (getD ws j 0)
+pub joined-at : (vs ws : List ℕ) → length vs ≡ length ws → (j : ℕ) → getD (setUnion vs ws) j 0 ≡ bitOr (getD vs j 0) (getD ws j 0)
 unfolding setUnion
 joined-at [] [] e j = sym (or-zero-l 0)
 joined-at [] (w ∷ ws) e j = absurd (omega arith)

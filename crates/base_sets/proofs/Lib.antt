@@ -3,3 +3,4 @@ pub mod Words
 pub mod SetLaws
 pub mod Holds
 pub mod Meets
+pub mod Joined

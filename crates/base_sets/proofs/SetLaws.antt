@@ -6,7 +6,7 @@ use Prim.Native.Nat.{ℕ, suc, _+_, _-_, _*_, _/_, _%_, _^_, _<_, _≤_}
 use native.Mathlib.Numerals.{add-one}
 use native.Mathlib.Omega.{arith}
 use lib.ListN.{length, getD, set, take, drop, drop-of-length-le}
-use lib.Seq.{set-out, take-all, drop-cons, append-snoc, take-suc-set, drop-set-lt}
+use lib.Seq.{set-out, take-all, take-suc, drop-cons, append-snoc, take-suc-set, drop-set-lt}
 use lib.Bits.{bitOr}
 use borrow.Author.Tests.{le-ltb, lt-ltb}
 use Rattle.meaning.specs.Usage.{numbersFrom}
@@ -93,6 +93,13 @@ join-step vs ws i h g =
 pub join-done : (vs ws : List ℕ) (i : ℕ) → length vs ≤ i → take i vs ++ setUnion (drop i vs) (drop i ws) ≡ vs
 unfolding setUnion
 join-done vs ws i h = rw (drop-of-length-le vs h, take-all i vs h, append-nil)
+
+-- words copied one by one: those before i are done
+pub copy-step : (vs ws : List ℕ) (i : ℕ) → i < length vs → i < length ws → take i vs ≡ take i ws → take (i + 1) (set vs i (getD ws i 0)) ≡ take (i + 1) ws
+copy-step vs ws i h g e = rw (add-one i, take-suc-set vs i (getD ws i 0) h, e) (sym (take-suc ws i 0 g))
+
+pub copy-done : (vs ws : List ℕ) (i : ℕ) → length vs ≤ i → length vs ≡ length ws → take i vs ≡ take i ws → vs ≡ ws
+copy-done vs ws i h l e = sym (take-all i vs h) ∙ e ∙ take-all i ws (omega arith)
 
 -- a list of one number put in
 pub one-more : (s : List ℕ) (sort n : ℕ) {x l : List ℕ} → sort < 4 → x ≡ withOne s sort n → l ≡ n ∷ [] → x ≡ withAll s (inSort sort l)

@@ -8,7 +8,8 @@ use native.Mathlib.Decide.{decLt}
 use native.Mathlib.Omega.{arith}
 use lib.Dec.{eqb}
 use lib.Pow.{pow-lt, pow-pos, pow-add}
-use lib.Bits.{bitAnd, bitOr, and-step, or-step, and-shr, or-shr, and-le-l}
+use lib.Arith.{bin-ind}
+use lib.Bits.{bitAnd, bitOr, and-step, or-step, and-shr, or-shr, or-mod, and-le-l}
 use borrow.Author.Tests.{eq-eqb, ne-eqb}
 use Rattle.meaning.proofs.Decides.{Decides, holding, failing}
 use Rattle.base_sets.specs.Sets.{share}
@@ -67,6 +68,27 @@ and-on a b k =
     ap (λ (n : ℕ). eqb (n % 2) 1) (and-shr a b k ∙ and-step x y)
     ∙ ap (λ (n : ℕ). eqb n 1) (mul-add-mod-self-right (bitAnd (x / 2) (y / 2)) 2 (min (x % 2) (y % 2)))
     ∙ and-min (lowest-bit x) (lowest-bit y)
+
+or-bits : {i j k : ℕ} → Bit i → Bit j → Bit k → max (bitOr i j) k ≡ max i (bitOr j k)
+or-bits off-bit off-bit off-bit = refl
+or-bits off-bit off-bit on-bit = refl
+or-bits off-bit on-bit off-bit = refl
+or-bits off-bit on-bit on-bit = refl
+or-bits on-bit off-bit off-bit = refl
+or-bits on-bit off-bit on-bit = refl
+or-bits on-bit on-bit off-bit = refl
+or-bits on-bit on-bit on-bit = refl
+
+-- three words joined
+pub or-words : (a b c : ℕ) → bitOr (bitOr a b) c ≡ bitOr a (bitOr b c)
+or-words a =
+    bin-ind (λ (n : ℕ). (b c : ℕ) → bitOr (bitOr n b) c ≡ bitOr n (bitOr b c)) (λ b c. refl)
+    (λ n f b c.
+    or-step (bitOr n b) c
+    ∙ ap₂ (λ (x y : ℕ). x * 2 + y)
+    (ap (λ (x : ℕ). bitOr x (c / 2)) (or-shr n b 1) ∙ f (b / 2) (c / 2) ∙ ap (bitOr (n / 2)) (sym (or-shr b c 1)))
+    (ap (λ (x : ℕ). max x (c % 2)) (or-mod n b 1) ∙ or-bits (lowest-bit n) (lowest-bit b) (lowest-bit c) ∙ ap (max (n % 2)) (sym (or-mod b c 1)))
+    ∙ sym (or-step n (bitOr b c))) a
 
 -- 0 has no bit
 pub zero-on : (k : ℕ) → on 0 k ≡ false

@@ -2,7 +2,7 @@
 use mathlib.Core.Bool.{Bool, not, _||_}
 use mathlib.Core.List.{List, [], _∷_, map}
 use Prim.Native.Nat.{ℕ, _+_, _*_, _/_, _%_, _^_}
-use lib.ListN.{getD, set, replicate}
+use lib.ListN.{getD, set, take, drop, replicate}
 use lib.Dec.{ltb, eqb}
 use lib.Bits.{bitAnd, bitOr}
 use Rattle.meaning.specs.Basics.{ifElse}
@@ -25,6 +25,10 @@ unfoldable pub setUnion : List ℕ → List ℕ → List ℕ
 setUnion [] ws = []
 setUnion (v ∷ vs) [] = v ∷ vs
 setUnion (v ∷ vs) (w ∷ ws) = bitOr v w ∷ setUnion vs ws
+
+-- the sets of row k among those of all rows: sixteen words, from 16 k on
+abbrev pub setsAt : List ℕ → ℕ → List ℕ
+setsAt ws k = take 16 (drop (16 * k) ws)
 
 -- have two words a bit in common
 abbrev pub share : ℕ → ℕ → Bool

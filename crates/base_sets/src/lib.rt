@@ -44,6 +44,18 @@ pub fn join(sets: &mut [u64], more: &[u64])
     }
 }
 
+// `to` becomes what `from` is.
+pub fn copy(to: &mut [u64], from: &[u64])
+    requires { ⌜ length (now to) ≡ length (now from) ⌝ }
+    ensures { λ _. ⌜ now (to .exit) ≡ now (from .entry) ⌝ }
+{
+    let mut i = 0;
+    while i < to.len() {
+        to[i] = from[i];
+        i += 1;
+    }
+}
+
 pub fn either(a: bool, b: bool) -> bool
     ensures { λ t. ⌜ t ≡ (a || b) ⌝ }
 {

@@ -4,3 +4,6 @@ pub mod Links
 pub mod ProcessMarks
 pub mod Sorts
 pub mod ProcessSorts
+pub mod RowSets
+pub mod ListedProcesses
+pub mod Gathering

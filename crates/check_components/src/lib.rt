@@ -1,19 +1,21 @@
 // What processes count for, put into bit sets: cells changed and used, channel elements input from and output to.
 ghost use mathlib.Core.Path.{_≡_};
-ghost use Prim.Native.Nat.{_<_};
-ghost use Rattle.meaning.specs.Rows.{rowCount, naturalAt};
-ghost use Rattle.meaning.specs.Declarations.{variableAt};
+ghost use Prim.Native.Nat.{suc, _+_, _*_, _<_, _≤_};
+ghost use lib.ListN.{length};
+ghost use Rattle.meaning.specs.Rows.{rowCount, kindAt};
 ghost use Rattle.meaning.specs.Tree.{contentAt};
 ghost use Rattle.meaning.specs.Usage.{ofGuard, gatherAll};
-ghost use Rattle.base_layout.specs.Operands.{operandAt};
-ghost use Rattle.base_sets.specs.Sets.{withAll, inSort};
-ghost use Rattle.check_components.specs.Marks.{markExpr, markTarget, markInput, markChoices, markGuard, markOptions, marks, ownMarks, allMarks};
+ghost use Rattle.base_sets.specs.Sets.{withAll, inSort, setUnion, setsAt};
+ghost use Rattle.check_components.specs.Marks.{markExpr, markTarget, markInput, markChoices, markOptions, marks, ownMarks, allMarks};
 ghost use Rattle.check_components.specs.Fields.{targetIn, cellsIn, inputIn, outputIn, isLink, NotIfWhileAlt, WalkFacts};
+ghost use Rattle.check_components.specs.RowSets.{storedAt, ParsHave, SetsFrom, withComponent};
 use base_layout::nodes::natural;
 use base_layout::nodes::operand;
 use base_layout::sink_at;
 use base_layout::source_at;
 use base_layout::variable_at;
+use base_sets::copy;
+use base_sets::join;
 use check_subscripts::count;
 
 // The sorts: cells changed and used, channel elements input from and output to.
@@ -220,42 +222,103 @@ pub fn is_link(rows: &[i32], m: usize) -> bool
     k <= 42
 }
 
-// The walk over a process, if one stands at row r: its own action, and then its members.
-pub fn walk_process<'a>(rows: &'a [i32], names: &'a [u16], r: usize, sets: &mut [u64])
-    requires { ⌜ WalkFacts (now rows) (now names) ⌝ }
-    ensures { λ _. ⌜ now (sets .exit) ≡ withAll (now (sets .entry)) (allMarks (contentAt (now (rows .entry)) r .process)) ⌝ }
+// The sets of row r are put into `own`.
+fn join_row<'a>(sets: &'a [u64], r: usize, own: &mut [u64])
+    requires { ⌜ (16 * r + 16 ≤ length (now sets)) × (length (now own) ≡ 16) ⌝ }
+    ensures { λ _. ⌜ now (own .exit) ≡ setUnion (now (own .entry)) (setsAt (now (sets .entry)) r) ⌝ }
+{
+    let at = 16 * r;
+    let end = at + 16;
+    join(own, &sets[at..end]);
+}
+
+// What `own` holds becomes the sets of row r.
+fn store<'a>(own: &'a [u64], r: usize, sets: &mut [u64])
+    requires { ⌜ (16 * r + 16 ≤ length (now sets)) × (length (now own) ≡ 16) ⌝ }
+    ensures { λ _. ⌜ now (sets .exit) ≡ storedAt (now (sets .entry)) r (now (own .entry)) ⌝ }
+{
+    let at = 16 * r;
+    let end = at + 16;
+    copy(&mut sets[at..end], own);
+}
+
+// The walk over a process, if one stands at row r: its own action, and then its members. The sets of a PAR are there already.
+fn walk_process<'a>(rows: &'a [i32], names: &'a [u16], sets: &'a [u64], r: usize, own: &mut [u64])
+    requires { ⌜ WalkFacts (now rows) (now names) × ParsHave (now rows) (now sets) r × (length (now own) ≡ 16) ⌝ }
+    ensures { λ _. ⌜ now (own .exit) ≡ withAll (now (own .entry)) (allMarks (contentAt (now (rows .entry)) r .process)) ⌝ }
 {
     if rows.len() / 4 <= r {
         return;
     }
-    action(rows, names, r, sets);
+    action(rows, names, r, own);
     match natural(rows, r, 0) {
-        30 => {
-            walk_members(rows, names, operand(rows, r, 1), sets);
-        }
         31 => {
-            walk_members(rows, names, operand(rows, r, 1), sets);
+            join_row(sets, r, own);
         }
-        32 => {
-            walk_members(rows, names, operand(rows, r, 1), sets);
+        30 | 32 | 34 => {
+            walk_members(rows, names, sets, operand(rows, r, 1), own);
         }
         33 | 35 => {
-            walk_process(rows, names, operand(rows, r, 2), sets);
-        }
-        34 => {
-            walk_members(rows, names, operand(rows, r, 1), sets);
+            walk_process(rows, names, sets, operand(rows, r, 2), own);
         }
         _ => {}
     }
 }
 
 // The walk over the member list at row m.
-fn walk_members<'a>(rows: &'a [i32], names: &'a [u16], m: usize, sets: &mut [u64])
-    requires { ⌜ WalkFacts (now rows) (now names) ⌝ }
-    ensures { λ _. ⌜ now (sets .exit) ≡ withAll (now (sets .entry)) (gatherAll (contentAt (now (rows .entry)) m .listed) marks) ⌝ }
+fn walk_members<'a>(rows: &'a [i32], names: &'a [u16], sets: &'a [u64], m: usize, own: &mut [u64])
+    requires { ⌜ WalkFacts (now rows) (now names) × ParsHave (now rows) (now sets) m × (length (now own) ≡ 16) ⌝ }
+    ensures { λ _. ⌜ now (own .exit) ≡ withAll (now (own .entry)) (gatherAll (contentAt (now (rows .entry)) m .listed) marks) ⌝ }
 {
     if is_link(rows, m) {
-        walk_process(rows, names, operand(rows, m, 1), sets);
-        walk_members(rows, names, operand(rows, m, 2), sets);
+        walk_process(rows, names, sets, operand(rows, m, 1), own);
+        walk_members(rows, names, sets, operand(rows, m, 2), own);
+    }
+}
+
+// The sets of the component at row p, if a process stands there; they are put into those of its PAR too.
+fn gather_component<'a>(
+    rows: &'a [i32],
+    names: &'a [u16],
+    p: usize,
+    all: &mut [u64],
+    sets: &mut [u64],
+)
+    requires { ⌜ WalkFacts (now rows) (now names) × ParsHave (now rows) (now sets) p × (length (now all) ≡ 16) ⌝ }
+    ensures { λ _. ⌜ (now (all .exit) ≡ withAll (now (all .entry)) (allMarks (contentAt (now (rows .entry)) p .process))) × (now (sets .exit) ≡ withComponent (now (rows .entry)) (now (sets .entry)) p) ⌝ }
+{
+    let mut own = [0u64; 16];
+    walk_process(rows, names, sets, p, &mut own);
+    join(all, &own);
+    if p < rows.len() / 4 {
+        store(&own, p, sets);
+    }
+}
+
+// The sets of each component of the PAR at row r, and its own, which are those of all of them.
+fn gather_par<'a>(rows: &'a [i32], names: &'a [u16], r: usize, sets: &mut [u64])
+    requires { ⌜ WalkFacts (now rows) (now names) × (r < rowCount (now rows)) × (kindAt (now rows) r ≡ 31) × SetsFrom (now rows) (now sets) (suc r) ⌝ }
+    ensures { λ _. ⌜ SetsFrom (now (rows .entry)) (now (sets .exit)) r ⌝ }
+{
+    let mut all = [0u64; 16];
+    let mut at = operand(rows, r, 1);
+    while is_link(rows, at) {
+        gather_component(rows, names, operand(rows, at, 1), &mut all, sets);
+        at = operand(rows, at, 2);
+    }
+    store(&all, r, sets);
+}
+
+// The sets of every PAR and of its components, each gathered once: from the last row up, since references go to higher rows.
+pub fn gather_all<'a>(rows: &'a [i32], names: &'a [u16], sets: &mut [u64])
+    requires { ⌜ WalkFacts (now rows) (now names) × (length (now sets) ≡ 16 * rowCount (now rows)) ⌝ }
+    ensures { λ _. ⌜ SetsFrom (now (rows .entry)) (now (sets .exit)) 0 ⌝ }
+{
+    let mut r = rows.len() / 4;
+    while 0 < r {
+        r -= 1;
+        if natural(rows, r, 0) == 31 {
+            gather_par(rows, names, r, sets);
+        }
     }
 }

@@ -1,7 +1,6 @@
+pub mod SearchLaws
 pub mod MemberSteps
-pub mod Pairs
-pub mod Compared
 pub mod SmallNumbers
 pub mod SmallParts
+pub mod Compared
 pub mod FirstClash
-pub mod UsageFault

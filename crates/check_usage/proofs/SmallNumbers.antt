@@ -1,7 +1,7 @@
 -- In a table within the limits the cells of a variable and the elements of a channel have numbers below 256, and so has what a subscript counts for.
-use mathlib.Core.Path.{_≡_, refl}
-use mathlib.Core.Bool.{Bool, true, false, _&&_, _||_, false≢true}
-use mathlib.Core.List.{List, [], _∷_}
+use mathlib.Core.Path.{_≡_, refl, sym, ap, _∙_}
+use mathlib.Core.Bool.{Bool, true, false, _||_, false≢true}
+use mathlib.Core.List.{List, [], _∷_, _++_}
 use Prim.Native.Nat.{ℕ, zero, suc, _+_, _*_, _<_, _≤_}
 use native.Mathlib.Omega.{arith}
 use lib.IntN.{ℤ, pos, negsuc}
@@ -16,16 +16,35 @@ use Rattle.meaning.specs.Faults.{WithinLimits}
 use Rattle.meaning.specs.Tree.{Expr}
 use Rattle.meaning.specs.Usage.{numbersFrom, onlyIf, constant, countsByValue, countsFor}
 use Rattle.meaning.specs.Values.{value}
+use Rattle.meaning.proofs.Decides.{both-true}
 use Rattle.base_sets.specs.Sets.{inSort}
-use Rattle.check_usage.proofs.Compared.{Small}
+use Rattle.base_sets.proofs.Bools.{among-append}
 
 -- Lists ---------------------------------------------------------------------------------------------------------------------------
+
+-- every mark is of a number below 256
+abbrev pub Small : List ℕ → Type 0
+Small l = (n : ℕ) → among n l ≡ true → n < 1024
+
+pub small-right : (l m : List ℕ) → Small (l ++ m) → Small m
+small-right l m h n e = h n (among-append n l m ∙ other-true (among n l) (among n m) e)
+  where
+    other-true : (s t : Bool) → t ≡ true → (s || t) ≡ true
+    other-true true t e = refl
+    other-true false t e = e
+
+pub small-append : (l m : List ℕ) → Small l → Small m → Small (l ++ m)
+small-append l m h g n e = go (among n l) refl (sym (among-append n l m) ∙ e)
+  where
+    go : (b : Bool) → among n l ≡ b → (among n l || among n m) ≡ true → n < 1024
+    go true f p = h n f
+    go false f p = g n (sym (ap (λ (b : Bool). b || among n m) f) ∙ p)
 
 pub none-small : Small []
 unfolding anyPasses
 none-small n e = absurd (false≢true e)
 
-pub cons-small : (m : ℕ) (l : List ℕ) → m < 1024 → Small l → Small (m ∷ l)
+cons-small : (m : ℕ) (l : List ℕ) → m < 1024 → Small l → Small (m ∷ l)
 unfolding anyPasses
 cons-small m l h g n e = go (eqb n m) refl e
   where
@@ -59,14 +78,10 @@ module _ (s : ℕ) (hs : s < 4) where
 
 -- Names ---------------------------------------------------------------------------------------------------------------------------
 
-both : (s t : Bool) → (s && t) ≡ true → (s ≡ true) × (t ≡ true)
-both true t e = (refl, e)
-both false t e = absurd (false≢true e)
-
-abbrev pub InVariable : Variable → Type 0
+abbrev InVariable : Variable → Type 0
 InVariable v = v .first + v .size ≤ 256
 
-abbrev pub InChannel : Channel → Type 0
+abbrev InChannel : Channel → Type 0
 InChannel c = c .first + c .size ≤ 256
 
 module _ (rows : List ℤ) (limits : (r : ℕ) → r < declarations rows → WithinLimits rows r) where
@@ -78,7 +93,7 @@ module _ (rows : List ℤ) (limits : (r : ℕ) → r < declarations rows → Wit
       within h = limits a h .0
 
       go : (b : Bool) → isVariable rows a ≡ b → InVariable (ifElse b (record { first = sumBelow (cellsAt rows) a; size = cellsAt rows a }) noVariable)
-      go true e = within (ltb-true a (declarations rows) (both (ltb a (declarations rows)) (eqb (kindAt rows a) 1) e .0))
+      go true e = within (ltb-true a (declarations rows) (both-true (ltb a (declarations rows)) (eqb (kindAt rows a) 1) e .0))
       go false e = omega arith
 
   channel-small : (role a : ℕ) → InChannel (channelAt role rows a)
@@ -93,7 +108,7 @@ module _ (rows : List ℤ) (limits : (r : ℕ) → r < declarations rows → Wit
       declared false t f g e = g e
 
       is-channel : (k : ℕ) → hasRole k rows a ≡ true → a < declarations rows
-      is-channel k e = ltb-true a (declarations rows) (both (ltb a (declarations rows)) (eqb (kindAt rows a) 2) (both (isChannel rows a) (eqb (naturalAt rows a 2) k) e .0) .0)
+      is-channel k e = ltb-true a (declarations rows) (both-true (ltb a (declarations rows)) (eqb (kindAt rows a) 2) (both-true (isChannel rows a) (eqb (naturalAt rows a 2) k) e .0) .0)
 
       go : (b : Bool) → (hasRole 0 rows a || hasRole role rows a) ≡ b
           → InChannel (ifElse b (record { first = sumBelow (elementsAt rows) a; size = elementsAt rows a; host = hasRole role rows a; number = sumBelow (hostChannelsAt role rows) a; capacity = capacityAt rows a }) noChannel)

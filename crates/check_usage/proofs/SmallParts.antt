@@ -21,8 +21,7 @@ use Rattle.base_sets.specs.Sets.{inSort}
 use Rattle.check_components.specs.Marks.{targetCells, markExpr, markTarget, markInput, markChoices, markGuard, markOptions, marks, allMarks}
 use Rattle.base_sets.proofs.SetLaws.{sort-append}
 use Rattle.check_components.proofs.Links.{and-member}
-use Rattle.check_usage.proofs.Compared.{Small, small-right, small-append}
-use Rattle.check_usage.proofs.SmallNumbers.{none-small, counts-small, variable-small, source-small, sink-small}
+use Rattle.check_usage.proofs.SmallNumbers.{Small, small-right, small-append, none-small, counts-small, variable-small, source-small, sink-small}
 
 -- all that counts at a part
 pub record PartSmall (p : Content) : Type 0 where

@@ -1,1 +1,1 @@
-pub mod Clashes
+pub mod Search

@@ -6,6 +6,7 @@ use mathlib.Core.List.{List}
 use mathlib.Core.Option.{Option, none, some}
 use Prim.Native.Nat.{ℕ, _+_, _*_, _≤_, _<_}
 use native.Mathlib.Decide.{decLt}
+use native.Mathlib.Nat.{mul-suc, mul-le-mul-left}
 use native.Mathlib.Omega.{arith}
 use lib.IntN.{ℤ}
 use Rattle.meaning.specs.Refusals.{Refusal}
@@ -17,7 +18,10 @@ use Rattle.meaning.specs.declared.Outcome.{Outcome}
 use Rattle.meaning.specs.declared.Outcome.the-variants.{Ended, Stuck, Broken, Spent}
 use Rattle.meaning.specs.declared.Answer.{Answer}
 use Rattle.meaning.specs.declared.Answer.the-variants.{Refused, Ran}
+use Rattle.meaning.specs.declared.Verdict.{Verdict}
 use Rattle.meaning.specs.declared.Verdict.the-variants.{Accepted, Rejected}
+use Rattle.meaning.specs.declared.Checked.{Checked}
+use Rattle.meaning.proofs.AnswerLaws.{counted-rows, counted-bytes}
 use Rattle.agreement.specs.CallClaims.{taskOfBytes, RanAs}
 use Rattle.agreement.specs.RefusalClaims.{TableRefusal, CallRefusal}
 use Rattle.agreement.proofs.TableFit.{rows-limit}
@@ -25,8 +29,8 @@ use Rattle.agreement.proofs.Calls.{run-answered}
 use Rattle.agreement.proofs.CallsOnBytes.{run-answered-bytes}
 use Rattle.agreement.proofs.TracedCalls.{traced-as-untraced}
 use Rattle.agreement.proofs.RefusalPlaces.{rows-refused, bytes-refused, rows-call-refused, bytes-call-refused, table-known, numbers-known}
-use Rattle.occam_table.specs.Packing.{outcomeNumber}
-use Rattle.occam_table.specs.PackingClaims.{PossibleAnswer, PossibleVerdict, AnswersTold, VerdictsTold, CallsPossible, TracedPossible, ChecksPossible}
+use Rattle.occam_table.specs.Packing.{outcomeNumber, verdictNumber}
+use Rattle.occam_table.specs.PackingClaims.{PossibleAnswer, PossibleVerdict, PlaceWithin, PossibleChecked, AnswersTold, VerdictsTold, ChecksTold, CallsPossible, TracedPossible, ChecksPossible, CountedPossible}
 use Rattle.occam_table.proofs.Outcomes.{outcome-some, outcome-small}
 
 -- outcomes by their numbers
@@ -48,14 +52,17 @@ outcomes-told Spent Stuck e = absurd (omega arith)
 outcomes-told Spent Broken e = absurd (omega arith)
 outcomes-told Spent Spent e = refl
 
--- the ready steps
-totals-told : (x y m n : ℕ) → x < 1099511627776 → y < 1099511627776 → x + 1099511627776 * m ≡ y + 1099511627776 * n → (x ≡ y) × (m ≡ n)
-totals-told x y m n small little e = go (decLt m n) (decLt n m)
+-- what stands from a bit on, and what stands below it: the ready steps, the count of pairs
+upper-told : (b x y m n : ℕ) → x < b → y < b → x + b * m ≡ y + b * n → (x ≡ y) × (m ≡ n)
+upper-told b x y m n small little e = go (decLt m n) (decLt n m)
   where
+    higher : {k l : ℕ} → k < l → b * k + b ≤ b * l
+    higher {k} {l} h = let f = mul-le-mul-left b h in let g = mul-suc b k in omega arith
+
     go : Dec (m < n) → Dec (n < m) → (x ≡ y) × (m ≡ n)
-    go (yes h) d = absurd (omega arith)
-    go (no h) (yes g) = absurd (omega arith)
-    go (no h) (no g) = let same : m ≡ n = omega arith in (omega arith, same)
+    go (yes h) d = let f = higher h in absurd (omega arith)
+    go (no h) (yes g) = let f = higher g in absurd (omega arith)
+    go (no h) (no g) = let same : m ≡ n = omega arith in let f = ap (λ (k : ℕ). b * k) same in (omega arith, same)
 
 -- the steps, and so the outcome's number
 parts-told : (a b k l : ℕ) → a ≤ 4 → b ≤ 4 → 256 * a + 65536 * k ≡ 256 * b + 65536 * l → (a ≡ b) × (k ≡ l)
@@ -82,7 +89,7 @@ answers-told (Ran o k m) (Refused n p) u h e =
     let low = h .0 in let small = few-numbers (h .1) (omega arith) in let a = outcome-some o in let b = outcome-small o in
     absurd (omega arith)
 answers-told (Ran o k m) (Ran p l n) (few, _) (less, _) e =
-    let (rest, total) = totals-told (256 * outcomeNumber o + 65536 * k) (256 * outcomeNumber p + 65536 * l) m n (omega (arith, outcome-small o)) (omega (arith, outcome-small p)) e in
+    let (rest, total) = upper-told 1099511627776 (256 * outcomeNumber o + 65536 * k) (256 * outcomeNumber p + 65536 * l) m n (omega (arith, outcome-small o)) (omega (arith, outcome-small p)) e in
     let (outcome, steps) = parts-told (outcomeNumber o) (outcomeNumber p) k l (outcome-small o) (outcome-small p) rest in
     λ i. Ran (outcomes-told o p outcome i) (steps i) (total i)
 
@@ -93,6 +100,20 @@ verdicts-told (Rejected n p) Accepted h k e = let low = h .0 in absurd (omega ar
 verdicts-told (Rejected n p) (Rejected m q) h k e =
     let small = few-numbers (h .1) (omega arith) in let little = few-numbers (k .1) (omega arith) in
     ap₂ Rejected (omega arith) (omega arith)
+
+-- a verdict stands below bit 32
+place-small : (v : Verdict) → PossibleVerdict v → PlaceWithin v → verdictNumber v < 4294967296
+place-small Accepted h k = omega arith
+place-small (Rejected n p) h k = let small = few-numbers (h .1) (omega arith) in omega arith
+
+pub checked-small : (c : Checked) → PossibleChecked c → verdictNumber (c .verdict) < 4294967296
+checked-small c h = place-small (c .verdict) (h .0) (h .1)
+
+pub checks-told : ChecksTold
+checks-told c d h k e =
+    let (verdict, pairs) = upper-told 4294967296 (verdictNumber (c .verdict)) (verdictNumber (d .verdict)) (c .pairs) (d .pairs) (checked-small c h) (checked-small d k) e in
+    let same = verdicts-told (c .verdict) (d .verdict) (h .0) (k .0) verdict in
+    λ i. record { verdict = same i; pairs = pairs i }
 
 -- a run takes no more steps than its budget, and no more are ready than there are rows
 possible-run : (t : Task) (b : Buffers) (r : Reply) (o : Outcome) (k n : ℕ) → RanAs t b r o k n → (k ≤ 65536) × (n ≤ 1024)
@@ -137,4 +158,14 @@ pub checks-possible : ChecksPossible
 checks-possible = (
   λ rows. possible-verdict rows (check rows) (λ number place e. rows-refused rows number place e .0),
   λ table. possible-verdict (rowsOf table) (checkBytes table) (bytes-refused table),
+)
+
+possible-checked : (rows : List ℤ) (o : Option Refusal) → ((number place : ℕ) → o ≡ some (number, place) → TableRefusal rows number place) → PossibleVerdict (verdictOf o) × PlaceWithin (verdictOf o)
+possible-checked rows none h = (tt, tt)
+possible-checked rows (some f) h = let (low, high, place) = table-known (h (f .0) (f .1) refl) in ((low, high), place)
+
+pub counted-possible : CountedPossible
+counted-possible = (
+  λ rows. subst PossibleChecked (sym (counted-rows rows)) (possible-checked rows (check rows) (λ number place e. rows-refused rows number place e .0)),
+  λ table. subst PossibleChecked (sym (counted-bytes table)) (possible-checked (rowsOf table) (checkBytes table) (bytes-refused table)),
 )

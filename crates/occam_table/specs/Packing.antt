@@ -1,5 +1,5 @@
 -- Answers as one number: the low 8 bits are the refusal's number, 0 for none; the next 8 the outcome's, 0 for none; the rest the place of a refusal, or
--- for a run its steps and, from bit 40 on, how many steps are ready after it.
+-- for a run its steps and, from bit 40 on, how many steps are ready after it. A check with its count has that from bit 32 on.
 use Prim.Native.Nat.{ℕ, _+_, _*_}
 use Rattle.meaning.specs.declared.Outcome.{Outcome}
 use Rattle.meaning.specs.declared.Outcome.the-variants.{Ended, Stuck, Broken, Spent}
@@ -7,6 +7,7 @@ use Rattle.meaning.specs.declared.Answer.{Answer}
 use Rattle.meaning.specs.declared.Answer.the-variants.{Refused, Ran}
 use Rattle.meaning.specs.declared.Verdict.{Verdict}
 use Rattle.meaning.specs.declared.Verdict.the-variants.{Accepted, Rejected}
+use Rattle.meaning.specs.declared.Checked.{Checked}
 
 -- an outcome's number
 abbrev pub outcomeNumber : Outcome → ℕ
@@ -19,6 +20,10 @@ outcomeNumber Spent = 4
 abbrev pub verdictNumber : Verdict → ℕ
 verdictNumber Accepted = 0
 verdictNumber (Rejected n p) = n + 65536 * p
+
+-- a verdict and, by 2 to the 32, the count of pairs compared
+abbrev pub checkedNumber : Checked → ℕ
+checkedNumber c = verdictNumber (c .verdict) + 4294967296 * c .pairs
 
 -- an answer: a refusal's number with its place, or an outcome with its steps and, by 2 to the 40, the ready steps
 abbrev pub answerNumber : Answer → ℕ

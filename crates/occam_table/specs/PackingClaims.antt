@@ -5,13 +5,14 @@ use mathlib.Core.List.{List}
 use Prim.Native.Nat.{ℕ, _≤_}
 use lib.IntN.{ℤ}
 use Rattle.meaning.specs.Buffers.{Buffers}
-use Rattle.meaning.specs.Answers.{Task, check, checkBytes, verdictOf, reply, replyToBytes}
+use Rattle.meaning.specs.Answers.{Task, check, checkBytes, verdictOf, checkCounted, checkBytesCounted, reply, replyToBytes}
 use Rattle.meaning.specs.Trace.{TraceLists, replyTraced, replyToBytesTraced}
 use Rattle.meaning.specs.declared.Answer.{Answer}
 use Rattle.meaning.specs.declared.Answer.the-variants.{Refused, Ran}
 use Rattle.meaning.specs.declared.Verdict.{Verdict}
 use Rattle.meaning.specs.declared.Verdict.the-variants.{Accepted, Rejected}
-use Rattle.occam_table.specs.Packing.{verdictNumber, answerNumber}
+use Rattle.meaning.specs.declared.Checked.{Checked}
+use Rattle.occam_table.specs.Packing.{verdictNumber, checkedNumber, answerNumber}
 
 -- the answers that can be given: a run of 65,536 steps at most with 1,024 ready at most, or one of the numbered refusals, 1 to 11 and 14
 abbrev pub PossibleAnswer : Answer → Type 0
@@ -23,14 +24,25 @@ abbrev pub PossibleVerdict : Verdict → Type 0
 PossibleVerdict Accepted = Unit {0}
 PossibleVerdict (Rejected number place) = (2 ≤ number) × ((number ≤ 9) ⊎ (number ≡ 14))
 
--- two such answers with one number are one answer; so are two verdicts
+-- with a count: the place of a refusal is at most 1,026
+abbrev pub PlaceWithin : Verdict → Type 0
+PlaceWithin Accepted = Unit {0}
+PlaceWithin (Rejected number place) = place ≤ 1026
+
+abbrev pub PossibleChecked : Checked → Type 0
+PossibleChecked c = PossibleVerdict (c .verdict) × PlaceWithin (c .verdict)
+
+-- two such answers with one number are one answer; so are two verdicts, alone or with their counts
 abbrev pub AnswersTold : Type 0
 AnswersTold = (a b : Answer) → PossibleAnswer a → PossibleAnswer b → answerNumber a ≡ answerNumber b → a ≡ b
 
 abbrev pub VerdictsTold : Type 0
 VerdictsTold = (v w : Verdict) → PossibleVerdict v → PossibleVerdict w → verdictNumber v ≡ verdictNumber w → v ≡ w
 
--- every call, traced or not, and every check gives such a one
+abbrev pub ChecksTold : Type 0
+ChecksTold = (c d : Checked) → PossibleChecked c → PossibleChecked d → checkedNumber c ≡ checkedNumber d → c ≡ d
+
+-- every call, traced or not, and every check, counted or not, gives such a one
 abbrev pub CallsPossible : Type 0
 CallsPossible = ((t : Task) (b : Buffers) → PossibleAnswer (reply t b .answer))
     × ((table sheet choices : List ℕ) (budget : ℕ) (b : Buffers) → PossibleAnswer (replyToBytes table sheet choices budget b .answer))
@@ -41,3 +53,6 @@ TracedPossible = ((t : Task) (b : Buffers) (l : TraceLists) → PossibleAnswer (
 
 abbrev pub ChecksPossible : Type 0
 ChecksPossible = ((rows : List ℤ) → PossibleVerdict (verdictOf (check rows))) × ((table : List ℕ) → PossibleVerdict (verdictOf (checkBytes table)))
+
+abbrev pub CountedPossible : Type 0
+CountedPossible = ((rows : List ℤ) → PossibleChecked (checkCounted rows)) × ((table : List ℕ) → PossibleChecked (checkBytesCounted table))

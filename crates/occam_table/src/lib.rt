@@ -1,11 +1,11 @@
-// The public entries, and the exported functions: a table's verdict, a run's answer with what it leaves in the lent buffers, a table's rows, and the strip of
+// The public entries, and the exported functions: a table's verdict, alone or with the count of pairs compared, a run's answer with what it leaves in the lent buffers, a table's rows, and the strip of
 // an output channel. A slice is a pointer and a length.
 ghost use mathlib.Core.Path.{_≡_};
-ghost use Rattle.meaning.specs.Answers.{check, checkBytes, verdictOf, reply, replyToBytes};
+ghost use Rattle.meaning.specs.Answers.{check, checkBytes, verdictOf, checkCounted, checkBytesCounted, reply, replyToBytes};
 ghost use Rattle.meaning.specs.Trace.{replyTraced, replyToBytesTraced};
 ghost use Rattle.machine.specs.Lending.{lentLists, leftLists};
 ghost use Rattle.write_buffers.specs.Lending.{lentTask, lentBuffers, leftBuffers};
-ghost use Rattle.occam_table.specs.Packing.{verdictNumber};
+ghost use Rattle.occam_table.specs.Packing.{verdictNumber, checkedNumber};
 ghost use Rattle.occam_table.specs.Exports.{packed, packedTraced, stripNumber};
 ghost use Rattle.occam_table.specs.RowsLent.{rowsLent};
 
@@ -13,13 +13,15 @@ mod packing; // packing.rt: answers as one number
 
 use read_table::TableRead;
 
-// The public entries of Rattle callers: the verdict, the run, untraced and traced, the strip of a host channel and its marks.
+// The public entries of Rattle callers: the verdict, alone or with its count, the run, untraced and traced, the strip of a host channel and its marks.
 pub use call_table::run_rows;
 pub use call_table::run_rows_traced;
 pub use call_table::run_table;
 pub use call_table::run_table_traced;
 pub use check_verdict::check_rows;
+pub use check_verdict::check_rows_counted;
 pub use check_verdict::check_table;
+pub use check_verdict::check_table_counted;
 pub use write_strips::strip;
 pub use write_strips::strip_marks;
 
@@ -37,6 +39,22 @@ pub extern "C" fn occam_check_table(table: &[u8]) -> u64
     ensures { λ n. ⌜ n ≡ verdictNumber (verdictOf (checkBytes (now (table .entry)))) ⌝ }
 {
     packing::verdict_number(check_verdict::check_table(table))
+}
+
+// The verdict on rows lent as numbers, with the count of pairs compared.
+#[no_mangle]
+pub extern "C" fn occam_check_rows_counted(rows: &[i32]) -> u64
+    ensures { λ n. ⌜ n ≡ checkedNumber (checkCounted (now (rows .entry))) ⌝ }
+{
+    packing::checked_number(check_verdict::check_rows_counted(rows))
+}
+
+// The verdict on a table's bytes, with the count of pairs compared.
+#[no_mangle]
+pub extern "C" fn occam_check_table_counted(table: &[u8]) -> u64
+    ensures { λ n. ⌜ n ≡ checkedNumber (checkBytesCounted (now (table .entry))) ⌝ }
+{
+    packing::checked_number(check_verdict::check_table_counted(table))
 }
 
 // A run of rows lent as numbers.

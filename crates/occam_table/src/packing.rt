@@ -1,8 +1,9 @@
 // Answers as one number.
 ghost use mathlib.Core.Path.{_≡_};
-ghost use Rattle.occam_table.specs.Packing.{outcomeNumber, verdictNumber, answerNumber};
-ghost use Rattle.occam_table.specs.PackingClaims.{PossibleAnswer};
+ghost use Rattle.occam_table.specs.Packing.{outcomeNumber, verdictNumber, checkedNumber, answerNumber};
+ghost use Rattle.occam_table.specs.PackingClaims.{PossibleChecked, PossibleAnswer};
 use meaning::Answer;
+use meaning::Checked;
 use meaning::Outcome;
 use meaning::Verdict;
 
@@ -14,6 +15,15 @@ pub fn verdict_number(v: Verdict) -> u64
         Verdict::Accepted => 0,
         Verdict::Rejected(number, place) => number as u64 + 65536 * (place as u64),
     }
+}
+
+// A verdict's number with, from bit 32 on, the count of pairs compared.
+pub fn checked_number(c: Checked) -> u64
+    requires { ⌜ PossibleChecked c ⌝ }
+    ensures { λ n. ⌜ n ≡ checkedNumber c ⌝ }
+{
+    let verdict = c.verdict;
+    verdict_number(verdict) + 4294967296 * (c.pairs as u64)
 }
 
 // An outcome's number.

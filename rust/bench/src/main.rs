@@ -2,9 +2,10 @@
 //!
 //! `cargo run --offline --release -p bench` prints one table, `bench pairs` its lines about the count of
 //! pairs compared (request 03), `bench largest` its last lines: the largest sheets. The other words are
-//! for counts of instructions (`rust/bench/instructions`): `bench once SHEET SIDE BUDGET` makes one call on a sheet that `bench sheets` lists, `bench grown
-//! PART NUMBER SIDE BUDGET` one on a sheet with so many of a part that `bench growth` lists, and
-//! `bench calls NUMBER SIDE` so many on a table of one row. SIDE is proved or separate.
+//! for counts of instructions (`rust/bench/instructions`): `bench once SHEET SIDE BUDGET` makes one
+//! call on a sheet that `bench sheets` lists, `bench grown PART NUMBER SIDE BUDGET` one on a sheet with
+//! so many of a part that `bench growth` lists, and `bench calls NUMBER SIDE` so many on a table of one
+//! row. SIDE is proved or separate.
 
 mod growth;
 mod sheets;

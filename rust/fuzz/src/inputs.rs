@@ -24,7 +24,7 @@ fn base(seed: u64) -> Parts {
         4 => Some(Aim::Refusal(3)),
         5 => Some(Aim::Refusal([6, 7, 8, 9, 14][(seed / 16 % 5) as usize])),
         6 => Some(Aim::Mutated),
-        7 => Some(Aim::Pairs),
+        7..=8 => Some(Aim::Pairs),
         _ => None,
     };
     let large = match seed % 16 {

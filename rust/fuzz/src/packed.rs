@@ -12,9 +12,9 @@ pub fn packed_verdict<T>(verdict: &Result<T, Refusal>) -> u64 {
     verdict.as_ref().err().map_or(0, packed_refusal)
 }
 
-/// A verdict with 2 to the power of 40 times the count of pairs compared.
+/// A verdict in the low 32 bits, the count of pairs compared in the high 32.
 pub fn packed_checked(checked: &Checked) -> u64 {
-    packed_verdict(&checked.verdict) + ((checked.pairs as u64) << 40)
+    packed_verdict(&checked.verdict) + ((checked.pairs as u64) << 32)
 }
 
 /// A run: 256 times the outcome, 65,536 times the steps, 2 to the power of 40 times how many are

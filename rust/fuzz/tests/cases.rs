@@ -1,20 +1,13 @@
 //! The stored cases: through the fuzz target's comparison, and their counts of pairs through the
 //! binding.
 
+mod stored;
+
 use fuzz::{compare, Given};
-use occam_table::{check_rows_counted, check_table_counted, Checked, Machine, Refusal};
+use occam_table::{check_rows_counted, check_table_counted, Checked, Machine};
 use reference::printing::split_input;
 use std::fs;
-use std::path::{Path, PathBuf};
-
-/// The stored cases.
-fn cases() -> Vec<PathBuf> {
-    let folder = Path::new(env!("CARGO_MANIFEST_DIR")).join("../../cases");
-    let files = fs::read_dir(folder).expect("the folder is there");
-    let paths = files.map(|file| file.expect("a file").path());
-    let cases = paths.filter(|path| path.extension().is_some_and(|word| word == "in"));
-    cases.collect()
-}
+use stored::{cases, output, words};
 
 #[test]
 fn stored_cases_agree() {
@@ -51,20 +44,14 @@ fn checked(table: &[u8], as_numbers: bool) -> Checked {
 fn stored_counts_are_those_of_the_binding() {
     let mut count = 0;
     for path in cases() {
-        let words = fs::read_to_string(path.with_extension("args")).unwrap_or_default();
-        if !words.contains("--pairs") {
-            continue;
+        let words = words(&path);
+        let asked = |flag: &str| words.iter().any(|word| word == flag);
+        if asked("--pairs") {
+            let input = fs::read(&path).expect("bytes");
+            let checked = checked(split_input(&input).0, asked("--numbers"));
+            assert_eq!(format!("{checked}\n"), output(&path), "{}", path.display());
+            count += 1;
         }
-        let input = fs::read(&path).expect("bytes");
-        let Checked { verdict, pairs } =
-            checked(split_input(&input).0, words.contains("--numbers"));
-        let told = match verdict {
-            Ok(()) => format!("accepted,{pairs}\n"),
-            Err(Refusal { number, place }) => format!("refused,{number},{place},{pairs}\n"),
-        };
-        let stored = fs::read_to_string(path.with_extension("out")).expect("stored");
-        assert_eq!(told, stored, "{}", path.display());
-        count += 1;
     }
     assert!(count > 100, "{count} cases");
 }

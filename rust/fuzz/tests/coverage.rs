@@ -129,7 +129,7 @@ fn absences_pass_and_blocks_begin_again() {
 
 #[test]
 fn clash_searches_end_everywhere() {
-    let least = EVERY_END.map(|end| (end, 25));
+    let least = EVERY_END.map(|end| (end, 30));
     assert_enough(|given| vec![end_of_search(&given.table)], &least);
 }
 

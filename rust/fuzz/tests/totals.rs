@@ -1,26 +1,23 @@
 //! How many steps are ready after a run: the proved library against the separate program's count, at
 //! every budget up to 50, on the stored cases and on inputs from seeds.
 
+mod stored;
+
 use fuzz::inputs::{versions, VERSIONS};
 use fuzz::{compare_totals, Given};
 use reference::generate::{generate, Aim};
 use reference::printing::split_input;
 use std::fs;
-use std::path::Path;
 use std::thread;
+use stored::cases;
 
 const MOST: u32 = 50;
 const INPUTS: u64 = 20_000;
 
 #[test]
 fn stored_cases_have_these_totals() {
-    let folder = Path::new(env!("CARGO_MANIFEST_DIR")).join("../../cases");
     let mut count = 0;
-    for file in fs::read_dir(folder).expect("the folder is there") {
-        let path = file.expect("a file").path();
-        if path.extension().is_none_or(|extension| extension != "in") {
-            continue;
-        }
+    for path in cases() {
         let input = fs::read(&path).expect("bytes");
         let (table, sheet) = split_input(&input);
         for choices in [vec![], vec![1; 50], vec![65_535, 3, 2, 1]] {

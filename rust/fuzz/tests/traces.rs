@@ -1,6 +1,8 @@
 //! Traced runs: for each step how many were ready and the row that orders the one taken, by the
 //! proved library and by the separate program, on the stored cases and on inputs from seeds.
 
+mod stored;
+
 use fuzz::inputs::{versions, VERSIONS};
 use fuzz::{compare_traces, Given};
 use occam_table::Machine;
@@ -8,18 +10,10 @@ use reference::printing::split_input;
 use reference::TRACE_LENGTH;
 use std::fmt::Write;
 use std::fs;
-use std::path::{Path, PathBuf};
+use std::path::Path;
+use stored::{cases, output, words};
 
 const INPUTS: u64 = 4_000;
-
-/// The stored cases.
-fn cases() -> Vec<PathBuf> {
-    let folder = Path::new(env!("CARGO_MANIFEST_DIR")).join("../../cases");
-    let files = fs::read_dir(folder).expect("the folder is there");
-    let paths = files.map(|file| file.expect("a file").path());
-    let cases = paths.filter(|path| path.extension().is_some_and(|word| word == "in"));
-    cases.collect()
-}
 
 #[test]
 fn stored_cases_have_these_steps() {
@@ -37,12 +31,6 @@ fn stored_cases_have_these_steps() {
         }
     }
     assert!(steps > 500_000, "{steps} steps");
-}
-
-/// The words of a case.
-fn words(case: &Path) -> Vec<String> {
-    let line = fs::read_to_string(case.with_extension("args")).unwrap_or_default();
-    line.split_whitespace().map(str::to_string).collect()
 }
 
 /// What the binding tells of a case that asks for its steps, as the separate program prints it.
@@ -80,9 +68,8 @@ fn stored_steps_are_those_of_the_binding() {
         let words = words(&case);
         let asked = |flag: &str| words.iter().any(|word| word == flag);
         if asked("--trace") && !asked("--lists") && !asked("--numbers") {
-            let stored = fs::read_to_string(case.with_extension("out")).expect("stored");
             let name = case.display();
-            assert_eq!(printed(&case, &mut machine), stored, "{name}");
+            assert_eq!(printed(&case, &mut machine), output(&case), "{name}");
             count += 1;
         }
     }

@@ -37,6 +37,17 @@ pub struct Checked {
     pub pairs: u32,
 }
 
+impl fmt::Display for Checked {
+    /// One line without the line feed: `accepted` or `refused`, number, place; then the count.
+    fn fmt(&self, out: &mut fmt::Formatter<'_>) -> fmt::Result {
+        let pairs = self.pairs;
+        match self.verdict {
+            Ok(()) => write!(out, "accepted,{pairs}"),
+            Err(Refusal { number, place }) => write!(out, "refused,{number},{place},{pairs}"),
+        }
+    }
+}
+
 /// How a run came to its end.
 #[derive(Clone, Copy, Debug, PartialEq, Eq, Hash)]
 pub enum Outcome {
@@ -146,11 +157,11 @@ pub(crate) fn verdict(packed: u64) -> Verdict {
     }
 }
 
-/// The verdict of a packed one, and 2 to the power of 40 times the count of pairs compared.
+/// The verdict of a packed one in the low 32 bits, and the count of pairs compared in the high 32.
 pub(crate) fn checked(packed: u64) -> Checked {
     Checked {
-        verdict: verdict(packed),
-        pairs: upper(packed),
+        verdict: verdict(packed & 0xFFFF_FFFF),
+        pairs: (packed >> 32) as u32,
     }
 }
 
@@ -170,7 +181,7 @@ pub(crate) fn answer(packed: u64) -> Result<Told, Refusal> {
         None => Ok(Told {
             outcome: outcome(packed),
             steps: middle(packed),
-            ready: upper(packed),
+            ready: (packed >> 40) as u32,
         }),
     }
 }
@@ -185,11 +196,6 @@ fn refusal(packed: u64) -> Option<Refusal> {
 /// The 24 bits of a packed answer from bit 16 on: a refusal's place, or the steps.
 fn middle(packed: u64) -> u32 {
     (packed >> 16) as u32 & 0xFF_FFFF
-}
-
-/// The bits of a packed answer from bit 40 on: how many steps are ready, or the count of pairs.
-fn upper(packed: u64) -> u32 {
-    (packed >> 40) as u32
 }
 
 /// The outcome of a packed answer that is no refusal.
@@ -217,8 +223,8 @@ mod tests {
         assert_eq!(verdict(4 + 65_536 * 12), Err(refused));
         assert_eq!(answer(4 + 65_536 * 12), Err(refused));
         let of = |verdict, pairs| Checked { verdict, pairs };
-        assert_eq!(checked(390_915 << 40), of(Ok(()), 390_915));
-        let clash = 4 + 65_536 * 12 + (7 << 40);
+        assert_eq!(checked(390_915 << 32), of(Ok(()), 390_915));
+        let clash = 4 + 65_536 * 12 + (7 << 32);
         assert_eq!(checked(clash), of(Err(refused), 7));
         let told = |outcome, steps, ready| {
             Ok(Told {

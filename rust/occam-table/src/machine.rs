@@ -42,6 +42,7 @@ pub fn check_rows(rows: &[i32]) -> Verdict {
 /// let table = b"kind,a,b,c\n31,1,0,0\n40,2,3,0\n21,0,0,0\n40,4,5,0\n21,0,0,0\n40,6,-1,0\n21,0,0,0\n";
 /// let accepted = Checked { verdict: Ok(()), pairs: 9 };
 /// assert_eq!(check_table_counted(table), accepted);
+/// assert_eq!(accepted.to_string(), "accepted,9");
 ///
 /// // Refused before a pair is compared.
 /// let refusal = Refusal { number: 2, place: 1 };
@@ -69,6 +70,7 @@ pub fn check_table_counted(table: &[u8]) -> Checked {
 /// let refusal = Refusal { number: 9, place: 1 };
 /// let refused = Checked { verdict: Err(refusal), pairs: 3 + 3 + 2 };
 /// assert_eq!(check_rows_counted(rows.as_flattened()), refused);
+/// assert_eq!(refused.to_string(), "refused,9,1,8");
 /// ```
 pub fn check_rows_counted(rows: &[i32]) -> Checked {
     answers::checked(calls::check_rows_counted(rows))

@@ -66,7 +66,8 @@ impl Maker<'_> {
             false => self.random.pick(&[0, 0, 1, 1, 1, 1, 2, 3]),
         };
         let widths = self.widths(12 * clashes);
-        let mut pars: Vec<Components> = widths.map(|width| vec![Vec::new(); width]).collect();
+        let components = |width| vec![Vec::new(); width];
+        let mut pars: Vec<Components> = widths.into_iter().map(components).collect();
         for _ in 0..clashes {
             self.clash(&mut free, &mut pars);
         }
@@ -75,10 +76,10 @@ impl Maker<'_> {
     }
 
     /// How many members each PAR has, with so many rows left over.
-    fn widths(&mut self, left_over: usize) -> std::vec::IntoIter<usize> {
+    fn widths(&mut self, left_over: usize) -> Vec<usize> {
         let taken = self.declarations.len() + left_over + 1;
         let members = self.style.size.saturating_sub(taken).max(4) / 2;
-        let widths = match self.random.below(6) {
+        match self.random.below(6) {
             0 => vec![members],
             1 => vec![self.random.between(2, members)],
             2 => vec![2; self.random.between(1, 1 + members / 5)],
@@ -92,8 +93,7 @@ impl Maker<'_> {
                 let count = self.random.between(1, 4);
                 (0..count).map(|_| self.random.below(6)).collect()
             }
-        };
-        widths.into_iter()
+        }
     }
 
     /// Adds two actions that clash, in some sort, to some pair of components of some PAR.
@@ -177,10 +177,9 @@ impl Maker<'_> {
             }
             1 => {
                 let given = self.monadic(GIVEN, element);
-                let (target, zero) = (free.cells.pop()?, self.literal(0));
-                let sum = self.dyadic(5, given, zero);
+                let target = free.cells.pop()?;
                 let subscript = self.subscript_for(target);
-                Some(self.assign(target.name, subscript, sum))
+                Some(self.assign(target.name, subscript, given))
             }
             _ => {
                 let channel = free.elements.pop()?;
@@ -266,20 +265,18 @@ impl Maker<'_> {
                 .collect();
             let par = self.par(&members);
             let process = self.beneath_some(par);
-            let within = match deep {
-                true => pars.len().checked_sub(1),
-                false => self
-                    .random
-                    .below(2 * pars.len() + 1)
-                    .checked_sub(pars.len() + 1),
+            let has_members = |par: usize| !pars[par].is_empty();
+            let above = match deep {
+                true => (0..pars.len()).rev().find(|&par| has_members(par)),
+                false if self.random.chance(50) => self.random.pick_where(pars.len(), has_members),
+                false => None,
             };
-            let width = within.map_or(0, |above| pars[above].len());
-            match (within, width) {
-                (None, _) | (_, 0) => beside.push(process),
-                (Some(above), width) => {
-                    let component = self.random.below(width);
+            match above {
+                Some(above) => {
+                    let component = self.random.below(pars[above].len());
                     pars[above][component].push(process);
                 }
+                None => beside.push(process),
             }
         }
         self.one_or_seq(&beside)

@@ -46,7 +46,7 @@ fn counted(table: &Source, plain: bool) -> Report {
     let time = start.elapsed();
     let report = report(checked.verdict, table, plain);
     let text = match plain {
-        true => pairs::line(&checked),
+        true => format!("{checked}\n"),
         false => report.text + &pairs::words(&checked, &table.bytes, time),
     };
     Report { text, ..report }

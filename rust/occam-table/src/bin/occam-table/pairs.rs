@@ -1,4 +1,4 @@
-//! The count of pairs compared: as one line, and in words with how long the check took.
+//! The count of pairs compared in words, with how long the check took.
 
 use crate::kinds::PAR;
 use crate::program::Program;
@@ -8,16 +8,7 @@ use std::time::Duration;
 /// What the pairs of each sort are compared for, in the order of the search.
 const SORTS: [&str; 3] = ["cells", "inputs", "outputs"];
 
-/// One line: accepted, or a refusal's number and place; then the count.
-pub fn line(checked: &Checked) -> String {
-    let pairs = checked.pairs;
-    match checked.verdict {
-        Ok(()) => format!("accepted,{pairs}\n"),
-        Err(Refusal { number, place }) => format!("refused,{number},{place},{pairs}\n"),
-    }
-}
-
-/// Two lines in words: the count with where the search ended, and the time that the check took.
+/// Two lines: the count with where the search ended, and the time that the check took.
 pub fn words(checked: &Checked, table: &[u8], time: Duration) -> String {
     format!(
         "pairs of components compared: {}{}\ntime of the check: {}\n",
