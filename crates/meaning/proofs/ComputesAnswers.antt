@@ -11,12 +11,12 @@ use Rattle.meaning.specs.Sheet.{joined, sheetHeader, reading, valuesOf, 
 use Rattle.meaning.specs.Buffers.{sized, lent, strips, encode}
 use Rattle.meaning.specs.Refusals.{firstFault}
 use Rattle.meaning.specs.Stages.{budgetFault, bufferFault}
-use Rattle.meaning.specs.Answers.{check, checkBytes, checkBytesCounted, result, resultOfBytes, reply, replyToBytes}
+use Rattle.meaning.specs.Answers.{check, checkBytes, checkCounted, checkBytesCounted, result, resultOfBytes, reply, replyToBytes}
 use Rattle.meaning.specs.Printing.{numbered, cellLines, outLines, stopLines, outcomeLine, endLines, wordBytes, lineBytes, printedLines}
 use Rattle.meaning.specs.Runner.{tablePart, sheetPart, runner}
 use mathlib.Core.List.{flatten}
 
 -- `unfolding computesAnswers` in an example that holds by computation
 unfoldable pub computesAnswers : Unit {0}
-unfolding computes flatten allSome lowestFrom lowest allBelow lines text fields readLine same digitsValue natural number digitsOnto decimal printed variables channels readRow bytesFault rowsOf numbersFault shapes shapeIn shapeOf mayHold formFault leads target targetsBelow occurrences treeFault limitFault rowsUnder blockOf blockFault joined sheetHeader reading valuesOf sheetFault columns readings sized lent strips encode firstFault budgetFault bufferFault check checkBytes checkBytesCounted result resultOfBytes reply replyToBytes numbered cellLines outLines stopLines outcomeLine endLines wordBytes lineBytes printedLines tablePart sheetPart runner
+unfolding computes flatten allSome lowestFrom lowest allBelow lines text fields readLine same digitsValue natural number digitsOnto decimal printed variables channels readRow bytesFault rowsOf numbersFault shapes shapeIn shapeOf mayHold formFault leads target targetsBelow occurrences treeFault limitFault rowsUnder blockOf blockFault joined sheetHeader reading valuesOf sheetFault columns readings sized lent strips encode firstFault budgetFault bufferFault check checkBytes checkCounted checkBytesCounted result resultOfBytes reply replyToBytes numbered cellLines outLines stopLines outcomeLine endLines wordBytes lineBytes printedLines tablePart sheetPart runner
 computesAnswers = tt
