@@ -95,17 +95,6 @@ joined-at (v ∷ vs) [] e j = absurd (omega arith)
 joined-at (v ∷ vs) (w ∷ ws) e zero = refl
 joined-at (v ∷ vs) (w ∷ ws) e (suc j) = joined-at vs ws (omega arith) j
 
-pub join-length : (vs ws : List ℕ) → length (setUnion vs ws) ≡ length vs
-unfolding setUnion
-join-length [] ws = refl
-join-length (v ∷ vs) [] = refl
-join-length (v ∷ vs) (w ∷ ws) = ap suc (join-length vs ws)
-
-pub join-holds : (vs ws : List ℕ) (t y : ℕ) → length vs ≡ length ws → holds (setUnion vs ws) t y ≡ (holds vs t y || holds ws t y)
-join-holds vs ws t y e =
-    let j = 4 * t + y / 64 in
-    ap (λ (w : ℕ). on w (y % 64)) (joined-at vs ws e j) ∙ or-on (getD vs j 0) (getD ws j 0) (y % 64)
-
 -- Words fit -----------------------------------------------------------------------------------------------------------------------
 
 abbrev pub AllFit : List ℕ → Type 0
@@ -141,9 +130,3 @@ fit-none = zeros 16
     zeros : (n : ℕ) → AllFit (replicate n 0)
     zeros zero = tt
     zeros (suc n) = (pow-pos 64, zeros n)
-
-pub fit-join : (vs ws : List ℕ) → AllFit vs → AllFit ws → AllFit (setUnion vs ws)
-unfolding setUnion
-fit-join [] ws f g = tt
-fit-join (v ∷ vs) [] f g = f
-fit-join (v ∷ vs) (w ∷ ws) f g = (or-lt 64 v w (f .0) (g .0), fit-join vs ws (f .1) (g .1))

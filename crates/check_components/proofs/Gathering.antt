@@ -14,7 +14,7 @@ use lib.Dec.{ltb}
 use borrow.Author.Tests.{ltb-true, lt-ltb, le-ltb}
 use Rattle.meaning.specs.Basics.{ifElse, isSome}
 use Rattle.meaning.specs.Rows.{rowCount, kindAt}
-use Rattle.meaning.specs.Tree.{contentAt}
+use Rattle.meaning.specs.Tree.{contentAt, processRows}
 use Rattle.meaning.specs.Usage.{gatherAll}
 use Rattle.base_layout.specs.Operands.{operandAt}
 use Rattle.base_layout.proofs.Parts.{operand-higher}
@@ -24,7 +24,7 @@ use Rattle.base_sets.proofs.SetLaws.{no-call, two-calls}
 use Rattle.base_sets.proofs.Joined.{joined-list}
 use Rattle.check_components.specs.Marks.{marks, allMarks}
 use Rattle.check_components.specs.Fields.{isLink}
-use Rattle.check_components.specs.RowSets.{storedAt, memberRows, processSets, HasSets, componentRows, ParsHave, SetsFrom, withComponent}
+use Rattle.check_components.specs.RowSets.{storedAt, processSets, HasSets, componentRows, ParsHave, SetsFrom, withComponent}
 use Rattle.check_components.proofs.Links.{link-below, link-marks, no-link-marks}
 use Rattle.check_components.proofs.RowSets.{par-marks}
 use Rattle.check_components.proofs.ListedProcesses.{member-there, member-missing, no-link-rows, process-below}
@@ -126,7 +126,7 @@ module _ (rows : List ℤ) where
     pub higher : SetsFrom rows sets (suc r)
     pub sized : length all ≡ 16
     pub so-far : withAll noNumbers (gatherAll (contentAt rows (operandAt rows r 1) .listed) marks) ≡ withAll all (gatherAll (contentAt rows at .listed) marks)
-    pub some-have : (p : ℕ) → List·Memᴰ p (componentRows rows r) → HasSets rows sets p ⊎ List·Memᴰ p (memberRows (contentAt rows at .listed))
+    pub some-have : (p : ℕ) → List·Memᴰ p (componentRows rows r) → HasSets rows sets p ⊎ List·Memᴰ p (processRows (contentAt rows at .listed))
     pub onward : r < at
 
   pub gathering-starts : (r : ℕ) {sets : List ℕ} {at : ℕ} → r < rowCount rows → SetsFrom rows sets (suc r) → at ≡ operandAt rows r 1 → Gathering r sets noNumbers at
@@ -135,7 +135,7 @@ module _ (rows : List ℤ) where
         higher = f;
         sized = refl;
         so-far = ap (λ (a : ℕ). withAll noNumbers (gatherAll (contentAt rows a .listed) marks)) (sym e);
-        some-have = λ p m. inr (subst (λ (a : ℕ). List·Memᴰ p (memberRows (contentAt rows a .listed))) (sym e) m);
+        some-have = λ p m. inr (subst (λ (a : ℕ). List·Memᴰ p (processRows (contentAt rows a .listed))) (sym e) m);
         onward = omega (arith, operand-higher rows r 1 h);
       }
 
@@ -164,7 +164,7 @@ module _ (rows : List ℤ) where
           still : (k : ℕ) → HasSets rows sets k → HasSets rows sets′ k
           still k h = subst (λ (ws : List ℕ). HasSets rows ws k) (sym f) (component-keeps sets (g .higher .sized) p k h)
 
-          next-members : (t : Bool) → isSome (contentAt rows p .process) ≡ t → (c : ℕ) → List·Memᴰ c (memberRows (contentAt rows at .listed)) → HasSets rows sets′ c ⊎ List·Memᴰ c (memberRows (contentAt rows q .listed))
+          next-members : (t : Bool) → isSome (contentAt rows p .process) ≡ t → (c : ℕ) → List·Memᴰ c (processRows (contentAt rows at .listed)) → HasSets rows sets′ c ⊎ List·Memᴰ c (processRows (contentAt rows q .listed))
           next-members true i c m =
               ⊎-elim (λ o. inl (subst (λ (ws : List ℕ). HasSets rows ws c) (sym f) (subst (HasSets rows (withComponent rows sets p)) (sym o) (component-there sets (g .higher .sized) p (process-below rows p i))))) inr
               (List·Memᴰ·cases-cons (subst (List·Memᴰ c) (member-there rows at link first next i) m))

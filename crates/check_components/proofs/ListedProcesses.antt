@@ -10,7 +10,7 @@ use lib.IntN.{ℤ}
 use Rattle.meaning.specs.Basics.{isSome, anyPasses, among}
 use Rattle.meaning.specs.Rows.{rowCount, fieldAt, naturalAt, kindAt}
 use Rattle.meaning.specs.Kinds.{processes}
-use Rattle.meaning.specs.Tree.{Process, Processes, empty, also, andProcess, rowOf, Content, contentOf, contentAt}
+use Rattle.meaning.specs.Tree.{Process, Processes, empty, also, andProcess, rowOf, Content, contentOf, contentAt, processRows}
 use Rattle.meaning.proofs.Decides.{Decides, holding}
 use Rattle.meaning.proofs.ReferenceCounts.{decides-among}
 use Rattle.base_layout.specs.Operands.{operandAt}
@@ -19,7 +19,6 @@ use Rattle.base_layout.proofs.Parts.{part-past, higherContent, operand-higher}
 use Rattle.base_layout.proofs.RowKinds.{each-kind, by-kind}
 use Rattle.check_components.specs.Fields.{isLink}
 use Rattle.check_components.proofs.Links.{link-below, link-members, no-members}
-use Rattle.check_components.specs.RowSets.{memberRows}
 
 -- a process and what is listed, in the content of row r
 abbrev Own : ℕ → Option Process → Processes → Type 0
@@ -80,22 +79,22 @@ module _ (rows : List ℤ) where
 
   -- the members that a link lists: its own, if a process stands there, and those of the next link
   module _ (at : ℕ) (link : isLink rows at ≡ true) {p q : ℕ} (first : p ≡ operandAt rows at 1) (next : q ≡ operandAt rows at 2) where
-    pub member-there : isSome (contentAt rows p .process) ≡ true → memberRows (contentAt rows at .listed) ≡ p ∷ memberRows (contentAt rows q .listed)
-    member-there e = ap memberRows (link-members rows at link first next) ∙ go (contentAt rows p .process) refl e
+    pub member-there : isSome (contentAt rows p .process) ≡ true → processRows (contentAt rows at .listed) ≡ p ∷ processRows (contentAt rows q .listed)
+    member-there e = ap processRows (link-members rows at link first next) ∙ go (contentAt rows p .process) refl e
       where
-        go : (o : Option Process) → contentAt rows p .process ≡ o → isSome o ≡ true → memberRows (andProcess o (contentAt rows q .listed)) ≡ p ∷ memberRows (contentAt rows q .listed)
+        go : (o : Option Process) → contentAt rows p .process ≡ o → isSome o ≡ true → processRows (andProcess o (contentAt rows q .listed)) ≡ p ∷ processRows (contentAt rows q .listed)
         go none i t = absurd (false≢true t)
-        go (some x) i t = ap (λ (r : ℕ). r ∷ memberRows (contentAt rows q .listed)) (stands p x i .0)
+        go (some x) i t = ap (λ (r : ℕ). r ∷ processRows (contentAt rows q .listed)) (stands p x i .0)
 
-    pub member-missing : isSome (contentAt rows p .process) ≡ false → memberRows (contentAt rows at .listed) ≡ memberRows (contentAt rows q .listed)
-    member-missing e = ap memberRows (link-members rows at link first next) ∙ go (contentAt rows p .process) e
+    pub member-missing : isSome (contentAt rows p .process) ≡ false → processRows (contentAt rows at .listed) ≡ processRows (contentAt rows q .listed)
+    member-missing e = ap processRows (link-members rows at link first next) ∙ go (contentAt rows p .process) e
       where
-        go : (o : Option Process) → isSome o ≡ false → memberRows (andProcess o (contentAt rows q .listed)) ≡ memberRows (contentAt rows q .listed)
+        go : (o : Option Process) → isSome o ≡ false → processRows (andProcess o (contentAt rows q .listed)) ≡ processRows (contentAt rows q .listed)
         go none t = refl
         go (some x) t = absurd (false≢true (sym t))
 
-  pub no-link-rows : (at : ℕ) → isLink rows at ≡ false → memberRows (contentAt rows at .listed) ≡ []
-  no-link-rows at e = ap memberRows (no-members rows at e)
+  pub no-link-rows : (at : ℕ) → isLink rows at ≡ false → processRows (contentAt rows at .listed) ≡ []
+  no-link-rows at e = ap processRows (no-members rows at e)
 
   -- each member stands at its row
   abbrev pub AllStand : Processes → Type 0

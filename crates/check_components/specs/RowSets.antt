@@ -1,13 +1,13 @@
 -- The sets of rows, sixteen words for each: those of the PARs from a row on, and of their components.
 use mathlib.Core.Path.{_≡_}
-use mathlib.Core.List.{List, [], _∷_, _++_, List·Memᴰ}
+use mathlib.Core.List.{List, _++_, List·Memᴰ}
 use Prim.Native.Nat.{ℕ, _+_, _*_, _<_, _≤_}
 use lib.IntN.{ℤ}
 use lib.ListN.{length, take, drop}
 use lib.Dec.{ltb}
 use Rattle.meaning.specs.Basics.{ifElse}
 use Rattle.meaning.specs.Rows.{rowCount, kindAt}
-use Rattle.meaning.specs.Tree.{Processes, empty, also, rowOf, contentAt}
+use Rattle.meaning.specs.Tree.{processRows, contentAt}
 use Rattle.base_layout.specs.Operands.{operandAt}
 use Rattle.base_sets.specs.Sets.{withAll, noNumbers, setsAt}
 use Rattle.check_components.specs.Marks.{allMarks}
@@ -15,11 +15,6 @@ use Rattle.check_components.specs.Marks.{allMarks}
 -- sets with sixteen words put in the place of those of row r
 abbrev pub storedAt : List ℕ → ℕ → List ℕ → List ℕ
 storedAt ws r own = take (16 * r) ws ++ (own ++ drop (16 * r + 16) ws)
-
--- the rows of some processes
-abbrev pub memberRows : Processes → List ℕ
-memberRows empty = []
-memberRows (also p ms) = rowOf p ∷ memberRows ms
 
 module _ (rows : List ℤ) where
   -- what the process at row p counts for
@@ -32,7 +27,7 @@ module _ (rows : List ℤ) where
 
   -- the rows of the components of the PAR at row r
   abbrev pub componentRows : ℕ → List ℕ
-  componentRows r = memberRows (contentAt rows (operandAt rows r 1) .listed)
+  componentRows r = processRows (contentAt rows (operandAt rows r 1) .listed)
 
   -- the sets of every PAR from row r on are there
   abbrev pub ParsHave : List ℕ → ℕ → Type 0

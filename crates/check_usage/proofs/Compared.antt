@@ -12,7 +12,7 @@ use Rattle.meaning.specs.Basics.{among, common}
 use Rattle.meaning.specs.Rows.{rowCount}
 use Rattle.meaning.specs.Declarations.{declarations}
 use Rattle.meaning.specs.Faults.{WithinLimits}
-use Rattle.meaning.specs.Tree.{Process, Processes, empty, also, rowOf}
+use Rattle.meaning.specs.Tree.{Process, Processes, empty, also, rowOf, processRows}
 use Rattle.meaning.specs.Usage.{gather, cellClash, inputClash, outputClash, Pair, pairsWith, pairs, Comparison, clashes}
 use Rattle.base_sets.specs.Sets.{withAll, share, inCommon, noNumbers}
 use Rattle.base_sets.proofs.Bools.{or-none}
@@ -20,7 +20,7 @@ use Rattle.base_sets.proofs.SetLaws.{meets-four}
 use Rattle.base_sets.proofs.Holds.{holds, all-holds, none-holds, fit-all, fit-none}
 use Rattle.base_sets.proofs.Meets.{decides-same, meets-both, common-both}
 use Rattle.check_components.specs.Marks.{marks, allMarks}
-use Rattle.check_components.specs.RowSets.{memberRows, HasSets}
+use Rattle.check_components.specs.RowSets.{HasSets}
 use Rattle.check_components.proofs.Sorts.{Sort, changed, used, inputFrom, outputTo, code, code-below, listOf}
 use Rattle.check_components.proofs.ProcessSorts.{gather-sort}
 use Rattle.check_usage.specs.Search.{meetBy, testsOf, HaveSets}
@@ -65,7 +65,7 @@ module _ (rows : List ℤ) (ws : List ℕ) where
   AllHave empty = Unit {0}
   AllHave (also p ms) = Has p × AllHave ms
 
-  pub all-have : (ms : Processes) → AllStand rows ms → ((c : ℕ) → List·Memᴰ c (memberRows ms) → HasSets rows ws c) → AllHave ms
+  pub all-have : (ms : Processes) → AllStand rows ms → ((c : ℕ) → List·Memᴰ c (processRows ms) → HasSets rows ws c) → AllHave ms
   all-have empty s f = tt
   all-have (also p ms) s f = ((s .0, f (rowOf p) (List·Memᴰ·head refl)), all-have ms (s .1) (λ c m. f c (List·Memᴰ·tail m)))
 
@@ -86,7 +86,7 @@ module _ (rows : List ℤ) (ws : List ℕ) where
       (ap₂ share (word p s (a + 3) (i + 3) (omega arith) (omega arith)) (word q t (b + 3) (j + 3) (omega arith) (omega arith)))
 
   -- the sets of members are within
-  pub have-sets : length ws ≡ 16 * rowCount rows → (ms : Processes) → AllStand rows ms → HaveSets (memberRows ms) ws
+  pub have-sets : length ws ≡ 16 * rowCount rows → (ms : Processes) → AllStand rows ms → HaveSets (processRows ms) ws
   have-sets l empty s j h = absurd (omega arith)
   have-sets l (also p ms) s zero h = omega (arith, s .0 .below)
   have-sets l (also p ms) s (suc j) h = have-sets l ms (s .1) j (omega arith)
@@ -110,11 +110,11 @@ module _ (rows : List ℤ) (ws : List ℕ) where
           )
 
       -- the tests by sets of the members of a PAR are the clashes of its pairs
-      with-each : (p : Process) (ms : Processes) → Has p → AllHave ms → map (meetBy ws number (rowOf p)) (memberRows ms) ≡ map clashes (map (comparison number r) (pairsWith p ms))
+      with-each : (p : Process) (ms : Processes) → Has p → AllHave ms → map (meetBy ws number (rowOf p)) (processRows ms) ≡ map clashes (map (comparison number r) (pairsWith p ms))
       with-each p empty f g = refl
       with-each p (also q ms) f g = ap₂ (λ (t : Bool) (l : List Bool). t ∷ l) (compares p q f (g .0)) (with-each p ms f (g .1))
 
-      pub tests-are : (ms : Processes) → AllHave ms → testsOf (meetBy ws number) (memberRows ms) ≡ map clashes (map (comparison number r) (pairs ms))
+      pub tests-are : (ms : Processes) → AllHave ms → testsOf (meetBy ws number) (processRows ms) ≡ map clashes (map (comparison number r) (pairs ms))
       unfolding testsOf
       tests-are empty g = refl
       tests-are (also p ms) g =

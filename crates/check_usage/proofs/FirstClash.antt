@@ -18,7 +18,7 @@ use Rattle.meaning.specs.Basics.{ifElse}
 use Rattle.meaning.specs.Rows.{rowCount, fieldAt, naturalAt, kindAt}
 use Rattle.meaning.specs.Nodes.{nodeAt}
 use Rattle.meaning.specs.HigherRows.{atRow}
-use Rattle.meaning.specs.Tree.{Content, noContent, contentOf, contentAt, contents}
+use Rattle.meaning.specs.Tree.{Content, noContent, contentOf, contentAt, contents, processRows}
 use Rattle.meaning.specs.Usage.{Pair, pairs, Comparison, comparisonsIn, comparisonsOf, comparisons, clashes, firstClash, compared, refusalOf, pairsCompared, usageFault}
 use Rattle.meaning.specs.Verdict.{limitFault}
 use Rattle.meaning.specs.Answers.{checked}
@@ -27,7 +27,7 @@ use Rattle.meaning.proofs.StageLaws.{limit-none}
 use Rattle.base_layout.specs.Operands.{operandAt}
 use Rattle.base_layout.proofs.Parts.{higherContent, part-of-kind}
 use Rattle.base_layout.proofs.RowKinds.{each-kind, above-operand, by-kind}
-use Rattle.check_components.specs.RowSets.{memberRows, SetsFrom}
+use Rattle.check_components.specs.RowSets.{SetsFrom}
 use Rattle.check_usage.specs.declared.pairs.Search.{Search}
 use Rattle.check_usage.specs.Search.{meetBy, testsOf, searched, verdictOn}
 use Rattle.check_components.proofs.ListedProcesses.{listed-stand}
@@ -95,12 +95,12 @@ module _ (rows : List ℤ) (number : ℕ) where
       (λ q. refl) (λ q. absurd (n q)) (λ q. refl) (λ q. refl) (λ q. refl) (λ q. refl) (λ q. refl) (λ q. refl) (λ q. refl) (λ q. refl) refl)
 
   -- the tests by sets are the clashes of the comparisons
-  pub par-tests : (r : ℕ) → limitFault rows ≡ none → r < rowCount rows → kindAt rows r ≡ 31 → {a : ℕ} {ps ws : List ℕ} → a ≡ operandAt rows r 1 → SetsFrom rows ws 0 → ps ≡ memberRows (contentAt rows a .listed)
+  pub par-tests : (r : ℕ) → limitFault rows ≡ none → r < rowCount rows → kindAt rows r ≡ 31 → {a : ℕ} {ps ws : List ℕ} → a ≡ operandAt rows r 1 → SetsFrom rows ws 0 → ps ≡ processRows (contentAt rows a .listed)
       → testsOf (meetBy ws number) ps ≡ map clashes (comparisonsIn number (contentAt rows r .process))
   par-tests r limits h e {a} {ws} p g f =
       ap (testsOf (meetBy ws number)) f
       ∙ tests-are rows ws (limit-none rows .0 limits) number r (contentAt rows a .listed)
-      (all-have rows ws (contentAt rows a .listed) (listed-stand rows a) (λ c m. g .components r c (omega arith) h e (subst (λ (b : ℕ). List·Memᴰ c (memberRows (contentAt rows b .listed))) p m)))
+      (all-have rows ws (contentAt rows a .listed) (listed-stand rows a) (λ c m. g .components r c (omega arith) h e (subst (λ (b : ℕ). List·Memᴰ c (processRows (contentAt rows b .listed))) p m)))
       ∙ ap (map clashes) (sym (par-pairs r h e p))
 
   row-verdict : (r before : ℕ) → r < rowCount rows → verdictOn before (comparisonsIn number (contentAt rows r .process)) ≡ ofSearch number r (searched before (map clashes (comparisonsIn number (contentAt rows r .process))))

@@ -10,17 +10,16 @@ use lib.ListN.{length, take, set, length-set}
 use lib.Seq.{take-suc-set, append-snoc}
 use Rattle.meaning.specs.Basics.{isSome}
 use Rattle.meaning.specs.Rows.{rowCount}
-use Rattle.meaning.specs.Tree.{contentAt}
+use Rattle.meaning.specs.Tree.{contentAt, processRows}
 use Rattle.base_layout.specs.Operands.{operandAt}
 use Rattle.base_layout.proofs.Parts.{operand-higher}
 use Rattle.check_components.specs.Fields.{isLink}
 use Rattle.check_components.proofs.Links.{link-below}
-use Rattle.check_components.specs.RowSets.{memberRows}
 use Rattle.check_components.proofs.ListedProcesses.{member-there, member-missing, no-link-rows}
 
 -- the first `count` rows are those of the members that row m lists before the link at `at`
 pub record Put (rows : List ℤ) (m : ℕ) (members : List ℕ) (count at : ℕ) : Type 0 where
-  pub listed : memberRows (contentAt rows m .listed) ≡ take count members ++ memberRows (contentAt rows at .listed)
+  pub listed : processRows (contentAt rows m .listed) ≡ take count members ++ processRows (contentAt rows at .listed)
   pub room : length members ≡ 1024
   pub passed : count ≤ at
   pub within : count ≤ rowCount rows
@@ -47,5 +46,5 @@ module _ {rows : List ℤ} {m : ℕ} {members : List ℕ} {count at : ℕ} (so :
           within = so .within;
         }
 
-  pub put-all : isLink rows at ≡ false → take count members ≡ memberRows (contentAt rows m .listed)
+  pub put-all : isLink rows at ≡ false → take count members ≡ processRows (contentAt rows m .listed)
   put-all e = sym (so .listed ∙ ap (λ (l : List ℕ). take count members ++ l) (no-link-rows rows at e) ∙ append-nil (take count members))

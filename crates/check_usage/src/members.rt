@@ -4,8 +4,7 @@ ghost use Prim.Native.Nat.{_≤_};
 ghost use lib.ListN.{length, take};
 ghost use Rattle.meaning.specs.Basics.{isSome};
 ghost use Rattle.meaning.specs.Rows.{rowCount};
-ghost use Rattle.meaning.specs.Tree.{contentAt};
-ghost use Rattle.check_components.specs.RowSets.{memberRows};
+ghost use Rattle.meaning.specs.Tree.{contentAt, processRows};
 use base_layout::nodes::natural;
 use base_layout::nodes::operand;
 use check_components::is_link;
@@ -23,7 +22,7 @@ fn is_process(rows: &[i32], p: usize) -> bool
 // The rows of the processes listed from row m on are put into `members`; tells how many they are.
 pub fn members_of<'a>(rows: &'a [i32], m: usize, members: &mut [u16]) -> usize
     requires { ⌜ (rowCount (now rows) ≤ 1024) × (length (now members) ≡ 1024) ⌝ }
-    ensures { λ count. ⌜ (count ≤ 1024) × (take count (now (members .exit)) ≡ memberRows (contentAt (now (rows .entry)) m .listed)) ⌝ }
+    ensures { λ count. ⌜ (count ≤ 1024) × (take count (now (members .exit)) ≡ processRows (contentAt (now (rows .entry)) m .listed)) ⌝ }
 {
     let mut count = 0;
     let mut at = m;

@@ -19,7 +19,7 @@ use Rattle.meaning.specs.Declarations.{declarations, root}
 use Rattle.meaning.specs.Nodes.{nodeAt}
 use Rattle.meaning.specs.References.{of-a, of-b, fieldOf, Refers}
 use Rattle.meaning.specs.Faults.{Placed}
-use Rattle.meaning.specs.Tree.{Process, Processes, empty, Content, noContent, andProcess, contentOf, contentAt, orStop, rowOf, processesIn}
+use Rattle.meaning.specs.Tree.{Process, Processes, empty, Content, noContent, andProcess, contentOf, contentAt, orStop, rowOf, processesIn, processRows}
 use Rattle.meaning.specs.State.{Program, program, processAt}
 use Rattle.meaning.specs.Answers.{check}
 use Rattle.meaning.proofs.AnswerLaws.{RightRows, accepted}
@@ -29,7 +29,7 @@ use Rattle.agreement.proofs.Separate.{processes-length}
 use Rattle.meaning.specs.ContentClaims.{higherContent}
 use Rattle.agreement.proofs.TableTree.{part-past, process-is, Known, every-row}
 use Rattle.agreement.proofs.TableReferences.{members-shape, while-shape, block-shape, member-shape, choice-shape, option-shape, Leading, Shaped, Holding, Fields, fields-are, refers-to, refers-up, placed-at, once}
-use Rattle.machine.specs.Upward.{processRows, parentOf}
+use Rattle.machine.specs.Upward.{parentOf}
 use Rattle.machine.proofs.Parents.{among-is, is-among, own-row, parent-has}
 
 module _ (rows : List ℤ) (A : RightRows rows) where

@@ -13,7 +13,7 @@ use Rattle.meaning.specs.declared.Node.{Node}
 use Rattle.meaning.specs.declared.Node.the-variants.{Literal, Element, Monadic, Dyadic, Stop, Skip, Assignment, Input, Output, Seq, Par, If, While, Alt, Block, Member, Choice, OptionRow, Guard, Other}
 use Rattle.meaning.specs.Basics.{ifElse, among, lowest, Lowest}
 use Rattle.meaning.specs.Nodes.{nodeAt}
-use Rattle.meaning.specs.Tree.{Process, Processes, empty, Content, noContent, andProcess, contentOf, contentAt, orStop, rowOf, processesIn}
+use Rattle.meaning.specs.Tree.{Process, Processes, empty, Content, noContent, andProcess, contentOf, contentAt, orStop, rowOf, processesIn, processRows}
 use Rattle.meaning.specs.Settle.{isEnded}
 use Rattle.meaning.specs.State.{Program, program, processAt}
 use Rattle.meaning.proofs.LowestLaws.{lowest-is}
@@ -21,7 +21,7 @@ use Rattle.meaning.proofs.Decides.{Decides, holding, failing}
 use Rattle.meaning.proofs.ReferenceCounts.{decides-among}
 use Rattle.meaning.specs.ContentClaims.{higherContent}
 use Rattle.agreement.proofs.TableTree.{Known, every-row, process-is}
-use Rattle.machine.specs.Upward.{processRows, ofParent, parentOf, goesOnAt, upward}
+use Rattle.machine.specs.Upward.{ofParent, parentOf, goesOnAt, upward}
 
 -- the lowest number that passes a test passes it
 pub lowest-passes : (p : ℕ → Bool) (n i : ℕ) → lowest p n ≡ some i → (i < n) × T (p i)

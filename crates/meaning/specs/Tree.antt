@@ -160,6 +160,11 @@ orStop (some p) = p
 abbrev pub rowOf : Process → ℕ
 rowOf (node a r ms) = r
 
+-- the rows of some processes
+abbrev pub processRows : Processes → List ℕ
+processRows empty = []
+processRows (also p ms) = rowOf p ∷ processRows ms
+
 abbrev pub actionOf : Process → Action
 actionOf (node a r ms) = a
 

@@ -12,7 +12,7 @@ use borrow.Author.Tests.{eqb-true, eqb-false, eq-eqb, ne-eqb, ltb-true, ltb-fals
 use Rattle.meaning.specs.Basics.{ifElse, isSome}
 use Rattle.meaning.specs.Rows.{rowCount, fieldAt, naturalAt, kindAt}
 use Rattle.meaning.specs.Kinds.{processes}
-use Rattle.meaning.specs.Tree.{Process, Processes, empty, also, andProcess, contentAt, orStop, rowOf, processesIn}
+use Rattle.meaning.specs.Tree.{Process, Processes, empty, also, andProcess, contentAt, orStop, rowOf, processesIn, processRows}
 use Rattle.meaning.specs.State.{program, processAt}
 use Rattle.meaning.proofs.AnswerLaws.{accepted}
 use Rattle.agreement.proofs.TableTree.{process-is}
@@ -22,7 +22,7 @@ use Rattle.run_parents.specs.Shapes.{shapeAt}
 use Rattle.run_parents.specs.declared.shape.Shape.{Shape}
 use Rattle.run_parents.specs.declared.shape.Shape.the-variants.{Ending, Single, Link, Neither}
 use Rattle.run_parents.proofs.Standing.{Stands, stands}
-use Rattle.machine.specs.Upward.{processRows, parentOf, processesAfter}
+use Rattle.machine.specs.Upward.{parentOf, processesAfter}
 use Rattle.machine.specs.RowSteps.{altOf}
 use Rattle.machine.proofs.Parents.{own-row, parent-has}
 use Rattle.run_parents.specs.Marks.{rowNote}

@@ -12,7 +12,7 @@ use lib.Dec.{ltb, eqb}
 use borrow.Author.Tests.{ltb-false, eqb-true, eqb-false}
 use Rattle.meaning.specs.Basics.{ifElse, isSome, anyPasses, among, lowest}
 use Rattle.meaning.specs.Rows.{rowCount}
-use Rattle.meaning.specs.Tree.{Process, Processes, empty, Content, andProcess, contentAt, orStop, rowOf, processesIn}
+use Rattle.meaning.specs.Tree.{Process, Processes, empty, Content, andProcess, contentAt, orStop, rowOf, processesIn, processRows}
 use Rattle.meaning.specs.State.{program, processAt}
 use Rattle.agreement.proofs.TableTree.{part-past, process-is}
 use Rattle.agreement.proofs.Separate.{processes-length}
@@ -22,7 +22,7 @@ use Rattle.run_parents.specs.declared.shape.Mode as code
 use Rattle.run_parents.specs.declared.shape.Shape.{Shape}
 use Rattle.run_parents.specs.declared.shape.Shape.the-variants.{Ending, Single, Link, Neither}
 use Rattle.run_parents.proofs.Standing.{EndingAt, SingleAt, LinkAt, Stands, stands}
-use Rattle.machine.specs.Upward.{processRows, parentOf}
+use Rattle.machine.specs.Upward.{parentOf}
 use Rattle.run_parents.specs.Marks.{rowNote, firstNote}
 use Rattle.run_parents.proofs.Below.{lowest-none, lowest-next}
 use Rattle.run_parents.specs.Parents.{inTable, whereFree, NotedAtEach, ProcessesNoted, ProcessNoted, RowNoted}

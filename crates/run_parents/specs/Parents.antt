@@ -10,14 +10,14 @@ use lib.ListN.{length, getD, set}
 use lib.Dec.{ltb, eqb}
 use Rattle.meaning.specs.Basics.{ifElse, among, lowest}
 use Rattle.meaning.specs.Rows.{rowCount}
-use Rattle.meaning.specs.Tree.{Processes, contentAt, processesIn}
+use Rattle.meaning.specs.Tree.{Processes, contentAt, processesIn, processRows}
 use Rattle.meaning.specs.Usage.{numbersFrom}
 use Rattle.meaning.specs.State.{program, processAt}
 use Rattle.run_parents.specs.declared.shape.Shape.{Shape}
 use Rattle.run_parents.specs.declared.shape.Shape.the-variants.{Ending, Single, Link, Neither}
 use Rattle.run_parents.specs.Members.{onlyProcess}
 use Rattle.run_parents.specs.Shapes.{shapeAt}
-use Rattle.machine.specs.Upward.{processRows, parentOf}
+use Rattle.machine.specs.Upward.{parentOf}
 use Rattle.run_parents.specs.Marks.{rowNote, firstNote}
 
 -- row t, or the row after the last where it is past the table

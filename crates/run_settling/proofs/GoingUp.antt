@@ -11,12 +11,12 @@ use lib.ListN.{getD}
 use borrow.Author.Tests.{eq-eqb, ne-eqb}
 use Rattle.meaning.specs.declared.Node.{Node}
 use Rattle.meaning.specs.Rows.{rowCount, naturalAt, kindAt}
-use Rattle.meaning.specs.Tree.{Expr, Action, loop, Process, node, Content, contentOf, contentAt, orStop, rowOf, actionOf, processesIn}
+use Rattle.meaning.specs.Tree.{Expr, Action, loop, Process, node, Content, contentOf, contentAt, orStop, rowOf, actionOf, processesIn, processRows}
 use Rattle.meaning.specs.Settle.{isEnded, mode, endsWhenClosed}
 use Rattle.meaning.specs.State.{program, processAt}
 use Rattle.base_layout.proofs.Parts.{higherContent, part-past, part-of-kind}
 use Rattle.run_parents.proofs.KindCases.{kind-cases}
-use Rattle.machine.specs.Upward.{processRows, processesAfter, reset, parentOf}
+use Rattle.machine.specs.Upward.{processesAfter, reset, parentOf}
 use Rattle.machine.specs.Counts.{Kept, keptOf, comesTo, stateSet, remain, startMembers, goesOnCounted, goesOnCountedAt, upwardCounted, changeUpCounted, endUpCounted}
 use Rattle.machine.proofs.Parents.{parent-has, parent-below}
 use Rattle.machine.proofs.Starting.{start-none}

@@ -5,10 +5,10 @@ use mathlib.Core.List.{List, List·Memᴰ, List·Memᴰ·not-nil}
 use Prim.Native.Nat.{ℕ, _-_, _<_, _≤_}
 use native.Mathlib.Omega.{arith}
 use lib.IntN.{ℤ}
-use Rattle.meaning.specs.Tree.{Process, contentAt, orStop, processesIn}
+use Rattle.meaning.specs.Tree.{Process, contentAt, orStop, processesIn, processRows}
 use Rattle.meaning.specs.State.{program}
 use Rattle.agreement.proofs.TableTree.{process-is}
-use Rattle.machine.specs.Upward.{processRows, parentOf}
+use Rattle.machine.specs.Upward.{parentOf}
 use Rattle.machine.proofs.Parents.{parent-has, parent-below}
 use Rattle.run_parents.specs.Marks.{rowNote}
 use Rattle.run_code.specs.Prepared.{Prepared, placeAt}
