@@ -79,6 +79,7 @@ pub mod UsageNames
 pub mod UsageBearers
 pub mod UsageClashes
 pub mod UsageMembers
+pub mod EachRow
 pub mod UsageFirst
 pub mod VerdictStages
 pub mod UsageExact

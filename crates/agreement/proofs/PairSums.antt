@@ -1,27 +1,27 @@
 -- The count of an accepted table in closed form: all pairs of each PAR, three times.
 use mathlib.Core.Path.{_≡_, refl, sym, ap, _∙_, subst}
 use mathlib.Core.Logic.{_↔_}
-use mathlib.Core.List.{List, [], _∷_, _++_, map}
+use mathlib.Core.List.{List, _++_, map}
 use mathlib.Core.Option.{none, Option·none-ne-some}
 use Prim.Native.Nat.{ℕ, zero, suc, _+_, _-_, _*_, _<_}
 use native.Mathlib.Nat.{suc-mul, mul-suc}
 use native.Mathlib.Decide.{decLt}
 use native.Mathlib.Omega.{arith}
 use lib.IntN.{ℤ}
-use lib.ListN.{length, length-map, length-append, getD}
+use lib.ListN.{length, length-map, length-append}
 use Rattle.meaning.specs.declared.Node.{Node}
 use Rattle.meaning.specs.declared.Node.the-variants.{Par}
 use Rattle.meaning.specs.Rows.{rowCount}
 use Rattle.meaning.specs.Declarations.{sumBelow}
 use Rattle.meaning.specs.Nodes.{nodeAt}
-use Rattle.meaning.specs.Tree.{Process, Processes, empty, also, Content, noContent, contentOf, contentAt, contents}
+use Rattle.meaning.specs.Tree.{Process, Processes, empty, also, Content, contentOf, contentAt, contents}
 use Rattle.meaning.specs.Usage.{pairsWith, pairs, Comparison, comparisonsIn, comparisonsOf, comparisons, pairsCompared, usageFault}
 use Rattle.meaning.specs.MemberPairs.{ComponentAt}
 use Rattle.agreement.specs.VerdictClaims.{Passed}
 use Rattle.agreement.proofs.UsageReferences.{passed-fits}
 use Rattle.agreement.proofs.UsageParts.{part-is}
 use Rattle.agreement.proofs.UsageFirst.{Looks, a-par, no-par, looks, parOf}
-use Rattle.agreement.proofs.UsageExact.{parts-length, parts-at}
+use Rattle.agreement.proofs.EachRow.{each-row}
 use Rattle.agreement.proofs.PairMembers.{sizeOf, component-par, at-place, below-size, place-there}
 use Rattle.agreement.proofs.PairsInOrder.{comparing}
 use Rattle.agreement.proofs.PairsCounted.{compared-all}
@@ -81,31 +81,16 @@ module _ (rows : List ℤ) (passed : Passed rows) (m : ℕ → ℕ) (counts : (r
               by (yes h) = let (a, u, v) = component-par rows (counts r 0 .0 h .1) in absurd (Option·none-ne-some a (sym f ∙ ap parOf (sym e ∙ u)))
               by (no h) = omega arith
 
-  from-row : (l : List Content) (j : ℕ) → length l + j ≡ rowCount rows → ((k : ℕ) → k < length l → getD l k noContent ≡ contentAt rows (k + j)) → 2 * length (comparisonsOf number l) + sumBelow twice j ≡ sumBelow twice (length l + j)
+  number-length : 2 * length (comparisonsOf number (contents rows)) ≡ sumBelow twice (rowCount rows)
   unfolding sumBelow
-  from-row [] j e f = let ends : j ≡ 0 + j = omega arith in omega (arith, ap (sumBelow twice) ends)
-  from-row (x ∷ l) j e f =
-      let one = ap (λ (y : Content). 2 * length (comparisonsIn number (y .process))) here ∙ row-length j (omega arith) in
-      omega (arith, length-append (comparisonsIn number (x .process)) (comparisonsOf number l), one, from-row l (suc j) (omega arith) later, ap (sumBelow twice) (ends l))
-    where
-      ends : (l : List Content) → length l + suc j ≡ suc (length l) + j
-      ends l = omega arith
-
-      here : x ≡ contentAt rows j
-      here = f 0 (omega arith) ∙ ap (contentAt rows) (omega arith)
-
-      later : (k : ℕ) → k < length l → getD l k noContent ≡ contentAt rows (k + suc j)
-      later k i = f (suc k) (omega arith) ∙ ap (contentAt rows) (omega arith)
+  number-length =
+      let all = each-row rows (λ j l. 2 * length (comparisonsOf number l) + sumBelow twice j ≡ sumBelow twice (rowCount rows)) (omega arith)
+      (λ j l h e. omega (arith, e, length-append (comparisonsIn number (contentAt rows j .process)) (comparisonsOf number l), row-length j h)) in
+      omega arith
 
 module _ (rows : List ℤ) (passed : Passed rows) (m : ℕ → ℕ) (counts : (r i : ℕ) → (i < m r) ↔ ((p : ℕ) × ComponentAt rows r i p)) where
-  number-length : (number : ℕ) → 2 * length (comparisonsOf number (contents rows)) ≡ sumBelow (twice rows passed m counts number) (rowCount rows)
-  unfolding sumBelow
-  number-length number =
-      let all = parts-length rows passed in
-      omega (arith, from-row rows passed m counts number (contents rows) 0 all (λ k l. parts-at rows passed k), ap (sumBelow (twice rows passed m counts number)) all)
-
   pub all-length : usageFault rows ≡ none → 2 * pairsCompared rows ≡ 3 * sumBelow (λ r. m r * (m r - 1)) (rowCount rows)
   unfolding usageFault pairsCompared comparisons
   all-length e =
       let l = contents rows in
-      omega (arith, compared-all rows passed (comparisons rows) e, length-append (comparisonsOf 7 l) (comparisonsOf 8 l ++ comparisonsOf 9 l), length-append (comparisonsOf 8 l) (comparisonsOf 9 l), number-length 7, number-length 8, number-length 9)
+      omega (arith, compared-all rows passed (comparisons rows) e, length-append (comparisonsOf 7 l) (comparisonsOf 8 l ++ comparisonsOf 9 l), length-append (comparisonsOf 8 l) (comparisonsOf 9 l), number-length rows passed m counts 7, number-length rows passed m counts 8, number-length rows passed m counts 9)

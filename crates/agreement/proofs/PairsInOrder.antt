@@ -7,12 +7,11 @@ use Prim.Native.Nat.{ℕ, suc, _+_, _≤_, _<_}
 use native.Mathlib.Nat.{eq-or-lt-of-le}
 use native.Mathlib.Omega.{arith}
 use lib.IntN.{ℤ}
-use lib.ListN.{length, getD}
 use Rattle.meaning.specs.declared.Node.{Node}
 use Rattle.meaning.specs.declared.Node.the-variants.{Par}
 use Rattle.meaning.specs.Rows.{rowCount}
 use Rattle.meaning.specs.Nodes.{nodeAt}
-use Rattle.meaning.specs.Tree.{Process, Processes, empty, also, Content, noContent, contentOf, contentAt, contents}
+use Rattle.meaning.specs.Tree.{Process, Processes, empty, also, Content, contentOf, contentAt, contents}
 use Rattle.meaning.specs.Usage.{Pair, pairsWith, pairs, Comparison, comparisonsIn, comparisonsOf, comparisons}
 use Rattle.meaning.specs.MemberPairs.{MemberPair, Earlier, by-number, by-row, by-first, by-second, InOrder, ComponentAt, IsPair}
 use Rattle.agreement.specs.VerdictClaims.{Passed}
@@ -20,7 +19,7 @@ use Rattle.agreement.specs.PairClaims.{ComponentIs, OneByOne, no-more, o
 use Rattle.agreement.proofs.UsageReferences.{passed-fits}
 use Rattle.agreement.proofs.UsageParts.{part-is}
 use Rattle.agreement.proofs.UsageFirst.{Looks, a-par, no-par, looks, parOf}
-use Rattle.agreement.proofs.UsageExact.{parts-length, parts-at}
+use Rattle.agreement.proofs.EachRow.{each-row}
 use Rattle.agreement.proofs.PairOrder.{in-order-append}
 use Rattle.agreement.proofs.PairMembers.{sizeOf, AtPlace, foremost, behind, component-par, at-place, below-size, place-there}
 
@@ -187,24 +186,20 @@ module _ (rows : List ℤ) where
     abbrev FromRow : ℕ → MemberPair → Type 0
     FromRow j x = (x .number ≡ number) × (j ≤ x .row) × Two x
 
-    from-row : (l : List Content) (j : ℕ) → length l + j ≡ rowCount rows → ((k : ℕ) → k < length l → getD l k noContent ≡ contentAt rows (k + j)) → Listed (FromRow j) (comparisonsOf number l)
-    from-row [] j e f = ([], tt, (λ y. ((λ h. absurd (List·Memᴰ·not-nil h)), (λ h. absurd (none-there y h)))), no-more)
+    none-behind : Listed (FromRow (rowCount rows)) []
+    none-behind = ([], tt, (λ y. ((λ h. absurd (List·Memᴰ·not-nil h)), (λ h. absurd (none-there y h)))), no-more)
       where
-        none-there : (y : MemberPair) → FromRow j y → ⊥
+        none-there : (y : MemberPair) → FromRow (rowCount rows) y → ⊥
         none-there y (n, b, (d, (p, c), q)) = let (a, u, v) = component-par rows c in omega arith
-    from-row (x ∷ l) j e f =
-        listed-append (subst (λ (y : Content). Listed (InRow j) (comparisonsIn number (y .process))) (sym here) (row-listed j (omega arith))) (from-row l (suc j) (omega arith) later)
+
+    with-row : (j : ℕ) (l : List Content) → j < rowCount rows → Listed (FromRow (suc j)) (comparisonsOf number l) → Listed (FromRow j) (comparisonsOf number (contentAt rows j ∷ l))
+    with-row j l i h =
+        listed-append (row-listed j i) h
         (λ y z g h. let (a, b, _) = g in let (c, d, _) = h in by-row (a ∙ sym c) (omega arith))
         (λ y. (
           (λ g. ⊎-elim (λ h. let (a, b, t) = h in (a, omega arith, t)) (λ h. let (a, b, t) = h in (a, omega arith, t)) g),
           (λ g. let (a, b, t) = g in ⊎-elim (λ i. inl (a, sym i, t)) (λ i. inr (a, i, t)) (eq-or-lt-of-le b)),
         ))
-      where
-        here : x ≡ contentAt rows j
-        here = f 0 (omega arith) ∙ ap (contentAt rows) (omega arith)
-
-        later : (k : ℕ) → k < length l → getD l k noContent ≡ contentAt rows (k + suc j)
-        later k i = f (suc k) (omega arith) ∙ ap (contentAt rows) (omega arith)
 
     -- of one number
     abbrev OfNumber : MemberPair → Type 0
@@ -212,7 +207,7 @@ module _ (rows : List ℤ) where
 
     number-listed : Listed OfNumber (comparisonsOf number (contents rows))
     number-listed =
-        let (s, a, b, c) = from-row (contents rows) 0 (parts-length rows passed) (λ k l. parts-at rows passed k) in
+        let (s, a, b, c) = each-row rows (λ j l. Listed (FromRow j) (comparisonsOf number l)) none-behind with-row in
         (s, a, (λ x. ((λ h. let (n, u, t) = b x .0 h in (n, t)), (λ h. b x .1 (h .0, omega arith, h .1)))), c)
 
   module _ (passed : Passed rows) where

@@ -7,20 +7,16 @@ use Prim.Native.Nat.{ℕ, suc, _+_, _<_}
 use native.Mathlib.Decide.{decLt}
 use native.Mathlib.Omega.{arith}
 use lib.IntN.{ℤ}
-use lib.ListN.{length, getD}
 use lib.Dec.{eqb}
 use Rattle.meaning.specs.Basics.{ifElse, Lowest}
 use Rattle.meaning.specs.Rows.{rowCount}
-use Rattle.meaning.specs.Nodes.{nodeAt}
-use Rattle.meaning.specs.Tree.{noContent, contentOf, contents, contentAt}
+use Rattle.meaning.specs.Tree.{contents}
 use Rattle.meaning.specs.Usage.{Comparison, comparisonsOf, comparisons, clashes, cellClash, inputClash, outputClash, firstClash, refusalOf, usageFault}
 use Rattle.meaning.specs.Clash.{Components, components, Clash, cell-clash, input-clash, output-clash}
-use Rattle.meaning.specs.HigherRows.{atRow}
-use Rattle.meaning.proofs.HigherRows.{lastRows-length}
 use Rattle.meaning.proofs.LowestLaws.{lowest-one}
 use Rattle.agreement.specs.VerdictClaims.{Passed, NoClash, LowestClash, UsagePasses, UsageFaults, UsageExact}
 use Rattle.agreement.proofs.UsageClashes.{Cells, BothInput, BothOutput, decides-cells, decides-inputs, decides-outputs}
-use Rattle.agreement.proofs.UsageFirst.{member-par, orElse, first-append, FromRow, from-row}
+use Rattle.agreement.proofs.UsageFirst.{member-par, orElse, first-append, FromRow, first-of-rows}
 
 -- a clash's test, by its number
 pub seven : (c : Comparison) → c .number ≡ 7 → clashes c ≡ cellClash (c .pair .one) (c .pair .other)
@@ -84,15 +80,6 @@ module _ (rows : List ℤ) (passed : Passed rows) where
       to (inr (inl h)) = absurd (let e = h .0 in omega arith)
       to (inr (inr h)) = h .1
 
-  -- the parts of all rows
-  pub parts-length : length (contents rows) + 0 ≡ rowCount rows
-  unfolding contents
-  parts-length = omega (arith, lastRows-length noContent (λ r at. contentOf rows r at (nodeAt rows r)) (rowCount rows) (rowCount rows))
-
-  pub parts-at : (k : ℕ) → getD (contents rows) k noContent ≡ contentAt rows (k + 0)
-  unfolding contents contentAt atRow
-  parts-at k = ap (contentAt rows) (omega arith)
-
   -- the first clash of a number
   abbrev First : ℕ → Option Comparison → Type 0
   First k none = (q : ℕ) → ¬ Clash rows q k
@@ -105,17 +92,17 @@ module _ (rows : List ℤ) (passed : Passed rows) where
   first-seven : First 7 (firstClash (comparisonsOf 7 (contents rows)))
   first-seven =
       at-start 7 (firstClash (comparisonsOf 7 (contents rows)))
-      (from-row rows passed 7 cellClash seven CellsEither (decides-cells rows passed) (λ p q h. ⊎-elim inr inl h) sevens (contents rows) 0 parts-length (λ k l. parts-at k))
+      (first-of-rows rows passed 7 cellClash seven CellsEither (decides-cells rows passed) (λ p q h. ⊎-elim inr inl h) sevens)
 
   first-eight : First 8 (firstClash (comparisonsOf 8 (contents rows)))
   first-eight =
       at-start 8 (firstClash (comparisonsOf 8 (contents rows)))
-      (from-row rows passed 8 inputClash eight (BothInput rows passed) (decides-inputs rows passed) (λ p q h. (h .0, (h .1 .0, h .1 .2, h .1 .1))) eights (contents rows) 0 parts-length (λ k l. parts-at k))
+      (first-of-rows rows passed 8 inputClash eight (BothInput rows passed) (decides-inputs rows passed) (λ p q h. (h .0, (h .1 .0, h .1 .2, h .1 .1))) eights)
 
   first-nine : First 9 (firstClash (comparisonsOf 9 (contents rows)))
   first-nine =
       at-start 9 (firstClash (comparisonsOf 9 (contents rows)))
-      (from-row rows passed 9 outputClash nine (BothOutput rows passed) (decides-outputs rows passed) (λ p q h. (h .0, (h .1 .0, h .1 .2, h .1 .1))) nines (contents rows) 0 parts-length (λ k l. parts-at k))
+      (first-of-rows rows passed 9 outputClash nine (BothOutput rows passed) (decides-outputs rows passed) (λ p q h. (h .0, (h .1 .0, h .1 .2, h .1 .1))) nines)
 
   -- the lowest row of the lowest number
   abbrev pub Least : Option (ℕ × ℕ) → Type 0

@@ -8,13 +8,12 @@ use Prim.Native.Nat.{ℕ, suc, _+_, _≤_, _<_}
 use native.Mathlib.Nat.{eq-or-lt-of-le}
 use native.Mathlib.Omega.{arith}
 use lib.IntN.{ℤ}
-use lib.ListN.{length, getD}
 use Rattle.meaning.specs.declared.Node.{Node}
 use Rattle.meaning.specs.declared.Node.the-variants.{Literal, Element, Monadic, Dyadic, Stop, Skip, Assignment, Input, Output, Seq, Par, If, While, Alt, Block, Member, Choice, OptionRow, Guard, Other}
 use Rattle.meaning.specs.Basics.{ifElse}
 use Rattle.meaning.specs.Rows.{rowCount, naturalAt}
 use Rattle.meaning.specs.Nodes.{nodeAt}
-use Rattle.meaning.specs.Tree.{Process, Content, noContent, contentOf, contentAt}
+use Rattle.meaning.specs.Tree.{Process, Content, contentOf, contentAt, contents}
 use Rattle.meaning.specs.Usage.{Pair, pairs, Comparison, comparisonsIn, comparisonsOf, clashes, firstClash}
 use Rattle.meaning.specs.Clash.{IsMember, member-first, member-next, Components, components, Clash}
 use Rattle.meaning.proofs.Decides.{Decides, holding, failing, is-true}
@@ -23,6 +22,7 @@ use Rattle.agreement.proofs.TableReferences.{Fields, fields-are}
 use Rattle.agreement.proofs.UsageRows.{Fits}
 use Rattle.agreement.proofs.UsageReferences.{first-node, process-node, passed-fits, first-refers}
 use Rattle.agreement.proofs.UsageParts.{part-is}
+use Rattle.agreement.proofs.EachRow.{each-row}
 use Rattle.agreement.proofs.UsageClashes.{IsProcess}
 use Rattle.agreement.proofs.UsageMembers.{Chain, process-at, chain-at, Apart, apart, member-is, pairs-to, member-from, pairs-from}
 
@@ -217,18 +217,10 @@ module _ (rows : List ℤ) where
     )
     onward j (some c) u f g = let e = f .1 in (f .0, omega arith, subst (λ (k : ℕ). Clash rows k number) (sym e) (f .2), λ q i l. absurd (omega arith))
 
-    -- of the parts of the rows from j on
-    pub from-row : (l : List Content) (j : ℕ) → length l + j ≡ rowCount rows → ((k : ℕ) → k < length l → getD l k noContent ≡ contentAt rows (k + j)) → FromRow number j (firstClash (comparisonsOf number l))
+    -- the first clash of all rows
+    pub first-of-rows : FromRow number 0 (firstClash (comparisonsOf number (contents rows)))
     unfolding firstClash
-    from-row [] j e f = λ q i h. let w = clash-par q h .2 in absurd (omega arith)
-    from-row (x ∷ l) j e f =
-        subst (FromRow number j) (sym (first-append (comparisonsIn number (x .process)) (comparisonsOf number l)))
-        (onward j (firstClash (comparisonsIn number (x .process))) (firstClash (comparisonsOf number l))
-        (subst (λ (y : Content). AtRow j (firstClash (comparisonsIn number (y .process)))) (sym here) (at-row j (omega arith)))
-        (from-row l (suc j) (omega arith) later))
-      where
-        here : x ≡ contentAt rows j
-        here = f 0 (omega arith) ∙ ap (contentAt rows) (omega arith)
-
-        later : (k : ℕ) → k < length l → getD l k noContent ≡ contentAt rows (k + suc j)
-        later k i = f (suc k) (omega arith) ∙ ap (contentAt rows) (omega arith)
+    first-of-rows =
+        each-row rows (λ j l. FromRow number j (firstClash (comparisonsOf number l))) (λ q i h. let w = clash-par q h .2 in absurd (omega arith)) (λ j l h g.
+        subst (FromRow number j) (sym (first-append (comparisonsIn number (contentAt rows j .process)) (comparisonsOf number l)))
+        (onward j (firstClash (comparisonsIn number (contentAt rows j .process))) (firstClash (comparisonsOf number l)) (at-row j h) g))

@@ -145,14 +145,13 @@ module _ (rows : List ℤ) where
       at-higher j = operand-higher rows at j (link-below rows at link)
 
       pub gathering-pars : ParsHave rows sets p
-      gathering-pars = (g .higher .sized, λ k h. g .higher .pars k (omega (arith, g .onward, at-higher 1)))
+      gathering-pars = (g .higher .pars .0, λ k h. g .higher .pars .1 k (omega (arith, g .onward, at-higher 1)))
 
       pub gathering-goes : {sets′ all′ : List ℕ} → all′ ≡ withAll all (allMarks (contentAt rows p .process)) → sets′ ≡ withComponent rows sets p → Gathering r sets′ all′ q
       gathering-goes {sets′} {all′} e f =
           record {
             higher = record {
-              sized = ap length f ∙ component-length sets (g .higher .sized) p ∙ g .higher .sized;
-              pars = λ k h l i. still k (g .higher .pars k h l i);
+              pars = (ap length f ∙ component-length sets (g .higher .pars .0) p ∙ g .higher .pars .0, λ k h l i. still k (g .higher .pars .1 k h l i));
               components = λ k c h l i m. still c (g .higher .components k c h l i m);
             };
             sized = ap length e ∙ all-length all (allMarks (contentAt rows p .process)) ∙ g .sized;
@@ -162,11 +161,11 @@ module _ (rows : List ℤ) where
           }
         where
           still : (k : ℕ) → HasSets rows sets k → HasSets rows sets′ k
-          still k h = subst (λ (ws : List ℕ). HasSets rows ws k) (sym f) (component-keeps sets (g .higher .sized) p k h)
+          still k h = subst (λ (ws : List ℕ). HasSets rows ws k) (sym f) (component-keeps sets (g .higher .pars .0) p k h)
 
           next-members : (t : Bool) → isSome (contentAt rows p .process) ≡ t → (c : ℕ) → List·Memᴰ c (processRows (contentAt rows at .listed)) → HasSets rows sets′ c ⊎ List·Memᴰ c (processRows (contentAt rows q .listed))
           next-members true i c m =
-              ⊎-elim (λ o. inl (subst (λ (ws : List ℕ). HasSets rows ws c) (sym f) (subst (HasSets rows (withComponent rows sets p)) (sym o) (component-there sets (g .higher .sized) p (process-below rows p i))))) inr
+              ⊎-elim (λ o. inl (subst (λ (ws : List ℕ). HasSets rows ws c) (sym f) (subst (HasSets rows (withComponent rows sets p)) (sym o) (component-there sets (g .higher .pars .0) p (process-below rows p i))))) inr
               (List·Memᴰ·cases-cons (subst (List·Memᴰ c) (member-there rows at link first next i) m))
           next-members false i c m = inr (subst (List·Memᴰ c) (member-missing rows at link first next i) m)
 
@@ -177,10 +176,10 @@ module _ (rows : List ℤ) where
         whole = sym (ap (withAll noNumbers) (par-marks rows r h k) ∙ g .so-far ∙ sym (no-call all (no-link-marks rows at e)))
 
         still : (c : ℕ) → HasSets rows sets c → HasSets rows (storedAt sets r (processSets rows r)) c
-        still = kept sets (g .higher .sized) r h
+        still = kept sets (g .higher .pars .0) r h
 
         own : HasSets rows (storedAt sets r (processSets rows r)) r
-        own = stored-there sets (processSets rows r) r (row-within sets (g .higher .sized) r h) (process-sized r)
+        own = stored-there sets (processSets rows r) r (row-within sets (g .higher .pars .0) r h) (process-sized r)
 
         member : (c : ℕ) → List·Memᴰ c (componentRows rows r) → HasSets rows (storedAt sets r (processSets rows r)) c
         member c m = ⊎-elim (still c) (λ i. absurd (List·Memᴰ·not-nil (subst (List·Memᴰ c) (no-link-rows rows at e) i))) (g .some-have c m)
@@ -188,15 +187,17 @@ module _ (rows : List ℤ) where
         stored : SetsFrom rows (storedAt sets r (processSets rows r)) r
         stored =
             record {
-              sized = stored-length sets (processSets rows r) r (row-within sets (g .higher .sized) r h) (process-sized r) ∙ g .higher .sized;
-              pars = λ j l b i. ⊎-elim (λ o. subst (HasSets rows (storedAt sets r (processSets rows r))) o own) (λ u. still j (g .higher .pars j u b i)) (eq-or-lt-of-le l);
+              pars = (
+                stored-length sets (processSets rows r) r (row-within sets (g .higher .pars .0) r h) (process-sized r) ∙ g .higher .pars .0,
+                λ j l b i. ⊎-elim (λ o. subst (HasSets rows (storedAt sets r (processSets rows r))) o own) (λ u. still j (g .higher .pars .1 j u b i)) (eq-or-lt-of-le l),
+              );
               components = λ j c l b i m. ⊎-elim (λ o. member c (subst (λ (z : ℕ). List·Memᴰ c (componentRows rows z)) (sym o) m)) (λ u. still c (g .higher .components j c u b i m)) (eq-or-lt-of-le l);
             }
 
   -- The PARs of a table -------------------------------------------------------------------------------------------------------------
 
   pub none-yet : (sets : List ℕ) (r : ℕ) → length sets ≡ 16 * rowCount rows → rowCount rows ≤ r → SetsFrom rows sets r
-  none-yet sets r e h = record { sized = e; pars = λ k l b i. absurd (omega arith); components = λ k c l b i m. absurd (omega arith) }
+  none-yet sets r e h = record { pars = (e, λ k l b i. absurd (omega arith)); components = λ k c l b i m. absurd (omega arith) }
 
   -- the row before r is next
   module _ (sets : List ℕ) (r : ℕ) (g : SetsFrom rows sets r) where
@@ -206,8 +207,7 @@ module _ (rows : List ℤ) where
     pub no-par-there : (kindAt rows (r - 1) ≡ 31 → ⊥) → SetsFrom rows sets (r - 1)
     no-par-there n =
         record {
-          sized = g .sized;
-          pars = λ k l b i. g .pars k (past k l i) b i;
+          pars = (g .pars .0, λ k l b i. g .pars .1 k (past k l i) b i);
           components = λ k c l b i m. g .components k c (past k l i) b i m;
         }
       where

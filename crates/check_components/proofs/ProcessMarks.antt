@@ -145,10 +145,6 @@ module _ (rows : List ℤ) (r : ℕ) where
     unfolding gather
     all-of-seq e p = rw (part-of-kind rows r 30 h e, above-operand rows r 1 p)
 
-    pub all-of-par : kindAt rows r ≡ 31 → {a : ℕ} → a ≡ operandAt rows r 1 → allMarks (contentAt rows r .process) ≡ ownMarks (contentAt rows r .process) ++ gatherAll (contentAt rows a .listed) marks
-    unfolding gather
-    all-of-par e p = rw (part-of-kind rows r 31 h e, above-operand rows r 1 p)
-
     pub all-of-if : kindAt rows r ≡ 32 → {a : ℕ} → a ≡ operandAt rows r 1 → allMarks (contentAt rows r .process) ≡ ownMarks (contentAt rows r .process) ++ gatherAll (contentAt rows a .listed) marks
     unfolding gather
     all-of-if e p = rw (part-of-kind rows r 32 h e, above-operand rows r 1 p)

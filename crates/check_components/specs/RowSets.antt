@@ -35,8 +35,7 @@ module _ (rows : List ℤ) where
 
   -- and those of its components
   pub record SetsFrom (ws : List ℕ) (r : ℕ) : Type 0 where
-    pub sized : length ws ≡ 16 * rowCount rows
-    pub pars : (k : ℕ) → r ≤ k → k < rowCount rows → kindAt rows k ≡ 31 → HasSets ws k
+    pub pars : ParsHave ws r
     pub components : (k p : ℕ) → r ≤ k → k < rowCount rows → kindAt rows k ≡ 31 → List·Memᴰ p (componentRows k) → HasSets ws p
 
   -- sets with those of the process at row p, if that is a row of the table

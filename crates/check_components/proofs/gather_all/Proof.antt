@@ -47,7 +47,7 @@ loop-again-2 c =
     (no-par-there (c .before .before .before .before .before .before .args .rows .now) (l .sets) (l .r) (l .inv .0) (λ e. c .if1 .left (c .before .natural .ensures ∙ e)), search needs, l .inv .2)
 
 same-length : tie.Need-same-length Inv-loop μ-loop
-same-length c = c .before .loop .inv .0 .sized ∙ sym (c .before .loop .inv .2)
+same-length c = c .before .loop .inv .0 .pars .0 ∙ sym (c .before .loop .inv .2)
 
 returns : tie.Need-returns Inv-loop μ-loop
 returns c =

@@ -70,7 +70,7 @@ store-requires : tie.Need-store-requires Inv-loop μ-loop
 store-requires c κs =
     let s = c .before .before .before .before .before .before .before .before in
     let l = c .before .before .before .before .loop in
-    (row-within (s .args .rows .now) (l .sets) (l .inv .higher .sized) (s .args .r) (s .pre .1), l .inv .sized)
+    (row-within (s .args .rows .now) (l .sets) (l .inv .higher .pars .0) (s .args .r) (s .pre .1), l .inv .sized)
 
 same-length : tie.Need-same-length Inv-loop μ-loop
 same-length c = search needs

@@ -37,7 +37,7 @@ among-requires c κs =
     let rows = s .args .rows .now in
     let a = c .before .before .before .before .before .operand .result in
     let l = length-take (m .result) (m .last .1 .1 .0) in
-    (omega (arith, l, m .ensures .0), omega (arith, l, m .ensures .0, s .pre .3), subst (λ (ps : List ℕ). HaveSets ps (s .args .sets .now)) (sym (m .ensures .1)) (have-sets rows (s .args .sets .now) (s .pre .0 .gathered .sized) (contentAt rows a .listed) (listed-stand rows a)))
+    (omega (arith, l, m .ensures .0), omega (arith, l, m .ensures .0, s .pre .3), subst (λ (ps : List ℕ). HaveSets ps (s .args .sets .now)) (sym (m .ensures .1)) (have-sets rows (s .args .sets .now) (s .pre .0 .gathered .pars .0) (contentAt rows a .listed) (listed-stand rows a)))
 
 same-length : tie.Need-same-length
 same-length c = omega arith

@@ -42,7 +42,7 @@ slice-aggregate-search : tie.Need-slice-aggregate-search
 slice-aggregate-search c =
     let g = c .before .before .before in
     let s = g .before .before .before .before .before .before .before .before .before in
-    let e = g .gather-all .ensures .sized in
+    let e = g .gather-all .ensures .pars .0 in
     sym (ap length (take-at (g .gather-all .last .1 .1 .0) _ _ e) ∙ e)
 
 search-requires : tie.Need-search-requires
@@ -50,7 +50,7 @@ search-requires c κs =
     let g = c .before .before .before in
     let s = g .before .before .before .before .before .before .before .before .before in
     let e = g .gather-all .ensures in
-    record { few = s .pre .0 .0; limits = s .pre .0 .2; gathered = subst (λ (ws : List ℕ). SetsFrom (s .args .rows .now) ws 0) (sym (take-at (g .gather-all .last .1 .1 .0) _ _ (e .sized))) e }
+    record { few = s .pre .0 .0; limits = s .pre .0 .2; gathered = subst (λ (ws : List ℕ). SetsFrom (s .args .rows .now) ws 0) (sym (take-at (g .gather-all .last .1 .1 .0) _ _ (e .pars .0))) e }
 
 same-length : tie.Need-same-length
 same-length c = omega arith
