@@ -2,7 +2,6 @@ pub mod ActionRows
 pub mod Again
 pub mod Allowed
 pub mod Commute
-pub mod Descent
 pub mod Frame
 pub mod Options
 pub mod Parts
@@ -39,7 +38,6 @@ pub mod Beginning
 pub mod MissingMarks
 pub mod MissingPassed
 pub mod MissingPrinted
-pub mod NotEmpty
 pub mod MissingReads
 pub mod TableTree
 pub mod TableReferences
@@ -60,6 +58,7 @@ pub mod UnsetApart
 pub mod Freedom
 pub mod WithoutAlt
 pub mod TableOptions
+pub mod Join
 pub mod OneRest
 pub mod OutputsGrow
 pub mod FewReady
@@ -126,5 +125,7 @@ pub mod DecodedStates
 pub mod CallsOnBytes
 pub mod ResultsRead
 pub mod ListsAnswered
+pub mod CommonState
+pub mod CallsBegin
 pub mod Traces
 pub mod TracedCalls

@@ -1,12 +1,12 @@
 pub mod MissingClaims
 pub mod Statements
-pub mod NotEmptyClaims
 pub mod SettlingClaims
 pub mod VerdictClaims
 pub mod PairClaims
 pub mod SubscriptClaims
 pub mod Coherence
 pub mod TreeClaims
+pub mod CommonClaims
 pub mod CallClaims
 pub mod ValueClaims
 pub mod ChoiceClaims

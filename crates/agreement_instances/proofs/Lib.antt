@@ -1,0 +1,5 @@
+pub mod Concrete
+pub mod TwoOrders
+pub mod NeverRests
+pub mod Crosswise
+pub mod Parted
