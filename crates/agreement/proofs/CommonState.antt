@@ -24,7 +24,7 @@ same-steps rows sheet a w l s o k t q e =
     stays (c .first-comes) (λ x. omega (arith, c .first-takes x, e x)) ∙ sym (stays (c .second-comes) (λ x. omega (arith, c .second-takes x, e x)))
 
 -- an order that goes on
-goes-on : (rows : List ℤ) (sheet : Sheet) {s t : State} {l k : List Label} → OrderOf rows sheet l s → Order (program rows) sheet s k t → OrderOf rows sheet (l ++ k) t
+pub goes-on : (rows : List ℤ) (sheet : Sheet) {s t : State} {l k : List Label} → OrderOf rows sheet l s → Order (program rows) sheet s k t → OrderOf rows sheet (l ++ k) t
 goes-on rows sheet o q = record { beginning = o .beginning; begins = o .begins; order = order-on (program rows) sheet (o .order) q }
 
 pub one-common : OneCommon

@@ -127,5 +127,6 @@ pub mod ResultsRead
 pub mod ListsAnswered
 pub mod CommonState
 pub mod CallsBegin
+pub mod CallsMeet
 pub mod Traces
 pub mod TracedCalls

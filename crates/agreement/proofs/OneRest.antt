@@ -30,7 +30,7 @@ use Rattle.agreement.proofs.Separate.{table-inv}
 use Rattle.agreement.proofs.Beginning.{begins-start}
 use Rattle.agreement.proofs.WithoutAlt.{one-step-diamond}
 
-result-is : (r : RunResult) (o : Outcome) (n k : ℕ) (s : State) → r .outcome ≡ o → r .steps ≡ n → r .ready ≡ k → r .state ≡ s → r ≡ record { outcome = o; steps = n; ready = k; state = s }
+pub result-is : (r : RunResult) (o : Outcome) (n k : ℕ) (s : State) → r .outcome ≡ o → r .steps ≡ n → r .ready ≡ k → r .state ≡ s → r ≡ record { outcome = o; steps = n; ready = k; state = s }
 result-is r o n k s a b c d = rw (← a, ← b, ← c, ← d)
 
 -- an order from a state at rest takes no step

@@ -1,21 +1,23 @@
 -- Two orders of an accepted table without ALT come to a common state, and what they have given to the host agrees as far as both have come.
 -- Each statement is a type that a proof fills. Nothing is said of rest: the table may go on for ever.
 use mathlib.Core.Path.{_≡_}
+use mathlib.Core.Bool.{false}
 use mathlib.Core.Logic.{_⊎_}
-use mathlib.Core.List.{List, [], _∷_, _++_}
+use mathlib.Core.List.{List, [], _∷_, _++_, List·Memᴰ}
 use Prim.Native.Nat.{ℕ, _+_, _-_, _<_, _≤_}
 use native.Mathlib.Decide.{ℕ-discrete}
 use lib.IntN.{ℤ}
 use lib.ListN.{length}
 use Rattle.meaning.specs.declared.Outcome.{Outcome}
 use Rattle.meaning.specs.declared.Answer.the-variants.{Ran}
+use Rattle.meaning.specs.Limits.{maxBudget}
 use Rattle.meaning.specs.Declarations.{hostChannels}
 use Rattle.meaning.specs.TableBytes.{rowsOf}
 use Rattle.meaning.specs.State.{State, Program, program}
 use Rattle.meaning.specs.Labels.{Label, label-discrete}
 use Rattle.meaning.specs.Readings.{Sheet}
 use Rattle.meaning.specs.Order.{Order, OrderOf, RestOf}
-use Rattle.meaning.specs.Buffers.{Buffers}
+use Rattle.meaning.specs.Buffers.{Buffers, tooShort}
 use Rattle.meaning.specs.Decode.{countIn, listedIn}
 use Rattle.meaning.specs.Answers.{Reply, reply, replyToBytes}
 use Rattle.meaning.specs.Accepted.{BothAccepted}
@@ -107,3 +109,32 @@ CallsBegin = (rows : List ℤ) (sheet : List ℕ) → NoAlt rows → RunsBegin r
 -- for a table's bytes
 abbrev pub CallsBeginBytes : Type 0
 CallsBeginBytes = (table sheet : List ℕ) → NoAlt (rowsOf table) → RunsBegin (rowsOf table) (λ choices budget b. replyToBytes table sheet choices budget b)
+
+-- two calls that ran n and m steps can be gone on with: choices by which n steps leave what the first left, choices by which m steps leave what the second left, and
+-- a number of steps, no more than both took, at which the two answer and leave the same
+pub record GoOn (call : List ℕ → ℕ → Buffers → Reply) (n : ℕ) (b one : Buffers) (m : ℕ) (c two : Buffers) : Type 0 where
+  pub first : List ℕ
+  pub second : List ℕ
+  pub steps : ℕ
+  pub first-small : (choice : ℕ) → List·Memᴰ choice first → choice < 65536
+  pub second-small : (choice : ℕ) → List·Memᴰ choice second → choice < 65536
+  pub first-left : call first n b .buffers ≡ one
+  pub second-left : call second m c .buffers ≡ two
+  pub first-further : n ≤ steps
+  pub second-further : m ≤ steps
+  pub bound : steps ≤ n + m
+  pub alike : (lent : Buffers) → tooShort lent ≡ false → call first steps lent ≡ call second steps lent
+
+-- two calls that ran, with no more than 65,536 steps together
+abbrev pub RunsMeet : (List ℕ → ℕ → Buffers → Reply) → Type 0
+RunsMeet call = (choices others : List ℕ) (budget bound : ℕ) (b c : Buffers) (o p : Outcome) (n m ready left : ℕ)
+    → call choices budget b .answer ≡ Ran o n ready → call others bound c .answer ≡ Ran p m left → n + m ≤ maxBudget
+    → GoOn call n b (call choices budget b .buffers) m c (call others bound c .buffers)
+
+-- for rows lent as numbers
+abbrev pub CallsMeet : Type 0
+CallsMeet = (rows : List ℤ) (sheet : List ℕ) → NoAlt rows → RunsMeet (λ choices budget b. reply (record { rows = rows; sheet = sheet; choices = choices; budget = budget }) b)
+
+-- for a table's bytes
+abbrev pub CallsMeetBytes : Type 0
+CallsMeetBytes = (table sheet : List ℕ) → NoAlt (rowsOf table) → RunsMeet (λ choices budget b. replyToBytes table sheet choices budget b)
