@@ -1,5 +1,6 @@
 //! Comparisons of the proved library with the separate program, in whole answers.
 
+mod beginnings;
 mod checks;
 pub mod inputs;
 mod lending;
@@ -7,6 +8,7 @@ mod packed;
 pub mod random;
 mod traces;
 
+pub use beginnings::{compare_beginnings, Ahead};
 use checks::{compare_checks_of_bytes, compare_checks_of_rows};
 use lending::Lending;
 use occam_table::{calls, strip, Buffers, Machine, RowState, Run, Strip};
@@ -52,6 +54,7 @@ pub fn compare(given: &Given, machine: &mut Machine) -> Result<Answer, String> {
     compare_strips(&rows, &answer)?;
     compare_numbers(given, given.numbers.as_ref().unwrap_or(&rows))?;
     compare_binding(given, machine)?;
+    compare_beginnings(given, &answer, machine)?;
     Ok(answer)
 }
 

@@ -34,9 +34,6 @@ fn main() {
 
 /// Choices that follow from the bytes.
 fn choices_of(bytes: &[u8]) -> Vec<u16> {
-    let mixed = bytes.iter().fold(0xCBF2_9CE4_8422_2325, |mixed, &byte| {
-        (mixed ^ u64::from(byte)).wrapping_mul(0x0100_0000_01B3)
-    });
-    let mut random = Random(mixed);
+    let mut random = Random::of(bytes);
     (0..256).map(|_| random.below(65_536) as u16).collect()
 }

@@ -4,6 +4,14 @@
 pub struct Random(pub u64);
 
 impl Random {
+    /// Random numbers that follow from these bytes.
+    pub fn of(bytes: &[u8]) -> Random {
+        let mixed = bytes.iter().fold(0xCBF2_9CE4_8422_2325, |mixed, &byte| {
+            (mixed ^ u64::from(byte)).wrapping_mul(0x0100_0000_01B3)
+        });
+        Random(mixed)
+    }
+
     /// The next number.
     fn next(&mut self) -> u64 {
         self.0 = self.0.wrapping_add(0x9E37_79B9_7F4A_7C15);

@@ -30,6 +30,7 @@ pub mod printing;
 
 pub mod explore;
 pub mod generate;
+pub mod join;
 
 pub use answer::{answer_bytes, answer_rows, Answer, Ran};
 pub use answer::{check_bytes, check_bytes_counted, check_rows, check_rows_counted, Checked};

@@ -57,7 +57,30 @@ struct Offer {
     message: Option<i32>,
 }
 
+/// A step by name: the row by which it is ordered, and the row of the output that takes part in it.
+/// What it does follows from the state in which it is taken.
+#[derive(Clone, Copy, Debug, PartialEq, Eq, Hash)]
+pub struct StepName {
+    pub row: usize,
+    pub output: Option<usize>,
+}
+
 impl Step {
+    /// The name of the step.
+    pub fn name(&self) -> StepName {
+        let passing = match *self {
+            Step::Input { passing, .. } => Some(passing),
+            Step::Option { passing, .. } => passing,
+            _ => None,
+        };
+        let output = passing.and_then(|passing| match passing.from {
+            Source::Output(offer) => Some(offer.row),
+            Source::Host { .. } => None,
+        });
+        let row = self.row();
+        StepName { row, output }
+    }
+
     /// The row by which ready steps are ordered.
     pub fn row(&self) -> usize {
         match *self {

@@ -17,7 +17,8 @@ DIR/000001.args, one line of flags (--budget, --choices; often empty).
   --count N   how many inputs
   --out DIR   where to write them (made if need be)
   --small     at most 40 rows, 1,000 bytes and 40 steps each
-  --kind K    accepted, without-alt, shape, mutated, pairs, or a refusal number 2 to 11 or 14
+  --kind K    accepted, without-alt, shape, mutated, pairs, endless, or a refusal number 2 to 11
+              or 14
               (without it: a mix, about half accepted)
 ";
 
@@ -93,6 +94,7 @@ fn aim_named(name: &str) -> Result<Aim, String> {
         ("shape", _) => Ok(Aim::Shape),
         ("mutated", _) => Ok(Aim::Mutated),
         ("pairs", _) => Ok(Aim::Pairs),
+        ("endless", _) => Ok(Aim::Endless),
         (_, Ok(number @ (2..=11 | 14))) => Ok(Aim::Refusal(number)),
         _ => Err(format!("no kind {name:?} (see --help)")),
     }

@@ -193,7 +193,7 @@ impl Maker<'_> {
     }
 
     /// Adds a communication between two components, once or in two loops; tells if it could.
-    fn communication(
+    pub fn communication(
         &mut self,
         parts: &mut [Rights],
         actions: &mut [Vec<usize>],

@@ -5,11 +5,12 @@ mod blocks;
 mod choices;
 mod communications;
 mod damage;
+mod endless;
 mod expressions;
 mod loops;
 mod maker;
 mod pairs;
-mod random;
+pub mod random;
 mod rights;
 mod shapes;
 mod subscripts;
@@ -45,6 +46,8 @@ pub enum Aim {
     Mutated,
     /// PARs for the count of pairs compared: a table that is accepted, or refused as 7, 8 or 9.
     Pairs,
+    /// An accepted table without ALT: a PAR of loops without an end, which write to the host.
+    Endless,
 }
 
 /// A generated input: the runner's input, choices and budget.
@@ -199,7 +202,7 @@ fn worth(answer: &Answer, plan: Plan) -> u64 {
         (Aim::Refusal(number), Answer::Refused(refusal)) if refusal.number == number => MOST_WORTH,
         (Aim::Refusal(_), _) => 0,
         (_, Answer::Refused(_)) => 0,
-        (Aim::Shape | Aim::Pairs, Answer::Ran(_)) => MOST_WORTH,
+        (Aim::Shape | Aim::Pairs | Aim::Endless, Answer::Ran(_)) => MOST_WORTH,
         (_, Answer::Ran(ran)) => {
             let wanted = ran.outcome == plan.outcome;
             let several = match (plan.small, plan.apart) {
@@ -264,6 +267,9 @@ fn some_rows(random: &mut Random, plan: Plan) -> Vec<Row> {
             false => random.pick(&[SMALL_ROWS, 100, 250, 600, ROWS]),
         };
         return pairs::pars(random, most);
+    }
+    if aim == Aim::Endless {
+        return endless::loops(random, small);
     }
     let par = match aim {
         Aim::Refusal(7..=9) => true,

@@ -97,6 +97,14 @@ impl Rights {
         narrowed
     }
 
+    /// The same rights, but to read this cell only, which is set.
+    pub fn reading_cell(&self, cell: usize) -> Rights {
+        let mut narrowed = self.clone();
+        narrowed.read.fill(false);
+        narrowed.read[cell] = true;
+        narrowed
+    }
+
     /// Takes over which cells the components have set.
     pub fn join(&mut self, parts: &[Rights]) {
         for part in parts {

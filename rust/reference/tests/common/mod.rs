@@ -3,6 +3,7 @@
 
 pub mod clashes;
 pub mod ends;
+pub mod joins;
 
 use reference::printing::printed;
 use reference::{answer_bytes, answer_rows, Answer, Ran, BUDGET_LIMIT, BUFFER_LENGTHS};

@@ -103,8 +103,13 @@ occam-table orders TABLE SHEET [--trials N] [--seed S] [--budget N]
 Runs the desk order (no choices) and N orders of random choices, and reports that they agree in
 outcome, steps, cells, row states, places in the readings and output lists, or how they differ.
 For an accepted table without ALT it is proved that all orders that come to rest agree; with ALT
-they may differ. Orders that spend the budget are counted apart: nothing is promised of them but
-their number of steps.
+they may differ.
+
+Where orders spend the budget, as those of a sheet that loops for ever do, it reports what all gave
+to the host: for each channel what all lists begin with, how far the furthest has come, and where
+two part. For an accepted table without ALT it is proved that of any two orders, whatever their
+lengths, both can go on to one state, and that on each channel one's list is a beginning of the
+other's, absences included; with ALT they may part.
 
   --trials N        how many random orders (default 1000)
   --seed S          the same seed gives the same orders (default 1)
@@ -114,6 +119,7 @@ Exit status: 0 they ran (whether they agree or not), 1 refused, 2 wrong use or a
 Examples:
   occam-table orders examples/kiln.csv examples/kiln.readings.csv --trials 1000 --seed 7
   occam-table orders examples/intake.csv examples/intake.readings.csv
+  occam-table orders examples/watch.csv examples/watch.readings.csv --trials 100 --budget 30
 ";
 
 const EXPLAIN: &str = "\

@@ -4,6 +4,7 @@
 
 mod aligned;
 mod arguments;
+mod beginnings;
 mod check;
 mod explain;
 mod faults;
@@ -16,6 +17,7 @@ mod program;
 mod random;
 mod ready;
 mod report;
+mod results;
 mod run;
 mod sheet_lines;
 mod steps;

@@ -1,50 +1,44 @@
 //! `orders`: many random orders of one table and sheet, and whether they agree.
 
 use crate::arguments::Arguments;
+use crate::beginnings::Beginnings;
 use crate::kinds::ALT;
-use crate::program::Program;
 use crate::random::Random;
 use crate::report::Report;
+use crate::results::{end_words, Results};
 use crate::run::Asked;
 use occam_table::{Machine, Outcome, Refusal, Snapshot, BUDGET};
-
-/// Most different results that are kept and shown.
-const KEPT: usize = 10;
-
-/// A result, how many orders came to it, and the first of them.
-struct Ending {
-    state: Snapshot,
-    orders: u64,
-    first: u64,
-}
 
 /// What the orders came to.
 #[derive(Default)]
 struct Tally {
-    endings: Vec<Ending>,
-    /// Orders that came to rest in a result that was not kept.
-    others: u64,
+    /// What those that rest came to.
+    results: Results,
     /// Orders that spent the budget.
     spent: u64,
+    /// What all of them gave to the host.
+    beginnings: Beginnings,
 }
 
 impl Tally {
     /// Adds an order: 0 is the desk order.
     fn add(&mut self, order: u64, state: Snapshot) {
-        if state.outcome == Outcome::Spent {
-            self.spent += 1;
-            return;
+        self.beginnings.add(order, &state.lists);
+        match state.outcome {
+            Outcome::Spent => self.spent += 1,
+            _ => self.results.add(order, state),
         }
-        let known = self.endings.iter().position(|ending| ending.state == state);
-        match known {
-            Some(number) => self.endings[number].orders += 1,
-            None if self.endings.len() == KEPT => self.others += 1,
-            None => self.endings.push(Ending {
-                state,
-                orders: 1,
-                first: order,
-            }),
-        }
+    }
+
+    /// Whether some orders rest and others don't.
+    fn is_mixed(&self) -> bool {
+        self.spent > 0 && self.results.first().is_some()
+    }
+
+    /// Whether some orders rest and others don't, or rest in different states, or gave lists of
+    /// which none is a beginning of the other.
+    fn differs(&self) -> bool {
+        self.is_mixed() || self.results.differ() || self.beginnings.part()
     }
 }
 
@@ -79,110 +73,88 @@ fn tally(asked: &Asked, trials: u64, seed: u64) -> Result<Tally, Refusal> {
 
 /// The words about what the orders came to.
 fn words_of(asked: &Asked, trials: u64, tally: &Tally) -> String {
+    let (program, budget) = (asked.program(), asked.budget);
     let all = format!("the desk order and {trials} random orders");
-    let mut text = match tally.endings.as_slice() {
-        [] => format!("{all}: none came to rest within {} steps\n", asked.budget),
-        [only] if tally.spent == 0 => {
-            format!("{all} agree: {}, in one state\n", end_words(&only.state))
+    let mut text = match tally.results.first() {
+        None => format!("{all}: none came to rest within {budget} steps\n"),
+        Some(_) if tally.results.differ() => {
+            format!("{all} differ: {}", tally.results.words(&program))
         }
-        [only] => format!("{all}: those that rest agree: {}\n", end_words(&only.state)),
-        several => {
-            let more = if tally.others > 0 { "more than " } else { "" };
-            let count = several.len();
-            let found = differences(&asked.program(), tally);
-            format!("{all} differ: {more}{count} results\n{found}")
+        Some(only) if tally.spent == 0 => {
+            format!("{all} agree: {}, in one state\n", end_words(only))
         }
+        Some(only) => format!("{all}: those that rest agree: {}\n", end_words(only)),
     };
-    if tally.spent > 0 && !tally.endings.is_empty() {
+    if tally.is_mixed() {
         let orders = if tally.spent == 1 { "order" } else { "orders" };
-        text += &format!("{} {orders} spent {} steps\n", tally.spent, asked.budget);
+        text += &format!("{} {orders} spent {budget} steps\n", tally.spent);
     }
-    text
+    if tally.spent > 0 {
+        text += &tally.beginnings.words(&program);
+    }
+    let has_alt = program.rows.iter().any(|row| row.kind == ALT);
+    text + why_words(has_alt, tally)
 }
 
-/// Outcome and steps.
-fn end_words(state: &Snapshot) -> String {
-    let steps = if state.steps == 1 { "step" } else { "steps" };
-    format!("{} after {} {steps}", state.outcome, state.steps)
+/// Why the orders agree or differ; nothing where all agree at rest.
+fn why_words(has_alt: bool, tally: &Tally) -> &'static str {
+    let compared = tally.spent > 0 && !tally.beginnings.are_none();
+    match (has_alt, tally.differs()) {
+        (true, true) => "the table has an ALT, so the order may matter\n",
+        (false, true) => "the table has no ALT: this must not happen, please report it\n",
+        (true, false) if compared => "the table has an ALT, so other orders may differ\n",
+        (false, false) if compared => "it is proved that they agree, since the table has no ALT\n",
+        _ => "",
+    }
 }
 
-/// Each result, and how it differs from the first.
-fn differences(program: &Program, tally: &Tally) -> String {
-    let mut text = String::new();
-    for (number, ending) in tally.endings.iter().enumerate() {
-        let first = match ending.first {
-            0 => "the desk order".to_string(),
-            trial => format!("random order {trial}"),
-        };
-        let orders = if ending.orders == 1 {
-            "order"
-        } else {
-            "orders"
-        };
-        text += &format!(
-            "result {}: {}, {} {orders}, first {first}\n",
-            number + 1,
-            end_words(&ending.state),
-            ending.orders
-        );
-        if number > 0 {
-            text += &difference(program, &tally.endings[0].state, &ending.state);
+#[cfg(test)]
+mod tests {
+    use super::*;
+
+    /// What orders with these outcomes and lists on one channel came to.
+    fn tally(orders: &[(Outcome, &[Option<i32>])]) -> Tally {
+        let mut tally = Tally::default();
+        for (order, &(outcome, list)) in (0..).zip(orders) {
+            let state = Snapshot {
+                outcome,
+                steps: 5,
+                ready: 0,
+                cells: Vec::new(),
+                states: Vec::new(),
+                places: Vec::new(),
+                lists: vec![list.to_vec()],
+            };
+            tally.add(order, state);
+        }
+        tally
+    }
+
+    #[test]
+    fn differences_without_alt_are_to_be_reported() {
+        let (spent, ended) = (Outcome::Spent, Outcome::Ended);
+        let [one, two]: [&[Option<i32>]; 2] = [&[Some(1)], &[Some(2)]];
+        for orders in [
+            [(spent, one), (spent, two)],
+            [(ended, one), (spent, one)],
+            [(ended, one), (ended, two)],
+        ] {
+            let told = why_words(false, &tally(&orders));
+            assert!(told.ends_with("please report it\n"), "{told}");
+            let told = why_words(true, &tally(&orders));
+            assert!(told.ends_with("so the order may matter\n"), "{told}");
         }
     }
-    if tally.others > 0 {
-        text += &format!("{} orders came to other results\n", tally.others);
-    }
-    text += match program.rows.iter().any(|row| row.kind == ALT) {
-        true => "the table has an ALT, so the order may matter\n",
-        false => "the table has no ALT: this must not happen, please report it\n",
-    };
-    text
-}
 
-/// What differs from the first result.
-fn difference(program: &Program, first: &Snapshot, other: &Snapshot) -> String {
-    let mut text = String::new();
-    for variable in program.variables() {
-        for (number, cell) in program.part(variable).enumerate() {
-            let (was, is) = (first.cells[cell], other.cells[cell]);
-            if was != is {
-                let [was, is] = [was, is].map(value_words);
-                text += &format!("  variable {variable} cell {number}: {is}, not {was}\n");
-            }
-        }
-    }
-    for (at, channel) in program.output_channels().enumerate() {
-        let (was, is) = (&first.lists[at], &other.lists[at]);
-        if was != is {
-            let [was, is] = [was, is].map(|list| list_words(list));
-            text += &format!("  channel {channel} to the host: {is}, not {was}\n");
-        }
-    }
-    for (at, channel) in program.reading_channels().enumerate() {
-        let (was, is) = (first.places[at], other.places[at]);
-        if was != is {
-            text += &format!("  channel {channel} from the host: {is} taken, not {was}\n");
-        }
-    }
-    let rows = (0..first.states.len()).filter(|&row| first.states[row] != other.states[row]);
-    let rows: Vec<String> = rows.map(|row| row.to_string()).collect();
-    if !rows.is_empty() {
-        text += &format!("  row states: other ones in {}\n", rows.join(", "));
-    }
-    text
-}
-
-/// A cell's value.
-fn value_words(value: Option<i32>) -> String {
-    value.map_or("unset".to_string(), |z| z.to_string())
-}
-
-/// An output list.
-fn list_words(list: &[Option<i32>]) -> String {
-    let word = |message: &Option<i32>| message.map_or("absent".to_string(), |z| z.to_string());
-    let words: Vec<String> = list.iter().map(word).collect();
-    match list {
-        [] => "nothing".to_string(),
-        _ => words.join(" "),
+    #[test]
+    fn agreement_is_proved_without_alt_only() {
+        let list = [Some(1), None];
+        let orders = [(Outcome::Spent, &list[..1]), (Outcome::Spent, &list[..])];
+        let told = why_words(false, &tally(&orders));
+        assert!(told.starts_with("it is proved"), "{told}");
+        let told = why_words(true, &tally(&orders));
+        assert!(told.ends_with("so other orders may differ\n"), "{told}");
+        let rest: [(Outcome, &[Option<i32>]); 2] = [(Outcome::Stuck, &[]); 2];
+        assert_eq!(why_words(false, &tally(&rest)), "");
     }
 }
