@@ -118,7 +118,7 @@ both-go-on rows sheet w {b} {c} {n} {m} x y few =
       second-left = subst (λ (k : ℕ). reply (task rows sheet (two .choices) k) c .buffers ≡ encode rows (y .end) c) j (two .then-there c (y .buffers-long) (omega (arith, j, few))) ∙ sym (y .left);
       first-further = omega (arith, i);
       second-further = omega (arith, j, v .equally-long);
-      bound = omega (arith, v .first-bound, i, j);
+      steps-bound = omega (arith, v .first-bound, i, j);
       alike = alike-at rows sheet ok read (one .choices) (two .choices) steps (one .end-there ∙ sym second-end) (one .steps-there ∙ sym second-steps) within;
     }
 
@@ -143,6 +143,6 @@ calls-meet-bytes table sheet w choices others budget bound b c o p n m total lef
       second-left = left-by (g .second) m c ∙ g .second-left ∙ sym (left-by others bound c);
       first-further = g .first-further;
       second-further = g .second-further;
-      bound = g .bound;
+      steps-bound = g .steps-bound;
       alike = λ lent long. same (g .first) (g .steps) lent ∙ g .alike lent long ∙ sym (same (g .second) (g .steps) lent);
     }

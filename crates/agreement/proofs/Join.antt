@@ -11,10 +11,14 @@ use Rattle.meaning.specs.Labels.{Label, label-discrete}
 use Rattle.meaning.specs.Readings.{Sheet}
 use Rattle.meaning.specs.Step.{Step}
 use Rattle.meaning.specs.Order.{Order, halt, next-step}
-use Rattle.agreement.specs.CommonClaims.{oneIf, same, times, Common}
+use Rattle.agreement.specs.CommonClaims.{oneIf, times, Common}
+
+-- 1 if two steps are the same, else 0
+abbrev isStep : Label → Label → ℕ
+isStep x y = oneIf (label-discrete ℕ-discrete x y)
 
 -- a step is at most one of two that differ
-at-most-one : (y a x : Label) → a ≢ x → (same y a ≡ 0) ⊎ (same y x ≡ 0)
+at-most-one : (y a x : Label) → a ≢ x → (isStep y a ≡ 0) ⊎ (isStep y x ≡ 0)
 at-most-one y a x ne = go (label-discrete ℕ-discrete y a) (label-discrete ℕ-discrete y x)
   where
     go : (p : Dec (y ≡ a)) (q : Dec (y ≡ x)) → (oneIf p ≡ 0) ⊎ (oneIf q ≡ 0)
@@ -22,8 +26,8 @@ at-most-one y a x ne = go (label-discrete ℕ-discrete y a) (label-discrete ℕ-
     go (yes e) (no n) = inr refl
     go (no n) q = inl refl
 
-same-itself : (y : Label) → same y y ≡ 1
-same-itself y = go (label-discrete ℕ-discrete y y)
+is-itself : (y : Label) → isStep y y ≡ 1
+is-itself y = go (label-discrete ℕ-discrete y y)
   where
     go : (p : Dec (y ≡ y)) → oneIf p ≡ 1
     go (yes e) = refl
@@ -32,7 +36,7 @@ same-itself y = go (label-discrete ℕ-discrete y y)
 -- an order that takes no step is at its beginning
 pub stays : {P : Program} {sheet : Sheet} {s t : State} {l : List Label} → Order P sheet s l t → ((y : Label) → times y l ≡ 0) → s ≡ t
 stays halt h = refl
-stays (next-step {x} g o) h = absurd (omega (arith, h x, same-itself x))
+stays (next-step {x} g o) h = absurd (omega (arith, h x, is-itself x))
 
 pub times-append : (y : Label) (l k : List Label) → times y (l ++ k) ≡ times y l + times y k
 times-append y [] k = omega arith
@@ -76,8 +80,8 @@ module _ (P : Program) (sheet : Sheet) where
                 first-bound = omega arith;
                 second-bound = omega arith;
                 equally-long = omega arith;
-                first-takes = λ y. let c : same y a ≡ same y x = ap (same y) e in omega arith;
-                second-takes = λ y. let c : same y a ≡ same y x = ap (same y) e in omega arith;
+                first-takes = λ y. let c : isStep y a ≡ isStep y x = ap (isStep y) e in omega arith;
+                second-takes = λ y. let c : isStep y a ≡ isStep y x = ap (isStep y) e in omega arith;
               }
           go (no ne) late =
               let (v, q, m) = late ne in
@@ -94,11 +98,11 @@ module _ (P : Program) (sheet : Sheet) where
                 second-takes = λ y. takes-too y (m .second-more) (at-most-one y a x ne) (m .second-takes y);
               }
             where
-              takes : (y : Label) {n : ℕ} → (same y a ≡ 0) ⊎ (same y x ≡ 0) → n ≡ (same y x + 0) - times y l → n ≡ (same y x + 0) - (same y a + times y l)
+              takes : (y : Label) {n : ℕ} → (isStep y a ≡ 0) ⊎ (isStep y x ≡ 0) → n ≡ (isStep y x + 0) - times y l → n ≡ (isStep y x + 0) - (isStep y a + times y l)
               takes y (inl e) f = omega arith
               takes y (inr e) f = omega arith
 
-              takes-too : (y : Label) (n : List Label) → (same y a ≡ 0) ⊎ (same y x ≡ 0) → times y n ≡ times y l - (same y x + 0) → same y a + times y n ≡ (same y a + times y l) - (same y x + 0)
+              takes-too : (y : Label) (n : List Label) → (isStep y a ≡ 0) ⊎ (isStep y x ≡ 0) → times y n ≡ times y l - (isStep y x + 0) → isStep y a + times y n ≡ (isStep y a + times y l) - (isStep y x + 0)
               takes-too y n (inl e) f = omega arith
               takes-too y n (inr e) f = omega arith
 

@@ -36,13 +36,10 @@ abbrev pub oneIf : {x y : Label} → Dec (x ≡ y) → ℕ
 oneIf (yes e) = 1
 oneIf (no n) = 0
 
-abbrev pub same : Label → Label → ℕ
-same x y = oneIf (label-discrete ℕ-discrete x y)
-
 -- how often a step is taken in an order
 abbrev pub times : Label → List Label → ℕ
 times x [] = 0
-times x (y ∷ l) = same x y + times x l
+times x (y ∷ l) = oneIf (label-discrete ℕ-discrete x y) + times x l
 
 -- "a state shown that both come to by some more steps or none": each goes on by the steps that only the other has taken, as often as the
 -- other is ahead; so by at most as many as the other has taken, and both ways are equally long
@@ -98,9 +95,9 @@ StripsBegin rows b c = (channel : ℕ) → channel < hostChannels 2 rows
 
 -- two calls that ran, whatever their choices, budgets and lent buffers
 abbrev pub RunsBegin : List ℤ → (List ℕ → ℕ → Buffers → Reply) → Type 0
-RunsBegin rows call = (choices others : List ℕ) (budget bound : ℕ) (b c : Buffers) (o p : Outcome) (n m ready left : ℕ)
-    → call choices budget b .answer ≡ Ran o n ready → call others bound c .answer ≡ Ran p m left
-    → StripsBegin rows (call choices budget b .buffers) (call others bound c .buffers)
+RunsBegin rows call = (choices choices′ : List ℕ) (budget budget′ : ℕ) (b b′ : Buffers) (o o′ : Outcome) (n n′ ready ready′ : ℕ)
+    → call choices budget b .answer ≡ Ran o n ready → call choices′ budget′ b′ .answer ≡ Ran o′ n′ ready′
+    → StripsBegin rows (call choices budget b .buffers) (call choices′ budget′ b′ .buffers)
 
 -- for rows lent as numbers
 abbrev pub CallsBegin : Type 0
@@ -110,26 +107,26 @@ CallsBegin = (rows : List ℤ) (sheet : List ℕ) → NoAlt rows → RunsBegin r
 abbrev pub CallsBeginBytes : Type 0
 CallsBeginBytes = (table sheet : List ℕ) → NoAlt (rowsOf table) → RunsBegin (rowsOf table) (λ choices budget b. replyToBytes table sheet choices budget b)
 
--- two calls that ran n and m steps can be gone on with: choices by which n steps leave what the first left, choices by which m steps leave what the second left, and
+-- two calls that ran n and n′ steps can be gone on with: choices by which n steps leave what the first left, choices by which n′ steps leave what the second left, and
 -- a number of steps, no more than both took, at which the two answer and leave the same
-pub record GoOn (call : List ℕ → ℕ → Buffers → Reply) (n : ℕ) (b one : Buffers) (m : ℕ) (c two : Buffers) : Type 0 where
+pub record GoOn (call : List ℕ → ℕ → Buffers → Reply) (n : ℕ) (b left : Buffers) (n′ : ℕ) (b′ left′ : Buffers) : Type 0 where
   pub first : List ℕ
   pub second : List ℕ
   pub steps : ℕ
   pub first-small : (choice : ℕ) → List·Memᴰ choice first → choice < 65536
   pub second-small : (choice : ℕ) → List·Memᴰ choice second → choice < 65536
-  pub first-left : call first n b .buffers ≡ one
-  pub second-left : call second m c .buffers ≡ two
+  pub first-left : call first n b .buffers ≡ left
+  pub second-left : call second n′ b′ .buffers ≡ left′
   pub first-further : n ≤ steps
-  pub second-further : m ≤ steps
-  pub bound : steps ≤ n + m
+  pub second-further : n′ ≤ steps
+  pub steps-bound : steps ≤ n + n′
   pub alike : (lent : Buffers) → tooShort lent ≡ false → call first steps lent ≡ call second steps lent
 
 -- two calls that ran, with no more than 65,536 steps together
 abbrev pub RunsMeet : (List ℕ → ℕ → Buffers → Reply) → Type 0
-RunsMeet call = (choices others : List ℕ) (budget bound : ℕ) (b c : Buffers) (o p : Outcome) (n m ready left : ℕ)
-    → call choices budget b .answer ≡ Ran o n ready → call others bound c .answer ≡ Ran p m left → n + m ≤ maxBudget
-    → GoOn call n b (call choices budget b .buffers) m c (call others bound c .buffers)
+RunsMeet call = (choices choices′ : List ℕ) (budget budget′ : ℕ) (b b′ : Buffers) (o o′ : Outcome) (n n′ ready ready′ : ℕ)
+    → call choices budget b .answer ≡ Ran o n ready → call choices′ budget′ b′ .answer ≡ Ran o′ n′ ready′ → n + n′ ≤ maxBudget
+    → GoOn call n b (call choices budget b .buffers) n′ b′ (call choices′ budget′ b′ .buffers)
 
 -- for rows lent as numbers
 abbrev pub CallsMeet : Type 0
