@@ -10,7 +10,7 @@ use native.Mathlib.Omega.{arith}
 use lib.ListN.{length}
 use lib.Dec.{eqb}
 use Rattle.meaning.specs.Basics.{ifElse}
-use Rattle.read_phrases.specs.Outline.{OutlineLine, skip, Lined, lined, Expect, members, choices, options, nothing, one-process, heads, processBeneath, choice, guardBeneath, isDeclaration, expectedBeneath, expectedAfter, mayEnd, Trees, Levels, place, accept, acceptLine, acceptAll, allEnd, levelsEnded, outset, wholeText}
+use Rattle.read_phrases.specs.Outline.{OutlineLine, skip, Lined, lined, Expect, members, choices, options, nothing, one-process, one-member, heads, processBeneath, choice, guardBeneath, isDeclaration, startsBlock, expectedBeneath, expectedAfter, mayEnd, Trees, Levels, place, accept, acceptLine, acceptAll, allEnd, levelsEnded, outset, wholeText, placed}
 use Rattle.read_phrases.specs.OutlineClaims.{Text, Mended, AtMostSkip, no-line, one-skip, LinesLive}
 use Rattle.read_phrases.proofs.LinesComplete.{lines-complete}
 use Rattle.read_phrases.proofs.LinesSound.{lines-sound}
@@ -34,6 +34,7 @@ Due (some (choices ∷ k)) = allEnd k ≡ true
 Due (some (options ∷ k)) = allEnd k ≡ true
 Due (some (nothing ∷ k)) = Due (some k)
 Due (some (one-process ∷ k)) = allEnd k ≡ true
+Due (some (one-member ∷ k)) = allEnd k ≡ true
 Due (some (heads ∷ k)) = allEnd k ≡ true
 
 due-all : (k : Levels) → allEnd k ≡ true → Due (some k)
@@ -44,6 +45,7 @@ due-all (choices ∷ k) h = h
 due-all (options ∷ k) h = h
 due-all (nothing ∷ k) h = due-all k h
 due-all (one-process ∷ k) h = absurd (false≢true h)
+due-all (one-member ∷ k) h = absurd (false≢true h)
 due-all (heads ∷ k) h = absurd (false≢true h)
 
 due-pop : (e : Expect) (k : Levels) → Due (some (e ∷ k)) → Due (some k)
@@ -52,6 +54,7 @@ due-pop choices k h = due-all k h
 due-pop options k h = due-all k h
 due-pop nothing k h = h
 due-pop one-process k h = due-all k h
+due-pop one-member k h = due-all k h
 due-pop heads k h = due-all k h
 
 due-push : (b : Expect) (k : Levels) → allEnd k ≡ true → Due (some (b ∷ k))
@@ -60,15 +63,22 @@ due-push choices k h = h
 due-push options k h = h
 due-push nothing k h = due-all k h
 due-push one-process k h = h
+due-push one-member k h = h
 due-push heads k h = h
+
+-- a process, or a declaration before one, after which a process is due
+due-member : (e later : Expect) (k : Levels) → mayEnd later ≡ true → Due (some (e ∷ k)) → allEnd k ≡ true
+    → (t : Bool) (o : Option Expect) → Due (placed (ifElse t e later) k (ifElse t (some nothing) o))
+unfolding allEnd
+due-member e later k m h a true o = h
+due-member e later k m h a false none = tt
+due-member e later k m h a false (some b) = due-push b (later ∷ k) (rw m a)
 
 due-place : (e : Expect) (k : Levels) (x : OutlineLine) → Due (some (e ∷ k)) → Due (place e k x (expectedBeneath e x))
 unfolding place allEnd mayEnd expectedAfter expectedBeneath
-due-place members k x h = go (processBeneath x)
-  where
-    go : (o : Option Expect) → Due (place members k x o)
-    go none = tt
-    go (some b) = due-push b (members ∷ k) h
+due-place members k x h = due-member one-member members k refl h h (startsBlock x) (processBeneath x)
+due-place one-process k x h = due-member one-process nothing k refl h h (startsBlock x) (processBeneath x)
+due-place one-member k x h = due-member one-member members k refl h h (startsBlock x) (processBeneath x)
 due-place choices k x h = go (choice x)
   where
     go : (o : Option Expect) → Due (place choices k x o)
@@ -80,11 +90,6 @@ due-place options k x h = go (guardBeneath x)
     go none = tt
     go (some b) = due-push b (options ∷ k) h
 due-place nothing k x h = tt
-due-place one-process k x h = go (processBeneath x)
-  where
-    go : (o : Option Expect) → Due (place one-process k x o)
-    go none = tt
-    go (some b) = due-push b (nothing ∷ k) h
 due-place heads k x h = go (isDeclaration x) (processBeneath x) refl
   where
     go : (t : Bool) (o : Option Expect) → isDeclaration x ≡ t → Due (place heads k x (ifElse t (some nothing) o))
@@ -125,6 +130,7 @@ ends (nothing ∷ k) h = go (ends k h)
     go (inl q) = inl q
     go (inr w) = let (l, b, q) = w in inr (l, omega arith, rw (ne-eqb (length k) l (omega arith)) q)
 ends (one-process ∷ k) h = inr (length k, omega arith, rw (eq-eqb (length k) (length k) refl) h)
+ends (one-member ∷ k) h = inr (length k, omega arith, rw (eq-eqb (length k) (length k) refl) h)
 ends (heads ∷ k) h = inr (length k, omega arith, rw (eq-eqb (length k) (length k) refl) h)
 
 mends : (k : Levels) → Due (some k) → (ms : List Lined) × AtMostSkip ms × (levelsEnded (acceptAll (some k) ms) ≡ true)

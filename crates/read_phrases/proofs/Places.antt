@@ -4,7 +4,7 @@ use mathlib.Core.Bool.{Bool, true, false, false≢true}
 use mathlib.Core.Logic.{_≢_}
 use mathlib.Core.List.{List, [], _∷_, _++_, append-nil, append-assoc}
 use mathlib.Core.Option.{Option, none, some, Option·none-ne-some, Option·some-injective}
-use Prim.Native.Nat.{ℕ, suc}
+use Prim.Native.Nat.{ℕ, suc, _+_}
 use native.Mathlib.Omega.{arith}
 use lib.ListN.{length, length-append}
 use Rattle.meaning.specs.Basics.{ifElse}
@@ -133,8 +133,49 @@ module _ {B : Type 0} (Is : B → Lined → Type 0) (lineOf : B → Option Lined
           subst (λ (ds : List B). Placed ds (placeFrom Is lineOf (some k) (suc n) bs)) (append-assoc cs (b ∷ []) bs)
           (rest (some k) (suc n) z (λ y. Option·none-ne-some k (sym y)) (let q = length-append cs (b ∷ []) in omega arith))
 
+  -- after lines that have not failed the place is that of the rest
+  place-on : (cs rest : List B) (o : Option Levels) (n : ℕ) → Read o cs ≢ none → placeFrom Is lineOf o n (cs ++ rest) ≡ placeFrom Is lineOf (Read o cs) (n + length cs) rest
+  unfolding placeFrom orRest readAll
+  place-on [] rest o n h = let e : n ≡ n + 0 = omega arith in ap (λ (m : ℕ). placeFrom Is lineOf o m rest) e
+  place-on (c ∷ cs) rest o n h = go (takeLine Is lineOf o (lineOf c)) h (λ q. place-on cs rest q (suc n))
+    where
+      go : (q : Option Levels) → Read q cs ≢ none → ((q : Option Levels) → Read q cs ≢ none → placeFrom Is lineOf q (suc n) (cs ++ rest) ≡ placeFrom Is lineOf (Read q cs) (suc n + length cs) rest)
+          → orRest Is lineOf q n (placeFrom Is lineOf q (suc n) (cs ++ rest)) ≡ placeFrom Is lineOf (Read q cs) (n + suc (length cs)) rest
+      go none h later = absurd (h (read-none cs))
+      go (some k) h later = let e : suc n + length cs ≡ n + suc (length cs) = omega arith in later (some k) h ∙ ap (λ (m : ℕ). placeFrom Is lineOf (Read (some k) cs) m rest) e
+
+  failed : (bs : List B) → ¬ Mendable Is lineOf bs → Read outset bs ≡ none
+  failed bs n = go (Read outset bs) refl
+    where
+      go : (o : Option Levels) → Read outset bs ≡ o → o ≡ none
+      go none e = refl
+      go (some k) e = absurd (n (alive bs (λ z. Option·none-ne-some k (sym z ∙ e))))
+
+  not-failed : (bs : List B) → Mendable Is lineOf bs → Read outset bs ≢ none
+  not-failed bs m e = dead bs e m
+
+  ended : (bs : List B) → ((ps : Trees) × Document Is lineOf bs ps) → faultLine Is lineOf bs ≡ none
+  unfolding faultLine placeFrom
+  ended bs w =
+      let e = read-exactly bs .1 w in
+      ap (placeFrom Is lineOf outset 1) (sym (append-nil bs)) ∙ place-on bs [] outset 1 (not-ended (Read outset bs) e) ∙ rw e
+
+  found : {bs : List B} {n : ℕ} → Fault Is lineOf bs n → faultLine Is lineOf bs ≡ some n
+  unfolding faultLine placeFrom orRest
+  found (inside cs b ds m n) =
+      let e : takeLine Is lineOf (Read outset cs) (lineOf b) ≡ none = sym (read-last cs b) ∙ failed (cs ++ (b ∷ [])) n in
+      place-on cs (b ∷ ds) outset 1 (not-failed cs m)
+      ∙ ap (λ (q : Option Levels). orRest Is lineOf q (1 + length cs) (placeFrom Is lineOf q (suc (1 + length cs)) ds)) e
+      ∙ ap some (omega arith)
+  found (missing {bs} m n) =
+      ap (placeFrom Is lineOf outset 1) (sym (append-nil bs)) ∙ place-on bs [] outset 1 (not-failed bs m) ∙ go (levelsEnded (Read outset bs)) refl
+    where
+      go : (t : Bool) → levelsEnded (Read outset bs) ≡ t → ifElse t none (some (1 + length bs)) ≡ some (suc (length bs))
+      go true e = absurd (let (ps, d) = read-exactly bs .0 e in n ps d)
+      go false e = ap some (omega arith)
+
   pub fault-exact : FaultExact Is lineOf
   unfolding faultLine readAll
   fault-exact bs =
       let w = placed [] bs outset 1 refl (λ y. Option·none-ne-some _ (sym y)) refl in
-      (λ h. subst (λ (o : Option ℕ). Placed bs o) h w, λ n h. subst (λ (o : Option ℕ). Placed bs o) h w)
+      ((λ h. subst (λ (o : Option ℕ). Placed bs o) h w, ended bs), λ n. (λ h. subst (λ (o : Option ℕ). Placed bs o) h w, found))

@@ -31,9 +31,10 @@ pub data OutlineLine : Type 0 where
 pub data Lined : Type 0 where
   lined : ℕ → OutlineLine → Lined
 
--- what may stand at a level: processes, choices or options in any number; nothing; one process, which must come; declarations and then one process
+-- what may stand at a level: processes, choices or options in any number; nothing; one process, which must come; one that must come, and then processes in any
+-- number; declarations and then one process
 pub data Expect : Type 0 where
-  members choices options nothing one-process heads : Expect
+  members choices options nothing one-process one-member heads : Expect
 
 -- what may stand beneath a line that is a process
 abbrev pub processBeneath : OutlineLine → Option Expect
@@ -100,22 +101,51 @@ isDeclaration (test e) = false
 isDeclaration (guarded e c a) = false
 isDeclaration (allowed e) = false
 
+-- request 05: a variable's declaration before a process at its level makes a block of that process
+abbrev pub declaresVariable : Declaration → Bool
+declaresVariable (variable z n) = true
+declaresVariable (channel z n) = false
+declaresVariable (source n) = false
+declaresVariable (sink z n) = false
+
+abbrev pub startsBlock : OutlineLine → Bool
+startsBlock (declare d) = declaresVariable d
+startsBlock skip = false
+startsBlock stop = false
+startsBlock (assign a e) = false
+startsBlock (input c a) = false
+startsBlock (output c e) = false
+startsBlock seq = false
+startsBlock par = false
+startsBlock ifs = false
+startsBlock alts = false
+startsBlock (while e) = false
+startsBlock (test e) = false
+startsBlock (guarded e c a) = false
+startsBlock (allowed e) = false
+
+-- what may stand beneath a line that is a process, or a declaration before one
+abbrev pub memberBeneath : OutlineLine → Option Expect
+memberBeneath x = ifElse (startsBlock x) (some nothing) (processBeneath x)
+
 -- what may stand beneath a line, if it may stand where something is expected
 unfoldable pub expectedBeneath : Expect → OutlineLine → Option Expect
-expectedBeneath members x = processBeneath x
+expectedBeneath members x = memberBeneath x
 expectedBeneath choices x = choice x
 expectedBeneath options x = guardBeneath x
 expectedBeneath nothing x = none
-expectedBeneath one-process x = processBeneath x
+expectedBeneath one-process x = memberBeneath x
+expectedBeneath one-member x = memberBeneath x
 expectedBeneath heads x = ifElse (isDeclaration x) (some nothing) (processBeneath x)
 
 -- what is expected after it at the same level
 unfoldable pub expectedAfter : Expect → OutlineLine → Expect
-expectedAfter members x = members
+expectedAfter members x = ifElse (startsBlock x) one-member members
 expectedAfter choices x = choices
 expectedAfter options x = options
 expectedAfter nothing x = nothing
-expectedAfter one-process x = nothing
+expectedAfter one-process x = ifElse (startsBlock x) one-process nothing
+expectedAfter one-member x = ifElse (startsBlock x) one-member members
 expectedAfter heads x = ifElse (isDeclaration x) heads nothing
 
 -- whether nothing more need come
@@ -125,6 +155,7 @@ mayEnd choices = true
 mayEnd options = true
 mayEnd nothing = true
 mayEnd one-process = false
+mayEnd one-member = false
 mayEnd heads = false
 
 -- lines as trees: each with the lines beneath it
@@ -146,9 +177,13 @@ pub data Block : Expect → ℕ → List Lined → Trees → Type 0 where
 abbrev pub Levels : Type 0
 Levels = List Expect
 
+-- a level with what is expected on it, and beneath it
+abbrev pub placed : Expect → Levels → Option Expect → Option Levels
+placed later k none = none
+placed later k (some b) = some (b ∷ later ∷ k)
+
 unfoldable pub place : Expect → Levels → OutlineLine → Option Expect → Option Levels
-place e k x none = none
-place e k x (some b) = some (b ∷ expectedAfter e x ∷ k)
+place e k x o = placed (expectedAfter e x) k o
 
 -- a line ends every level beneath its own
 unfoldable pub accept : Levels → ℕ → OutlineLine → Option Levels

@@ -59,7 +59,7 @@ module _ {B : Type 0} (Is : B → Lined → Type 0) (lineOf : B → Option Lined
   faultLine bs = placeFrom outset 1 bs
 
   abbrev pub FaultExact : Type 0
-  FaultExact = (bs : List B) → (faultLine bs ≡ none → (ps : Trees) × Document bs ps) × ((n : ℕ) → faultLine bs ≡ some n → Fault bs n)
+  FaultExact = (bs : List B) → (faultLine bs ≡ none ↔ ((ps : Trees) × Document bs ps)) × ((n : ℕ) → (faultLine bs ≡ some n) ↔ Fault bs n)
 
   -- what is asked of the lines: the function decides the relation, and SKIP can be written at every level
   pub record Lines : Type 0 where

@@ -1,17 +1,28 @@
--- What is claimed of a text, as the bytes of its lines without their line feeds.
-use Rattle.read_phrases.specs.Places as places
-use Rattle.read_phrases.specs.LineBytes.{IsLine, lineOfBytes}
+-- What is claimed of a text's bytes: which texts are of the grammar, that each is read in one way, and where the others are refused by 12.
+use mathlib.Core.Path.{_≡_}
+use mathlib.Core.Logic.{_↔_}
+use mathlib.Core.List.{List}
+use mathlib.Core.Option.{none, some}
+use Prim.Native.Nat.{ℕ, _<_, _≤_}
+use lib.ListN.{length}
+use Rattle.meaning.specs.Lines.{lines}
+use Rattle.read_phrases.specs.Outline.{Trees}
+use Rattle.read_phrases.specs.Places.{Document, Fault}
+use Rattle.read_phrases.specs.TextBytes.{maxText, IsTextLine, textLine, grammarFault}
 
--- the lines are read exactly if they are declarations and one process; as one; and the reader fails at the first line that no lines after it could mend
-abbrev pub TextExactly : Type 0
-TextExactly = places.ReadExactly IsLine lineOfBytes
+-- a text of the grammar and the trees of its lines: at most 32,768 bytes; its lines are declarations and one process
+abbrev pub OfGrammar : List ℕ → Trees → Type 0
+OfGrammar text ps = (length text ≤ maxText) × Document IsTextLine textLine (lines text) ps
 
-abbrev pub TextUnique : Type 0
-TextUnique = places.ReadUnique IsLine lineOfBytes
+-- 12: a text that is too long, at 0; else the first line that no lines after it could mend, or the line after the last, if the text only begins one of the grammar
+pub data NotOfGrammar (text : List ℕ) : ℕ → Type 0 where
+  too-long : maxText < length text → NotOfGrammar text 0
+  at-line : {n : ℕ} → length text ≤ maxText → Fault IsTextLine textLine (lines text) n → NotOfGrammar text n
 
-abbrev pub TextPlaceExact : Type 0
-TextPlaceExact = places.PlaceExact IsLine lineOfBytes
+-- a text is refused by 12 exactly so, and passes exactly if it is of the grammar
+abbrev pub GrammarExactly : Type 0
+GrammarExactly = (text : List ℕ) → (grammarFault text ≡ none ↔ ((ps : Trees) × OfGrammar text ps)) × ((n : ℕ) → (grammarFault text ≡ some n) ↔ NotOfGrammar text n)
 
--- where it is refused: at the first line that no lines after it could mend, or after the last line if the text only begins a good one
-abbrev pub TextFaultExact : Type 0
-TextFaultExact = places.FaultExact IsLine lineOfBytes
+-- "its reading is unique"
+abbrev pub OneReading : Type 0
+OneReading = (text : List ℕ) (ps qs : Trees) → OfGrammar text ps → OfGrammar text qs → ps ≡ qs
