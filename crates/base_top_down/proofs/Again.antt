@@ -39,7 +39,7 @@ leading-ends rows (suc k) r = go (declares rows r) refl (leading rows k (suc r))
     go false e d w = ends (omega arith) (omega arith) (λ q i j. absurd (omega arith)) (λ i. e)
 
 -- one place only
-one-end : (rows : List ℤ) (k r d c : ℕ) → Ends rows k r d → Ends rows k r c → d ≡ c
+pub one-end : (rows : List ℤ) (k r d c : ℕ) → Ends rows k r d → Ends rows k r c → d ≡ c
 one-end rows k r d c (ends l h f g) (ends m i s t) = go (decLt d c) (decLt c d)
   where
     go : Dec (d < c) → Dec (c < d) → d ≡ c

@@ -75,7 +75,7 @@ text-plain (b ∷ l) t e = go (eqb b lineFeed) refl (λ u. text-plain l u) e
     go true i next e = none-after l e
     go false i next e = before (text l) refl i next e
 
-fed-read : (line : List ℕ) (y : Lined) → IsTextLine line y → textLine line ≡ some y
+pub fed-read : (line : List ℕ) (y : Lined) → IsTextLine line y → textLine line ≡ some y
 fed-read line y (t, n, e, p) = ap readLine (ap text e ∙ text-whole t (no-feed n)) ∙ line-read p
 
 fed-from : (line : List ℕ) (y : Lined) → textLine line ≡ some y → IsTextLine line y
