@@ -6,6 +6,7 @@ use crate::refusal::Refusal;
 use crate::run::{run, End, Outcome, Taken};
 use crate::sheet::readings_of_bytes;
 use crate::table::{rows_of_bytes, rows_of_numbers, Row, ROWS};
+use crate::text::read_text;
 
 /// Greatest budget.
 pub const BUDGET_LIMIT: u64 = 65_536;
@@ -61,7 +62,7 @@ pub struct Ran {
 /// The verdict on a table, and beside it the count of pairs compared (request 03).
 #[derive(Clone, Debug)]
 pub struct Checked {
-    /// The program, or the first of refusals 2 to 9 and 14.
+    /// The program, or the first of refusals 2 to 9 and 12 to 14.
     pub verdict: Result<Program, Refusal>,
     /// How many pairs of components the clash search compared: up to the clash, it included, or all
     /// in each of the three sorts if there is none; 0 if the table is refused before.
@@ -130,6 +131,18 @@ pub fn answer_rows(
     answer(|| rows_of_numbers(rows), asked, |_| {})
 }
 
+/// The answer to a text.
+pub fn answer_text(
+    text: &[u8],
+    sheet: &[u8],
+    choices: &[u16],
+    budget: u64,
+    lengths: [usize; 7],
+) -> Answer {
+    let asked = Asked::new(sheet, choices, budget, lengths);
+    answer(|| read_text(text), asked, |_| {})
+}
+
 /// The answer to a table of bytes with each step; `lists` are the lengths of the two further lists.
 pub fn traced_bytes(
     table: &[u8],
@@ -156,6 +169,19 @@ pub fn traced_rows(
     traced(|| rows_of_numbers(rows), asked)
 }
 
+/// The answer to a text with each step; `lists` as for bytes.
+pub fn traced_text(
+    text: &[u8],
+    sheet: &[u8],
+    choices: &[u16],
+    budget: u64,
+    lengths: [usize; 7],
+    lists: [usize; 2],
+) -> Traced {
+    let asked = Asked::new(sheet, choices, budget, lengths).with_lists(lists);
+    traced(|| read_text(text), asked)
+}
+
 /// The verdict on a table of bytes: the program, or the first of refusals 2 to 9 and 14.
 pub fn check_bytes(table: &[u8]) -> Result<Program, Refusal> {
     check_bytes_counted(table).verdict
@@ -174,6 +200,11 @@ pub fn check_bytes_counted(table: &[u8]) -> Checked {
 /// The verdict on rows lent as numbers, and the count of pairs compared.
 pub fn check_rows_counted(rows: &[i32]) -> Checked {
     checked(rows_of_numbers(rows))
+}
+
+/// The verdict on a text, and the count of pairs compared.
+pub fn check_text_counted(text: &[u8]) -> Checked {
+    checked(read_text(text))
 }
 
 /// The verdict on rows that were read or refused, and the count of pairs compared.

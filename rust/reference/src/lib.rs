@@ -1,12 +1,13 @@
 //! The separate program: an occam table checker and runner, from the papers alone.
 //!
 //! The modules read top-down like document 01: the table and its refusals, usage,
-//! values, steps, readings and results, then the run on paper.
+//! values, steps, readings and results, then the run on paper. `text` reads a table from occam text.
 
 pub mod number;
 pub mod refusal;
 
 pub mod table;
+pub mod text;
 
 pub mod kinds;
 pub mod references;
@@ -33,8 +34,10 @@ pub mod generate;
 pub mod join;
 
 pub use answer::{answer_bytes, answer_rows, Answer, Ran};
+pub use answer::{answer_text, check_text_counted, traced_text};
 pub use answer::{check_bytes, check_bytes_counted, check_rows, check_rows_counted, Checked};
 pub use answer::{traced_bytes, traced_rows, Traced};
 pub use answer::{BUDGET_LIMIT, BUFFER_LENGTHS, TRACE_LENGTH};
 pub use refusal::Refusal;
 pub use run::{Outcome, Taken};
+pub use text::read_text;

@@ -1,11 +1,13 @@
 //! The sheet runner of "A run on paper", with flags for comparing programs.
 
-use reference::answer::{answer_bytes, answer_rows, check_bytes_counted, check_rows_counted};
-use reference::answer::{traced_bytes, traced_rows, Traced, TRACE_LENGTH};
+use reference::answer::{answer_bytes, answer_rows, answer_text};
+use reference::answer::{check_bytes_counted, check_rows_counted, check_text_counted};
+use reference::answer::{traced_bytes, traced_rows, traced_text, Traced, TRACE_LENGTH};
 use reference::explore::explore;
 use reference::number::read_number;
 use reference::printing::{printed, printed_ready, printed_trace, split_input};
-use reference::printing::{printed_pairs, printed_verdict};
+use reference::printing::{printed_pairs, printed_rows, printed_verdict};
+use reference::text::{read_text_into, ROW_NUMBERS};
 use reference::{Answer, Checked, BUDGET_LIMIT, BUFFER_LENGTHS};
 use std::io::{self, Read, Write};
 use std::process::ExitCode;
@@ -24,6 +26,11 @@ With no flags it prints what the sheet runner of \"A run on paper\" prints.
                     numbers, counts, output marks (default 256,256,1024,8,1024,8,1024)
   --numbers         the table part is rows lent as numbers: whole numbers parted by
                     commas or line feeds, no line of names, empty pieces passed over
+  --text            the table part is an occam text (request 02)
+  --read            only the table that the text is read to: its bytes, or
+                    refused,NUMBER,PLACE,0 (12, 13 or 3)
+  --room N          with --read the length of the list lent for the rows' numbers (default
+                    4096; shorter is refusal 1)
   --full            after the paper's lines also: cell,ROW,I,V and mark,ROW,I,0|1 of
                     each cell; state,ROW,0,S of each row; place,CH,0,N of each role 1
                     channel; strip,CH,I,V and omark,CH,I,0|1 of each place of each role 2
@@ -58,6 +65,9 @@ struct Request {
     choices: Vec<u16>,
     lengths: [usize; 7],
     numbers: bool,
+    text: bool,
+    read: bool,
+    room: usize,
     full: bool,
     ready: bool,
     trace: bool,
@@ -109,6 +119,9 @@ fn requested(arguments: &[String]) -> Result<Request, String> {
         choices: Vec::new(),
         lengths: BUFFER_LENGTHS,
         numbers: false,
+        text: false,
+        read: false,
+        room: ROW_NUMBERS,
         full: false,
         ready: false,
         trace: false,
@@ -138,6 +151,9 @@ fn requested(arguments: &[String]) -> Result<Request, String> {
             }
             "--explore" => request.explore = Some(one_number(flag, operand()?)?),
             "--numbers" => request.numbers = true,
+            "--text" => request.text = true,
+            "--read" => request.read = true,
+            "--room" => request.room = one_number(flag, operand()?)?,
             "--full" => request.full = true,
             "--ready" => request.ready = true,
             "--trace" => request.trace = true,
@@ -148,6 +164,9 @@ fn requested(arguments: &[String]) -> Result<Request, String> {
     }
     if request.pairs && !request.check {
         return Err("--pairs goes with --check (see --help)".to_string());
+    }
+    if request.numbers && (request.text || request.read) {
+        return Err("--numbers and a text exclude each other (see --help)".to_string());
     }
     Ok(request)
 }
@@ -169,12 +188,22 @@ fn respond(request: &Request, input: &[u8]) -> Result<String, String> {
     let (table, sheet) = split_input(input);
     let (choices, budget) = (&request.choices, request.budget);
     let (lengths, lists) = (request.lengths, request.lists);
+    if request.read {
+        return Ok(printed_rows(&read_text_into(table, request.room)));
+    }
     if request.numbers {
         let rows = lent_numbers(table)?;
         let calls = Calls {
             check: || check_rows_counted(&rows),
             answer: || answer_rows(&rows, sheet, choices, budget, lengths),
             traced: || traced_rows(&rows, sheet, choices, budget, lengths, lists),
+        };
+        Ok(calls.respond(request, sheet))
+    } else if request.text {
+        let calls = Calls {
+            check: || check_text_counted(table),
+            answer: || answer_text(table, sheet, choices, budget, lengths),
+            traced: || traced_text(table, sheet, choices, budget, lengths, lists),
         };
         Ok(calls.respond(request, sheet))
     } else {

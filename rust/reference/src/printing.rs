@@ -4,7 +4,8 @@ use crate::answer::{Answer, Checked, Ran, Traced};
 use crate::limits::Part;
 use crate::refusal::Refusal;
 use crate::state::STOPPED;
-use std::fmt::{Result, Write};
+use crate::table::{table_text, Row};
+use std::fmt::{self, Write};
 
 /// The line of names above a result.
 const NAMES_LINE: &str = "what,name,at,value";
@@ -48,6 +49,14 @@ pub fn printed_verdict(checked: &Checked) -> String {
     }
 }
 
+/// The table of the rows that a text is read to, or a refusal.
+pub fn printed_rows(read: &Result<Vec<Row>, Refusal>) -> String {
+    match read {
+        Ok(rows) => table_text(rows),
+        Err(refusal) => format!("{refusal}\n"),
+    }
+}
+
 /// One line: accepted, or a refusal's number and place; then the count of pairs compared.
 pub fn printed_pairs(checked: &Checked) -> String {
     let pairs = checked.pairs;
@@ -68,7 +77,7 @@ pub fn printed_trace(traced: &Traced) -> String {
 }
 
 /// Prints a result: names, outcome and steps, cells, host outputs, stopped rows.
-fn print_result(text: &mut String, ran: &Ran, full: bool) -> Result {
+fn print_result(text: &mut String, ran: &Ran, full: bool) -> fmt::Result {
     writeln!(text, "{NAMES_LINE}")?;
     writeln!(text, "{},0,0,{}", ran.outcome.word(), ran.steps)?;
     print_cells(text, ran)?;
@@ -81,7 +90,7 @@ fn print_result(text: &mut String, ran: &Ran, full: bool) -> Result {
 }
 
 /// Prints each cell: variable, cell number, value or empty.
-fn print_cells(text: &mut String, ran: &Ran) -> Result {
+fn print_cells(text: &mut String, ran: &Ran) -> fmt::Result {
     for (row, number, cell) in positions(&ran.layout.variables) {
         let value = value_or_empty(ran.cells[cell], ran.marks[cell]);
         writeln!(text, "var,{row},{number},{value}")?;
@@ -90,7 +99,7 @@ fn print_cells(text: &mut String, ran: &Ran) -> Result {
 }
 
 /// Prints each host output: channel, position, value or empty.
-fn print_outputs(text: &mut String, ran: &Ran) -> Result {
+fn print_outputs(text: &mut String, ran: &Ran) -> fmt::Result {
     for (strip, &count) in ran.layout.strips.iter().zip(&ran.counts) {
         for position in 0..count as usize {
             let at = strip.first + position;
@@ -110,7 +119,7 @@ fn value_or_empty(value: i32, mark: u8) -> String {
 }
 
 /// Prints each stopped row with its reason.
-fn print_stops(text: &mut String, ran: &Ran) -> Result {
+fn print_stops(text: &mut String, ran: &Ran) -> fmt::Result {
     for (row, &state) in ran.states.iter().enumerate() {
         if state > STOPPED {
             writeln!(text, "stop,{row},0,{}", state - STOPPED)?;
@@ -120,7 +129,7 @@ fn print_stops(text: &mut String, ran: &Ran) -> Result {
 }
 
 /// Prints all that the buffers hold: cells, marks, row states, places, strips, their marks, counts.
-fn print_buffers(text: &mut String, ran: &Ran) -> Result {
+fn print_buffers(text: &mut String, ran: &Ran) -> fmt::Result {
     for (row, number, cell) in positions(&ran.layout.variables) {
         writeln!(text, "cell,{row},{number},{}", ran.cells[cell])?;
     }

@@ -1,4 +1,4 @@
-//! The numbered refusals (1 to 11, and 14 of request 05), each with its place.
+//! The numbered refusals (1 to 11, 12 and 13 of request 02, 14 of request 05), each with its place.
 
 use std::fmt;
 

@@ -2,13 +2,14 @@
 
 use crate::number::read_number;
 use crate::refusal::Refusal;
+use std::fmt;
 
 /// Most bytes of a table.
 pub const TABLE_BYTES: usize = 32_768;
 /// Most rows of a table.
 pub const ROWS: usize = 1_024;
 /// The first line of a table.
-const NAMES_LINE: &[u8] = b"kind,a,b,c";
+const NAMES_LINE: &str = "kind,a,b,c";
 
 /// One row of four whole numbers.
 #[derive(Clone, Copy, Debug, PartialEq, Eq)]
@@ -29,6 +30,18 @@ impl Row {
     pub fn fields(&self) -> [i32; 3] {
         [self.a, self.b, self.c]
     }
+}
+
+impl fmt::Display for Row {
+    fn fmt(&self, out: &mut fmt::Formatter<'_>) -> fmt::Result {
+        write!(out, "{},{},{},{}", self.kind, self.a, self.b, self.c)
+    }
+}
+
+/// The text of a table of these rows: the line of names and a line for each row.
+pub fn table_text(rows: &[Row]) -> String {
+    let lines = rows.iter().map(|row| format!("{row}\n"));
+    format!("{NAMES_LINE}\n") + &lines.collect::<String>()
 }
 
 /// One line: its bytes without the line feed, and whether it ends with one.
@@ -66,7 +79,7 @@ pub fn rows_of_bytes(bytes: &[u8]) -> Result<Vec<Row>, Refusal> {
             return Err(malformed);
         }
         if number == 1 {
-            if line.bytes != NAMES_LINE {
+            if line.bytes != NAMES_LINE.as_bytes() {
                 return Err(malformed);
             }
             continue;

@@ -123,6 +123,42 @@ fn pairs() {
     assert_eq!(reference("--pairs", TABLE), (2, String::new()));
 }
 
+/// The text of the run on paper, and the beginning of the table that it is read to.
+const TEXT: &str = "HOSTIN a:\nHOSTOUT 4 b:\nINT x:\nSEQ\n  a ? x\n  b ! x + 5\n";
+const READ: &str = "kind,a,b,c\n2,1,1,0\n2,1,2,4\n1,1,0,0\n30,4,0,0\n";
+
+#[test]
+fn texts() {
+    let input = format!("{TEXT}=\n0\n120\n");
+    let ended = "what,name,at,value\nended,0,0,2\nvar,2,0,120\nout,1,0,125\n";
+    assert_eq!(reference("--text", &input), (0, ended.to_string()));
+    assert_eq!(
+        reference("--text --ready --budget 1", &input).1,
+        "ready,1\n"
+    );
+    let trace = "step,1,1,5\nstep,2,1,10\nready,0\n";
+    assert_eq!(reference("--text --trace", &input).1, trace);
+    assert_eq!(
+        reference("--text --explore 99", &input).1,
+        "agree,1,2,ended\n"
+    );
+    assert_eq!(reference("--check --text", TEXT).1, "accepted,0,0,0\n");
+    assert_eq!(reference("--check --text --pairs", TEXT).1, "accepted,0\n");
+    assert_eq!(reference("--check --text", TABLE).1, "refused,12,1,0\n");
+    assert_eq!(reference("--check", TEXT).1, "refused,2,1,0\n");
+    assert!(reference("--read", &input).1.starts_with(READ));
+    let table = reference("--read", TEXT).1;
+    assert_eq!(reference("", &format!("{table}=\n0\n120\n")).1, ended);
+    assert_eq!(reference("--read", "").1, "refused,12,1,0\n");
+    assert_eq!(reference("--read", "x := 1\n").1, "refused,13,1,0\n");
+    assert_eq!(reference("--read --room 4095", TEXT).1, "refused,1,0,0\n");
+    assert_eq!(reference("--read --room 4096", TEXT).1, table);
+    let short = "--text --lengths 255,256,1024,8,1024,8,1024";
+    assert_eq!(reference(short, "no text").1, "refused,1,0,0\n");
+    assert_eq!(reference("--text --numbers", TEXT), (2, String::new()));
+    assert_eq!(reference("--read --numbers", TEXT), (2, String::new()));
+}
+
 #[test]
 fn ready_and_trace() {
     let input = format!("{TABLE}=\n\n");
@@ -179,6 +215,7 @@ fn bad_flags_and_help() {
         "--choices 65536",
         "--lengths 256,256,1024,8,1024,8",
         "--lists 1",
+        "--room",
         "x",
     ] {
         assert_eq!(reference(flags, ""), (2, String::new()), "{flags}");
@@ -190,6 +227,9 @@ fn bad_flags_and_help() {
         "--choices",
         "--lengths",
         "--numbers",
+        "--text",
+        "--read",
+        "--room",
         "--full",
         "--ready",
         "--trace",
@@ -202,22 +242,44 @@ fn bad_flags_and_help() {
     }
 }
 
-#[test]
-fn generate_writes_inputs_and_flags() {
-    let out = std::env::temp_dir().join(format!("generate-{}", std::process::id()));
+/// Writes inputs with `generate` and gives each to the reference program; tells what it printed.
+fn generated(name: &str, flags: &[&str]) -> Vec<String> {
+    let out = std::env::temp_dir().join(format!("generate-{}-{name}", std::process::id()));
     let status = Command::new(env!("CARGO_BIN_EXE_generate"))
-        .args(["--seed", "5", "--count", "12", "--small", "--out"])
+        .args(["--seed", "5", "--count", "40", "--small"])
+        .args(flags)
+        .arg("--out")
         .arg(&out)
         .status()
         .expect("the program starts");
     assert!(status.success());
-    for number in 1..=12 {
+    let printed = (1..=40).map(|number| {
         let input = std::fs::read_to_string(out.join(format!("{number:06}.in")));
         let flags = std::fs::read_to_string(out.join(format!("{number:06}.args")));
         let (input, flags) = (input.unwrap_or_default(), flags.expect("flags"));
         assert_eq!(flags.lines().count(), 1, "{flags:?}");
         let (code, text) = reference(&flags, &input);
         assert_eq!((code, text.is_empty()), (0, false), "{number}");
-    }
+        text
+    });
+    let printed = printed.collect();
     std::fs::remove_dir_all(&out).expect("the directory is there");
+    printed
+}
+
+#[test]
+fn generate_writes_inputs_and_flags() {
+    generated("tables", &[]);
+}
+
+#[test]
+fn generate_writes_texts() {
+    let printed = generated("texts", &["--text"]);
+    assert!(!printed.iter().any(|text| text.starts_with("refused,10,")));
+    for begin in ["what,", "kind,", "accepted", "refused,12,", "refused,13,"] {
+        assert!(
+            printed.iter().any(|text| text.starts_with(begin)),
+            "{begin}"
+        );
+    }
 }

@@ -1,5 +1,6 @@
 //! Writes generated inputs for the sheet runner, each with a line of flags beside it.
 
+use reference::generate::occam::text_input;
 use reference::generate::{generate, Aim};
 use std::path::PathBuf;
 use std::process::ExitCode;
@@ -8,7 +9,7 @@ use std::{fs, io};
 const HELP: &str = "\
 generate: writes inputs for the sheet runner, from a seed alone
 
-  generate --seed S --count N --out DIR [--small] [--kind K]
+  generate --seed S --count N --out DIR [--small] [--kind K | --text]
 
 Writes DIR/000001.in and so on (a table, the line `=`, a sheet), and beside each
 DIR/000001.args, one line of flags (--budget, --choices; often empty).
@@ -20,6 +21,7 @@ DIR/000001.args, one line of flags (--budget, --choices; often empty).
   --kind K    accepted, without-alt, shape, mutated, pairs, endless, or a refusal number 2 to 11
               or 14
               (without it: a mix, about half accepted)
+  --text      occam texts in place of tables, with flags that run, check or read them
 ";
 
 /// What the command line asks for.
@@ -29,6 +31,7 @@ struct Request {
     out: PathBuf,
     small: bool,
     aim: Option<Aim>,
+    text: bool,
 }
 
 fn main() -> ExitCode {
@@ -52,7 +55,7 @@ fn main() -> ExitCode {
 /// Reads the flags.
 fn requested(arguments: &[String]) -> Result<Request, String> {
     let (mut seed, mut count, mut out) = (None, None, None);
-    let (mut small, mut aim) = (false, None);
+    let (mut small, mut aim, mut text) = (false, None, false);
     let mut rest = arguments.iter();
     while let Some(flag) = rest.next() {
         let mut operand = || {
@@ -64,6 +67,7 @@ fn requested(arguments: &[String]) -> Result<Request, String> {
             "--count" => count = Some(number(flag, operand()?)?),
             "--out" => out = Some(PathBuf::from(operand()?)),
             "--small" => small = true,
+            "--text" => text = true,
             "--kind" => aim = Some(aim_named(operand()?)?),
             _ => return Err(format!("unknown flag {flag:?} (see --help)")),
         }
@@ -75,6 +79,7 @@ fn requested(arguments: &[String]) -> Result<Request, String> {
             out,
             small,
             aim,
+            text,
         }),
         _ => Err("--seed, --count and --out are needed (see --help)".to_string()),
     }
@@ -100,15 +105,25 @@ fn aim_named(name: &str) -> Result<Aim, String> {
     }
 }
 
+/// The bytes of a seed's input, and its flags.
+fn input_of(request: &Request, seed: u64) -> (Vec<u8>, String) {
+    if request.text {
+        return text_input(seed, request.small);
+    }
+    let input = generate(seed, request.small, request.aim);
+    let flags = input.flags();
+    (input.bytes, flags)
+}
+
 /// Writes the inputs and their flags.
 fn write_inputs(request: &Request) -> io::Result<()> {
     fs::create_dir_all(&request.out)?;
     for number in 1..=request.count {
         let seed = request.seed.wrapping_mul(1_000_003).wrapping_add(number);
-        let input = generate(seed, request.small, request.aim);
+        let (bytes, flags) = input_of(request, seed);
         let path = request.out.join(format!("{number:06}"));
-        fs::write(path.with_extension("in"), &input.bytes)?;
-        fs::write(path.with_extension("args"), input.flags() + "\n")?;
+        fs::write(path.with_extension("in"), bytes)?;
+        fs::write(path.with_extension("args"), flags + "\n")?;
     }
     Ok(())
 }

@@ -9,6 +9,7 @@ mod endless;
 mod expressions;
 mod loops;
 mod maker;
+pub mod occam;
 mod pairs;
 pub mod random;
 mod rights;
@@ -22,7 +23,7 @@ use crate::answer::{answer_bytes, Answer, BUDGET_LIMIT, BUFFER_LENGTHS};
 use crate::kinds::{ALT, IF, PAR, SEQ, WHILE};
 use crate::printing::split_input;
 use crate::run::Outcome;
-use crate::table::{Row, ROWS};
+use crate::table::{table_text, Row, ROWS};
 use maker::{program, Style};
 use random::Random;
 use rights::Share;
@@ -233,7 +234,7 @@ fn attempt(random: &mut Random, plan: Plan) -> Input {
     if matches!(aim, Aim::Refusal(_)) && random.chance(20) && !rows.is_empty() {
         damage::mutate_rows(random, &mut rows);
     }
-    let mut table = text::table_text(&rows);
+    let mut table = table_text(&rows).into_bytes();
     let mut sheet = some_sheet(random, &rows, small);
     match aim {
         Aim::Refusal(2) => text::damage_table_text(random, &mut table, small),

@@ -1,16 +1,6 @@
-//! The text of tables and sheets, and damage to it (refusals 2, 3, 10) byte by byte.
+//! Damage to the text of tables and sheets (refusals 2, 3, 10), byte by byte.
 
 use super::random::Random;
-use crate::table::Row;
-
-/// The bytes of a table.
-pub fn table_text(rows: &[Row]) -> Vec<u8> {
-    let mut text = String::from("kind,a,b,c\n");
-    for row in rows {
-        text.push_str(&format!("{},{},{},{}\n", row.kind, row.a, row.b, row.c));
-    }
-    text.into_bytes()
-}
 
 /// Number texts that are not of the table's form, or nearly not.
 const ODD_NUMBERS: [&str; 22] = [

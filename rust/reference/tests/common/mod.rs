@@ -4,12 +4,13 @@
 pub mod clashes;
 pub mod ends;
 pub mod joins;
+pub mod slow_text;
 
 use reference::printing::printed;
 use reference::{answer_bytes, answer_rows, Answer, Ran, BUDGET_LIMIT, BUFFER_LENGTHS};
 use std::collections::BTreeMap;
 use std::fs;
-use std::path::Path;
+use std::path::{Path, PathBuf};
 
 /// How often each sort came.
 pub type Tally = BTreeMap<&'static str, usize>;
@@ -21,14 +22,38 @@ pub fn assert_enough(found: &Tally, least: &[(&str, usize)]) {
     }
 }
 
-/// The inputs of the stored cases, with their files.
-pub fn stored_inputs() -> impl Iterator<Item = (String, Vec<u8>)> {
+/// Whether a stored case is of a text and not of a table.
+pub fn is_of_a_text(case: &Path) -> bool {
+    let words = fs::read_to_string(case.with_extension("args")).unwrap_or_default();
+    let mut words = words.split_whitespace();
+    words.any(|word| ["--text", "--read"].contains(&word))
+}
+
+/// The files of the stored cases' inputs.
+fn stored_files() -> impl Iterator<Item = PathBuf> {
     let folder = Path::new(env!("CARGO_MANIFEST_DIR")).join("../../cases");
     let files = fs::read_dir(folder).expect("the folder is there");
     files
         .map(|file| file.expect("a file").path())
         .filter(|path| path.extension().is_some_and(|extension| extension == "in"))
-        .map(|path| (path.display().to_string(), fs::read(&path).expect("bytes")))
+}
+
+/// The file's name and its bytes.
+fn named_bytes(path: PathBuf) -> (String, Vec<u8>) {
+    (path.display().to_string(), fs::read(&path).expect("bytes"))
+}
+
+/// The inputs of the stored cases of tables, with their files.
+pub fn stored_inputs() -> impl Iterator<Item = (String, Vec<u8>)> {
+    let tables = stored_files().filter(|path| !is_of_a_text(path));
+    tables.map(named_bytes)
+}
+
+/// The inputs of the stored cases of texts, with their files.
+pub fn stored_texts() -> impl Iterator<Item = (String, Vec<u8>)> {
+    stored_files()
+        .filter(|path| is_of_a_text(path))
+        .map(named_bytes)
 }
 
 /// The bytes of a table of these rows.
