@@ -5,17 +5,9 @@ use mathlib.Core.Option.{Option, none, some}
 use Prim.Native.Nat.{ℕ}
 use Prim.Native.String.{String}
 use Rattle.meaning.specs.Texts.{bytes}
-use Rattle.meaning.specs.Lines.{lines, text, same}
-use Rattle.meaning.proofs.ComputesAnswers.{computesAnswers}
-use Rattle.meaning.specs.Numerals.{digitsValue, natural}
-use Rattle.meaning.specs.Numerals as numerals
-use Rattle.read_phrases.specs.Machine.{wrap, finish, unlessGiven, ifFirst, linkOperand, roundEnd, squareEnd, squareStart, begin, follow, feed, step, reach, close, phrase, operandOf, elementOf}
-use Rattle.read_phrases.specs.Lines.{tokenMark, before, cutAt, cutAtMark, single, pair, wordAlone, whileLine, guardOf, guardAfter, ofCut, lineSpelt, sizedDeclaration, named, hostIn, hostOut, sizeRead, sizeLook, nameOf, endLook, numberLook, lookAt, markLook}
-use Rattle.read_phrases.specs.Scan.{glue, items, read, tokens}
-use Rattle.read_phrases.specs.Tokens.{tokenSpelt, words, symbols, allWordBytes, isWord, orName, orNumber, tokenOf}
-use Rattle.read_phrases.specs.LineBytes.{lineFromBytes, lineOfBytes}
-use Rattle.read_phrases.specs.Names.{firstDeclared, namesFault}
+use Rattle.read_phrases.specs.Names.{namesFault}
 use Rattle.read_phrases.specs.TextRows.{textLines}
+use Rattle.read_phrases.proofs.ComputesText.{computesText}
 
 -- a text, and the line at which it is refused by 13, or none
 record Example : Type 0 where
@@ -50,5 +42,5 @@ examples =
     ∷ []
 
 examples-named : map (λ (e : Example). namesFault (textLines (bytes (e .written)))) examples ≡ map (λ (e : Example). e .place) examples
-unfolding firstDeclared namesFault computesAnswers textLines lines text same digitsValue natural numerals.number wrap finish unlessGiven ifFirst linkOperand roundEnd squareEnd squareStart begin follow feed step reach close phrase operandOf elementOf tokenMark before cutAt cutAtMark single pair wordAlone whileLine guardOf guardAfter ofCut lineSpelt glue items read tokens tokenSpelt words symbols allWordBytes isWord orName orNumber tokenOf lineFromBytes lineOfBytes sizedDeclaration named hostIn hostOut sizeRead sizeLook nameOf endLook numberLook lookAt markLook
+unfolding computesText
 examples-named = refl

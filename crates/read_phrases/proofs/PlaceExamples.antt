@@ -5,17 +5,10 @@ use mathlib.Core.Option.{Option, none, some}
 use Prim.Native.String.{String}
 use Prim.Native.Nat.{ℕ}
 use Rattle.meaning.specs.Texts.{bytes}
-use Rattle.meaning.specs.Lines.{lines, text, same}
-use Rattle.meaning.specs.Numerals.{digitsValue, natural}
-use Rattle.meaning.specs.Numerals as numerals
-use Rattle.read_phrases.specs.Machine.{wrap, finish, unlessGiven, ifFirst, linkOperand, roundEnd, squareEnd, squareStart, begin, follow, feed, step, reach, close, phrase, operandOf, elementOf}
-use Rattle.read_phrases.specs.Outline.{expectedBeneath, expectedAfter, mayEnd, place, accept, acceptLine, allEnd, levelsEnded}
-use Rattle.read_phrases.specs.Lines.{tokenMark, before, cutAt, cutAtMark, single, pair, wordAlone, whileLine, guardOf, guardAfter, ofCut, lineSpelt, sizedDeclaration, named, hostIn, hostOut, sizeRead, sizeLook, nameOf, endLook, numberLook, lookAt, markLook}
-use Rattle.read_phrases.specs.Scan.{glue, items, read, tokens}
-use Rattle.read_phrases.specs.Tokens.{tokenSpelt, words, symbols, allWordBytes, isWord, orName, orNumber, tokenOf}
-use Rattle.read_phrases.specs.LineBytes.{lineFromBytes, lineOfBytes}
+use Rattle.meaning.specs.Lines.{text}
+use Rattle.read_phrases.specs.Outline.{place}
 use Rattle.read_phrases.specs.TextBytes.{grammarFault}
-use Rattle.read_phrases.specs.Places.{takeLine, orRest, placeFrom, faultLine}
+use Rattle.read_phrases.proofs.ComputesText.{computesText}
 
 -- a text, and the line at which it is refused, or none
 record Example : Type 0 where
@@ -62,5 +55,5 @@ examples =
     ∷ []
 
 examples-placed : map (λ (e : Example). grammarFault (bytes (e .written))) examples ≡ map (λ (e : Example). e .place) examples
-unfolding lines text grammarFault same digitsValue natural numerals.number wrap finish unlessGiven ifFirst linkOperand roundEnd squareEnd squareStart begin follow feed step reach close phrase operandOf elementOf tokenMark before cutAt cutAtMark single pair wordAlone whileLine guardOf guardAfter ofCut lineSpelt glue items read tokens tokenSpelt words symbols allWordBytes isWord orName orNumber tokenOf lineFromBytes lineOfBytes sizedDeclaration named hostIn hostOut sizeRead sizeLook nameOf endLook numberLook lookAt markLook expectedBeneath expectedAfter mayEnd place accept acceptLine allEnd levelsEnded takeLine orRest placeFrom faultLine
+unfolding computesText
 examples-placed = refl

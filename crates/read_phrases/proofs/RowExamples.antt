@@ -3,19 +3,9 @@ use mathlib.Core.Path.{_≡_, refl}
 use mathlib.Core.List.{List, [], _∷_, map}
 use Prim.Native.String.{String}
 use Rattle.meaning.specs.Texts.{bytes}
-use Rattle.meaning.specs.Lines.{lines, text, same}
 use Rattle.meaning.specs.TableBytes.{rowsOf}
-use Rattle.meaning.proofs.ComputesAnswers.{computesAnswers}
-use Rattle.base_top_down.specs.Forms.{formSize, rowsFrom}
-use Rattle.meaning.specs.Numerals.{digitsValue, natural}
-use Rattle.meaning.specs.Numerals as numerals
-use Rattle.read_phrases.specs.Machine.{wrap, finish, unlessGiven, ifFirst, linkOperand, roundEnd, squareEnd, squareStart, begin, follow, feed, step, reach, close, phrase, operandOf, elementOf}
-use Rattle.read_phrases.specs.Outline.{expectedBeneath, expectedAfter, grown}
-use Rattle.read_phrases.specs.Lines.{tokenMark, before, cutAt, cutAtMark, single, pair, wordAlone, whileLine, guardOf, guardAfter, ofCut, lineSpelt, sizedDeclaration, named, hostIn, hostOut, sizeRead, sizeLook, nameOf, endLook, numberLook, lookAt, markLook}
-use Rattle.read_phrases.specs.Scan.{glue, items, read, tokens}
-use Rattle.read_phrases.specs.Tokens.{tokenSpelt, words, symbols, allWordBytes, isWord, orName, orNumber, tokenOf}
-use Rattle.read_phrases.specs.LineBytes.{lineFromBytes, lineOfBytes}
-use Rattle.read_phrases.specs.TextRows.{nameRow, treesForm, linesRows, textLines, textRows}
+use Rattle.read_phrases.specs.TextRows.{textRows}
+use Rattle.read_phrases.proofs.ComputesText.{computesText}
 
 -- a text, and the table that it is read to
 record Example : Type 0 where
@@ -52,5 +42,5 @@ examples =
     ∷ []
 
 examples-read : map (λ (e : Example). textRows (bytes (e .written))) examples ≡ map (λ (e : Example). rowsOf (bytes (e .table))) examples
-unfolding computesAnswers formSize rowsFrom nameRow treesForm linesRows textLines textRows expectedBeneath expectedAfter grown lines text same digitsValue natural numerals.number wrap finish unlessGiven ifFirst linkOperand roundEnd squareEnd squareStart begin follow feed step reach close phrase operandOf elementOf tokenMark before cutAt cutAtMark single pair wordAlone whileLine guardOf guardAfter ofCut lineSpelt glue items read tokens tokenSpelt words symbols allWordBytes isWord orName orNumber tokenOf lineFromBytes lineOfBytes sizedDeclaration named hostIn hostOut sizeRead sizeLook nameOf endLook numberLook lookAt markLook
+unfolding computesText
 examples-read = refl

@@ -216,4 +216,8 @@ wholeText ls = levelsEnded (acceptAll outset ls)
 -- the trees that the lines leave open at a level, built from the last line to the first
 unfoldable pub grown : List Lined → ℕ → Trees
 grown [] i = empty
-grown (lined l x ∷ ls) i = ifElse (ltb i l) (grown ls i) (ifElse (eqb i l) (also (node x (grown ls (suc l))) (grown ls l)) empty)
+grown (lined l x ∷ ls) i =
+    let deeper = grown ls i in
+    let beneath = grown ls (suc l) in
+    let later = grown ls l in
+    ifElse (ltb i l) deeper (ifElse (eqb i l) (also (node x beneath) later) empty)
