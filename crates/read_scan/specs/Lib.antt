@@ -1,0 +1,4 @@
+pub mod Nexts
+pub mod Cuts
+pub mod Places
+pub mod Indents

@@ -1,0 +1,4 @@
+pub mod Sorts
+pub mod Lexemes
+pub mod Table
+pub mod Chunks
