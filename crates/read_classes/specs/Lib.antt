@@ -1,0 +1,4 @@
+pub mod ClassNumbers
+pub mod Parts
+pub mod Rules
+pub mod LineClasses
