@@ -7,11 +7,11 @@ use Prim.Native.Nat.{ℕ, _≤_, _<_}
 use lib.ListN.{length}
 use borrow.Author.Tests.{le-leb, lt-leb}
 use Rattle.meaning.specs.Basics.{ifElse, isSome}
-use Rattle.read_phrases.specs.Grammar.{Token}
-use Rattle.read_phrases.specs.LineBytes.{bodyOf}
-use Rattle.read_phrases.specs.Lines.{cutAtMark}
-use Rattle.read_phrases.specs.Classes.{classOf, classSpelt}
-use Rattle.read_phrases.proofs.ClassesTold.{class-told}
+use Rattle.grammar.specs.Grammar.{Token}
+use Rattle.grammar.specs.LineBytes.{bodyOf}
+use Rattle.grammar.specs.Lines.{cutAtMark}
+use Rattle.grammar.specs.Classes.{classOf, classSpelt}
+use Rattle.grammar.proofs.ClassesTold.{class-told}
 use Rattle.read_scan.proofs.NextLaws.{start-remains}
 use Rattle.read_classes.specs.ClassNumbers.{classNumber}
 use Rattle.read_classes.specs.Parts.{chunksOf, partAtMark}

@@ -7,8 +7,8 @@ use native.Mathlib.Omega.{arith}
 use lib.ListN.{length, take, drop, drop-of-length-le, length-drop}
 use lib.Seq.{take-all}
 use borrow.Author.Tests.{le-leb, lt-leb}
-use Rattle.read_phrases.specs.Grammar.{Token}
-use Rattle.read_phrases.specs.Scan.{items}
+use Rattle.grammar.specs.Grammar.{Token}
+use Rattle.grammar.specs.Scan.{items}
 use Rattle.read_tokens.specs.Sorts as sorts
 use Rattle.read_scan.specs.declared.Next.{Next}
 use Rattle.read_scan.specs.Nexts.{nextIn, tokenList, listFrom}

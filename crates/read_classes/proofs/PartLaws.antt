@@ -4,8 +4,8 @@ use mathlib.Core.Bool.{Bool, true, false}
 use mathlib.Core.List.{List, [], _∷_, _++_, map}
 use mathlib.Core.Option.{Option, some}
 use Rattle.meaning.specs.Basics.{ifElse}
-use Rattle.read_phrases.specs.Grammar.{both, either, Mark, a-skip, a-stop, a-seq, a-par, an-if, an-alt, a-while, becomes, asks, tells, ampersand, an-int, a-chan, a-hostin, a-hostout, colon, unused, Token, name, number, minus, not-word, given, arith, joins, round-open, round-close, square-open, square-close, mark}
-use Rattle.read_phrases.specs.Lines.{tokenMark, Cut, uncut, parted, before, cutAt, cutAtMark}
+use Rattle.grammar.specs.Grammar.{both, either, Mark, a-skip, a-stop, a-seq, a-par, an-if, an-alt, a-while, becomes, asks, tells, ampersand, an-int, a-chan, a-hostin, a-hostout, colon, unused, Token, name, number, minus, not-word, given, arith, joins, round-open, round-close, square-open, square-close, mark}
+use Rattle.grammar.specs.Lines.{tokenMark, Cut, uncut, parted, before, cutAt, cutAtMark}
 use Rattle.read_tokens.specs.Sorts as sorts
 use Rattle.read_classes.specs.Parts.{sortOf, isMark, partingOf, putBefore, partAtMark, chunksParted, PartedAsTokens}
 

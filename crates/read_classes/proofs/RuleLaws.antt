@@ -7,10 +7,10 @@ use Prim.Native.Nat.{ℕ}
 use lib.Dec.{eqb}
 use Rattle.meaning.specs.Basics.{ifElse, isSome}
 use Rattle.meaning.specs.Lines.{same}
-use Rattle.read_phrases.specs.Grammar.{both, either, Mark, a-skip, a-stop, a-seq, a-par, an-if, an-alt, a-while, becomes, asks, tells, ampersand, an-int, a-chan, a-hostin, a-hostout, colon, unused, Token, name, number, minus, not-word, given, arith, joins, round-open, round-close, square-open, square-close, mark}
-use Rattle.read_phrases.specs.Shapes.{initial}
-use Rattle.read_phrases.specs.Lines.{Cut, uncut, parted, cutAtMark, Look, open-look, shut-look, colon-look, other-look, number-look, name-look, markLook, lookAt, sizeLook, sizeRead, endLook, nameOf, numberLook}
-use Rattle.read_phrases.specs.Classes.{Class, leaf, input-line, variable-line, other-declaration, member-lines, choice-lines, option-lines, while-line, test-line, guard-line, classIf, aloneClass, whileClass, hostInClass, hostOutClass, guardCutClass, cutClass}
+use Rattle.grammar.specs.Grammar.{both, either, Mark, a-skip, a-stop, a-seq, a-par, an-if, an-alt, a-while, becomes, asks, tells, ampersand, an-int, a-chan, a-hostin, a-hostout, colon, unused, Token, name, number, minus, not-word, given, arith, joins, round-open, round-close, square-open, square-close, mark}
+use Rattle.grammar.specs.Shapes.{initial}
+use Rattle.grammar.specs.Lines.{Cut, uncut, parted, cutAtMark, Look, open-look, shut-look, colon-look, other-look, number-look, name-look, markLook, lookAt, sizeLook, sizeRead, endLook, nameOf, numberLook}
+use Rattle.grammar.specs.Classes.{Class, leaf, input-line, variable-line, other-declaration, member-lines, choice-lines, option-lines, while-line, test-line, guard-line, classIf, aloneClass, whileClass, hostInClass, hostOutClass, guardCutClass, cutClass}
 use Rattle.read_tokens.specs.Sorts as sorts
 use Rattle.read_shapes.specs.Phrases.{phraseIn}
 use Rattle.read_shapes.proofs.PhraseLaws.{phrase-told, element-read}

@@ -9,7 +9,7 @@ use lib.ListN.{length, getD, drop, length-drop}
 use lib.Seq.{length-take-le}
 use borrow.Author.Tests.{ne-eqb, not-true, not-false}
 use Rattle.meaning.specs.Basics.{ifElse}
-use Rattle.read_phrases.specs.Grammar.{Token}
+use Rattle.grammar.specs.Grammar.{Token}
 use Rattle.read_tokens.specs.Sorts as sorts
 use Rattle.read_classes.specs.declared.Marked.{Marked}
 use Rattle.read_classes.specs.Parts.{partingOf, bytesBefore, bytesAfter}

@@ -12,7 +12,7 @@ use lib.Dec.{eqb}
 use borrow.Author.Tests.{eq-eqb, ne-eqb, not-true, not-false}
 use Rattle.meaning.specs.Basics.{ifElse}
 use Rattle.meaning.specs.Lines.{same}
-use Rattle.read_phrases.specs.Grammar.{Token}
+use Rattle.grammar.specs.Grammar.{Token}
 use Rattle.read_scan.specs.declared.Next.{Next}
 use Rattle.read_scan.specs.Nexts.{nextIn, listFrom}
 use Rattle.read_scan.proofs.NextLaws.{list-step, list-end, list-ends}

@@ -6,11 +6,11 @@ use Prim.Native.Nat.{ℕ, _≤_}
 use lib.ListN.{length}
 use lib.Dec.{leb}
 use Rattle.meaning.specs.Basics.{ifElse}
-use Rattle.read_phrases.specs.Grammar.{Token}
-use Rattle.read_phrases.specs.Outline.{OutlineLine}
-use Rattle.read_phrases.specs.Lines.{Cut, lineSpelt}
-use Rattle.read_phrases.specs.LineBytes.{bodyOf}
-use Rattle.read_phrases.specs.Classes.{Class, classOf, cutClass, classSpelt}
+use Rattle.grammar.specs.Grammar.{Token}
+use Rattle.grammar.specs.Outline.{OutlineLine}
+use Rattle.grammar.specs.Lines.{Cut, lineSpelt}
+use Rattle.grammar.specs.LineBytes.{bodyOf}
+use Rattle.grammar.specs.Classes.{Class, classOf, cutClass, classSpelt}
 use Rattle.read_classes.specs.ClassNumbers.{classNumber}
 use Rattle.read_classes.specs.Parts.{Parting, chunksParted}
 use Rattle.read_classes.specs.Rules.{classByMark}

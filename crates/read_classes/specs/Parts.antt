@@ -8,8 +8,8 @@ use lib.ListN.{length, take, drop}
 use lib.Dec.{leb}
 use Rattle.meaning.specs.Basics.{ifElse}
 use Rattle.meaning.specs.Lines.{same}
-use Rattle.read_phrases.specs.Grammar.{Token, mark}
-use Rattle.read_phrases.specs.Lines.{Cut, uncut, parted, cutAtMark}
+use Rattle.grammar.specs.Grammar.{Token, mark}
+use Rattle.grammar.specs.Lines.{Cut, uncut, parted, cutAtMark}
 use Rattle.read_tokens.specs.Sorts as sorts
 use Rattle.read_tokens.specs.Lexemes.{lexemeOf}
 use Rattle.read_tokens.specs.Chunks.{itemsOf}

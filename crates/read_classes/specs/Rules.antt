@@ -6,9 +6,9 @@ use Prim.Native.Nat.{ℕ}
 use lib.ListN.{length, getD}
 use lib.Dec.{eqb, ltb}
 use Rattle.meaning.specs.Basics.{ifElse}
-use Rattle.read_phrases.specs.Grammar.{Token}
-use Rattle.read_phrases.specs.Shapes.{initial, element}
-use Rattle.read_phrases.specs.Classes.{Class, variable-line, other-declaration, leaf, input-line, member-lines, choice-lines, option-lines, while-line, test-line, guard-line}
+use Rattle.grammar.specs.Grammar.{Token}
+use Rattle.grammar.specs.Shapes.{initial, element}
+use Rattle.grammar.specs.Classes.{Class, variable-line, other-declaration, leaf, input-line, member-lines, choice-lines, option-lines, while-line, test-line, guard-line}
 use Rattle.read_tokens.specs.Sorts as sorts
 use Rattle.read_shapes.specs.Phrases.{phraseIn}
 use Rattle.read_classes.specs.ClassNumbers.{numberOf, classNumber}

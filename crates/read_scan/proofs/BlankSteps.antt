@@ -6,7 +6,7 @@ use native.Mathlib.Numerals.{add-one}
 use lib.ListN.{length, getD, drop, drop-of-length-le}
 use lib.Seq.{drop-cons}
 use borrow.Author.Tests.{eq-eqb, ne-eqb}
-use Rattle.read_phrases.specs.Scan.{space}
+use Rattle.grammar.specs.Scan.{space}
 use Rattle.read_scan.specs.Nexts.{blanks}
 
 module _ (s : List ℕ) (at : ℕ) where

@@ -10,9 +10,9 @@ use lib.Seq.{drop-drop, length-take-le, getD-take, getD-drop}
 use lib.Dec.{eqb, ltb}
 use borrow.Author.Tests.{eqb-true, ltb-true, ltb-false}
 use Rattle.meaning.specs.Basics.{ifElse}
-use Rattle.read_phrases.specs.Grammar.{Token}
-use Rattle.read_phrases.specs.Scan.{space, Item, gap, chunk, Apart, glue, items}
-use Rattle.read_phrases.specs.Tokens.{hang, tokenOf, needsSpace}
+use Rattle.grammar.specs.Grammar.{Token}
+use Rattle.grammar.specs.Scan.{space, Item, gap, chunk, Apart, glue, items}
+use Rattle.grammar.specs.Tokens.{hang, tokenOf, needsSpace}
 use Rattle.read_tokens.specs.Chunks.{chunkSize, itemsOf}
 use Rattle.read_scan.specs.declared.Next.{Next}
 use Rattle.read_scan.specs.Nexts.{blanks, nextIn, tokenList}

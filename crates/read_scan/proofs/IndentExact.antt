@@ -8,9 +8,9 @@ use native.Mathlib.Omega.{arith}
 use lib.ListN.{drop}
 use lib.Dec.{eqb}
 use Rattle.meaning.specs.Basics.{ifElse}
-use Rattle.read_phrases.specs.Grammar.{Token}
-use Rattle.read_phrases.specs.Scan.{space}
-use Rattle.read_phrases.specs.LineBytes.{bodyOf, atZero, down, lineFromBytes}
+use Rattle.grammar.specs.Grammar.{Token}
+use Rattle.grammar.specs.Scan.{space}
+use Rattle.grammar.specs.LineBytes.{bodyOf, atZero, down, lineFromBytes}
 use Rattle.read_scan.specs.Nexts.{blanks}
 use Rattle.read_scan.specs.Indents.{levels, writtenAt, IndentExact}
 

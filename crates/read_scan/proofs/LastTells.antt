@@ -15,9 +15,9 @@ use Rattle.meaning.specs.Numerals.{isDigit, digitsValue, natural, unsigned, neg
 use Rattle.meaning.specs.Numerals as numerals
 use Rattle.meaning.proofs.NumeralForm.{let-through}
 use Rattle.meaning.proofs.NoFault.{same-is}
-use Rattle.read_phrases.specs.Grammar.{Token, name, number, minus, not-word, given, arith as operator, joins, round-open, round-close, square-open, square-close, mark}
-use Rattle.read_phrases.specs.Tokens.{isLetter, isWordByte, hang, TokenEntry, tokenSpelt, words, symbols, allWordBytes, isWord, orName, orNumber, tokenOf, isWordlike}
-use Rattle.read_phrases.proofs.LinesSound.{split-and}
+use Rattle.grammar.specs.Grammar.{Token, name, number, minus, not-word, given, arith as operator, joins, round-open, round-close, square-open, square-close, mark}
+use Rattle.grammar.specs.Tokens.{isLetter, isWordByte, hang, TokenEntry, tokenSpelt, words, symbols, allWordBytes, isWord, orName, orNumber, tokenOf, isWordlike}
+use Rattle.grammar.proofs.LinesSound.{split-and}
 use Rattle.read_scan.specs.Places.{lastOf, endsLikeWord, LastTells}
 
 -- a byte hangs together with a letter before it exactly if it goes on a word

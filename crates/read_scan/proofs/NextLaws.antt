@@ -10,9 +10,9 @@ use lib.Seq.{drop-drop, length-take-le}
 use lib.Dec.{eqb}
 use Rattle.meaning.specs.Basics.{ifElse}
 use Rattle.meaning.specs.Rows.{naturalOf}
-use Rattle.read_phrases.specs.Grammar.{Token, name}
-use Rattle.read_phrases.specs.Scan.{space, Item, gap, chunk, Edge, start, blank, token, mayNotFollow, front, putToken, glue, items, read, tokens}
-use Rattle.read_phrases.specs.Tokens.{tokenOf, hang, needsSpace}
+use Rattle.grammar.specs.Grammar.{Token, name}
+use Rattle.grammar.specs.Scan.{space, Item, gap, chunk, Edge, start, blank, token, mayNotFollow, front, putToken, glue, items, read, tokens}
+use Rattle.grammar.specs.Tokens.{tokenOf, hang, needsSpace}
 use Rattle.read_tokens.specs.Lexemes.{lexemeOf}
 use Rattle.read_tokens.specs.Chunks.{chunkSize, itemsOf}
 use Rattle.read_tokens.proofs.ChunkFirst.{chunk-first}

@@ -5,8 +5,8 @@ use mathlib.Core.Option.{Option}
 use Prim.Native.Nat.{ℕ, _+_, _-_, _≤_, _<_}
 use native.Mathlib.Omega.{arith}
 use lib.ListN.{length, take, drop, drop-of-length-le, length-drop}
-use Rattle.read_phrases.specs.Grammar.{Token}
-use Rattle.read_phrases.specs.Tokens.{tokenOf}
+use Rattle.grammar.specs.Grammar.{Token}
+use Rattle.grammar.specs.Tokens.{tokenOf}
 use Rattle.read_tokens.specs.Sorts as sorts
 use Rattle.read_tokens.specs.Lexemes.{plain, lexemeOf}
 use Rattle.read_tokens.specs.Chunks.{chunkSize}

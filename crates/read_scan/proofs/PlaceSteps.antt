@@ -10,9 +10,9 @@ use borrow.Author.Tests.{eq-eqb, ne-eqb}
 use Rattle.meaning.specs.Basics.{isSome}
 use Rattle.meaning.specs.Lines.{same}
 use Rattle.meaning.specs.Numerals as numerals
-use Rattle.read_phrases.specs.Grammar.{Token}
-use Rattle.read_phrases.specs.Scan.{space}
-use Rattle.read_phrases.specs.Tokens.{tokenSpelt, symbols, isWord, orNumber, tokenOf}
+use Rattle.grammar.specs.Grammar.{Token}
+use Rattle.grammar.specs.Scan.{space}
+use Rattle.grammar.specs.Tokens.{tokenSpelt, symbols, isWord, orNumber, tokenOf}
 use Rattle.read_tokens.specs.Sorts as sorts
 use Rattle.read_tokens.specs.Lexemes.{valued, lexemeOf}
 use Rattle.read_tokens.specs.declared.Lexeme.{Lexeme}

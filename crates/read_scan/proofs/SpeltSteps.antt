@@ -11,10 +11,10 @@ use lib.Dec.{eqb, leb}
 use borrow.Author.Tests.{eqb-true, ne-eqb}
 use Rattle.meaning.specs.Basics.{ifElse, isSome}
 use Rattle.meaning.specs.Numerals.{isDigit}
-use Rattle.read_phrases.specs.Grammar.{Token}
-use Rattle.read_phrases.specs.Scan.{space, Item, gap, chunk, Edge, start, blank, token, mayNotFollow, front, putToken, items, read, tokens}
-use Rattle.read_phrases.specs.Tokens.{tokenOf, hang, needsSpace, isWordByte, isWordlike}
-use Rattle.read_phrases.specs.LineBytes.{bodyOf}
+use Rattle.grammar.specs.Grammar.{Token}
+use Rattle.grammar.specs.Scan.{space, Item, gap, chunk, Edge, start, blank, token, mayNotFollow, front, putToken, items, read, tokens}
+use Rattle.grammar.specs.Tokens.{tokenOf, hang, needsSpace, isWordByte, isWordlike}
+use Rattle.grammar.specs.LineBytes.{bodyOf}
 use Rattle.read_tokens.specs.Chunks.{chunkSize, itemsOf}
 use Rattle.read_tokens.proofs.ChunkFirst.{chunk-first}
 use Rattle.read_scan.specs.Places.{beginning, afterSpace, afterSymbol, afterWord, endsLikeWord, placeAfterToken, placeAfter}

@@ -5,8 +5,8 @@ use mathlib.Core.List.{List, _++_, map}
 use mathlib.Core.Option.{Option, some}
 use Prim.Native.Nat.{ℕ, _-_, _≤_, _<_}
 use lib.ListN.{length, getD, take, drop}
-use Rattle.read_phrases.specs.Grammar.{Token}
-use Rattle.read_phrases.specs.Tokens.{hang}
+use Rattle.grammar.specs.Grammar.{Token}
+use Rattle.grammar.specs.Tokens.{hang}
 use Rattle.read_tokens.specs.Chunks.{itemsOf}
 use Rattle.read_scan.specs.declared.Next.{Next}
 use Rattle.read_scan.specs.Nexts.{nextIn, tokenList, listFrom, Remains}

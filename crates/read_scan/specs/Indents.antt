@@ -7,9 +7,9 @@ use Prim.Native.Nat.{ℕ, suc, _*_}
 use lib.ListN.{drop}
 use lib.Dec.{eqb}
 use Rattle.meaning.specs.Basics.{ifElse}
-use Rattle.read_phrases.specs.Grammar.{Token}
-use Rattle.read_phrases.specs.Scan.{space}
-use Rattle.read_phrases.specs.LineBytes.{bodyOf, Written, written, lineFromBytes}
+use Rattle.grammar.specs.Grammar.{Token}
+use Rattle.grammar.specs.Scan.{space}
+use Rattle.grammar.specs.LineBytes.{bodyOf, Written, written, lineFromBytes}
 
 -- how many pairs of spaces stand first
 unfoldable pub levels : List ℕ → ℕ

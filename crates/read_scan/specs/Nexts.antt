@@ -7,10 +7,10 @@ use lib.ListN.{length, take, drop}
 use lib.Dec.{eqb}
 use Rattle.meaning.specs.Basics.{ifElse}
 use Rattle.meaning.specs.Rows.{naturalOf}
-use Rattle.read_phrases.specs.Grammar.{Token, name}
-use Rattle.read_phrases.specs.Scan.{space, Item, gap, chunk}
-use Rattle.read_phrases.specs.Tokens.{tokenOf}
-use Rattle.read_phrases.specs.LineBytes.{bodyOf}
+use Rattle.grammar.specs.Grammar.{Token, name}
+use Rattle.grammar.specs.Scan.{space, Item, gap, chunk}
+use Rattle.grammar.specs.Tokens.{tokenOf}
+use Rattle.grammar.specs.LineBytes.{bodyOf}
 use Rattle.read_tokens.specs.Lexemes.{lexemeOf}
 use Rattle.read_tokens.specs.Chunks.{chunkSize, itemsOf}
 use Rattle.read_tokens.specs.declared.Lexeme.{Lexeme}

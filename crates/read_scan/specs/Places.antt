@@ -7,9 +7,9 @@ use Prim.Native.Nat.{ℕ}
 use lib.ListN.{getD}
 use lib.Dec.{eqb}
 use Rattle.meaning.specs.Basics.{ifElse, isSome}
-use Rattle.read_phrases.specs.Grammar.{Token}
-use Rattle.read_phrases.specs.Scan.{space}
-use Rattle.read_phrases.specs.Tokens.{isWordByte, tokenOf, isWordlike}
+use Rattle.grammar.specs.Grammar.{Token}
+use Rattle.grammar.specs.Scan.{space}
+use Rattle.grammar.specs.Tokens.{isWordByte, tokenOf, isWordlike}
 
 -- the line's beginning
 abbrev pub beginning : ℕ

@@ -7,12 +7,12 @@ use Prim.Native.Nat.{ℕ, _≤_, _<_}
 use lib.ListN.{length}
 use borrow.Author.Tests.{le-leb, lt-leb}
 use Rattle.meaning.specs.Basics.{isSome}
-use Rattle.read_phrases.specs.Grammar.{Token, given, Syn, monadic}
-use Rattle.read_phrases.specs.Machine.{behind-given, want, ifFirst, begin, feed, step, reach, close, phrase, operandOf, elementOf}
-use Rattle.read_phrases.specs.Scan.{items}
-use Rattle.read_phrases.specs.Shapes.{Kind, initial, element, OperandShape, ifInitial, shapeAfter, move, goes, shapeComplete, isPhrase}
-use Rattle.read_phrases.proofs.ShapesDecide.{shapes-decide}
-use Rattle.read_phrases.proofs.Sound.{element-sound}
+use Rattle.grammar.specs.Grammar.{Token, given, Syn, monadic}
+use Rattle.grammar.specs.Machine.{behind-given, want, ifFirst, begin, feed, step, reach, close, phrase, operandOf, elementOf}
+use Rattle.grammar.specs.Scan.{items}
+use Rattle.grammar.specs.Shapes.{Kind, initial, element, OperandShape, ifInitial, shapeAfter, move, goes, shapeComplete, isPhrase}
+use Rattle.grammar.proofs.ShapesDecide.{shapes-decide}
+use Rattle.grammar.proofs.Sound.{element-sound}
 use Rattle.read_tokens.specs.Chunks.{itemsOf}
 use Rattle.read_scan.specs.Nexts.{tokenList}
 use Rattle.read_shapes.specs.Phrases.{shapeOver, phraseIn, partText, PartTexts, PhraseTold, PhraseRead, ElementRead, PartIsPhrase, PartIsElement}

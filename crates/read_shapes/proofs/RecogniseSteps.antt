@@ -6,9 +6,9 @@ use mathlib.Core.Option.{Option, none, some}
 use Prim.Native.Nat.{ℕ, suc, _+_, _≤_, _<_}
 use lib.ListN.{length, getD, set, drop-of-length-le}
 use borrow.Author.Tests.{eq-eqb, ne-eqb}
-use Rattle.read_phrases.specs.Grammar.{Token}
-use Rattle.read_phrases.specs.Scan.{items}
-use Rattle.read_phrases.specs.Shapes.{OperandShape, shapeComplete}
+use Rattle.grammar.specs.Grammar.{Token}
+use Rattle.grammar.specs.Scan.{items}
+use Rattle.grammar.specs.Shapes.{OperandShape, shapeComplete}
 use Rattle.read_tokens.specs.Chunks.{itemsOf}
 use Rattle.read_scan.specs.declared.Next.{Next}
 use Rattle.read_scan.specs.Nexts.{nextIn, tokenList, listFrom}

@@ -3,8 +3,8 @@ use mathlib.Core.Path.{_≡_, refl, sym, ap, _∙_}
 use mathlib.Core.Bool.{Bool, true}
 use mathlib.Core.List.{List, [], _∷_}
 use mathlib.Core.Option.{Option, none, some}
-use Rattle.read_phrases.specs.Grammar.{both, either, Mark, a-skip, a-stop, a-seq, a-par, an-if, an-alt, a-while, becomes, asks, tells, ampersand, an-int, a-chan, a-hostin, a-hostout, colon, unused, Token, name, number, minus, not-word, given, arith, joins, round-open, round-close, square-open, square-close, mark}
-use Rattle.read_phrases.specs.Shapes.{Kind, Opening, OperandShape, wants, has, shapeAfter, move}
+use Rattle.grammar.specs.Grammar.{both, either, Mark, a-skip, a-stop, a-seq, a-par, an-if, an-alt, a-while, becomes, asks, tells, ampersand, an-int, a-chan, a-hostin, a-hostout, colon, unused, Token, name, number, minus, not-word, given, arith, joins, round-open, round-close, square-open, square-close, mark}
+use Rattle.grammar.specs.Shapes.{Kind, Opening, OperandShape, wants, has, shapeAfter, move}
 use Rattle.read_tokens.specs.Lexemes.{markLexeme, lexemeOf}
 use Rattle.read_shapes.specs.Phrases.{shapeOver}
 use Rattle.read_shapes.specs.Turns.{shapeBySort, SortTells}

@@ -11,8 +11,8 @@ use lib.Seq.{getD-set-same, getD-set-other}
 use lib.Dec.{eqb, ltb}
 use borrow.Author.Tests.{ne-eqb, eqb-true, lt-ltb, le-ltb}
 use Rattle.meaning.specs.Basics.{ifElse}
-use Rattle.read_phrases.specs.Grammar.{Link, both, either}
-use Rattle.read_phrases.specs.Shapes.{initial, final, element, chain, Opening, round-in, square-in, OperandShape, wants, has, unlessElement, ifInitial, chainOn, roundOff, squareOff, squareOn, shapeComplete}
+use Rattle.grammar.specs.Grammar.{Link, both, either}
+use Rattle.grammar.specs.Shapes.{initial, final, element, chain, Opening, round-in, square-in, OperandShape, wants, has, unlessElement, ifInitial, chainOn, roundOff, squareOff, squareOn, shapeComplete}
 use Rattle.read_shapes.specs.Numbers.{wanting, having, havingName, stop, kindAt, openingAt, topFirst, openingsAt, shapeAt, completeAt}
 use Rattle.read_shapes.specs.Turns.{byWanted, byHad, shapeBySort, kept, stopped, opened, closed, unlessElementTurn, ifInitialTurn, chainTurn, roundOffTurn, squareOffTurn, squareOnTurn, turnWanting, turnHaving, turnOf}
 use Rattle.read_shapes.specs.declared.Turn.{Turn}

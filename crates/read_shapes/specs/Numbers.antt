@@ -5,8 +5,8 @@ use Prim.Native.Nat.{ℕ, zero, suc, _%_}
 use lib.ListN.{getD}
 use lib.Dec.{eqb, ltb}
 use Rattle.meaning.specs.Basics.{ifElse}
-use Rattle.read_phrases.specs.Grammar.{both, either}
-use Rattle.read_phrases.specs.Shapes.{Kind, initial, final, element, chain, Opening, round-in, square-in, OperandShape, wants, has}
+use Rattle.grammar.specs.Grammar.{both, either}
+use Rattle.grammar.specs.Shapes.{Kind, initial, final, element, chain, Opening, round-in, square-in, OperandShape, wants, has}
 
 -- an operand is wanted
 abbrev pub wanting : ℕ

@@ -7,9 +7,9 @@ use Prim.Native.Nat.{ℕ, _≤_}
 use lib.ListN.{length}
 use lib.Dec.{leb}
 use Rattle.meaning.specs.Basics.{ifElse, isSome}
-use Rattle.read_phrases.specs.Grammar.{Token}
-use Rattle.read_phrases.specs.Machine.{phrase, elementOf}
-use Rattle.read_phrases.specs.Shapes.{Kind, initial, element, OperandShape, wants, move, shapeComplete, isPhrase}
+use Rattle.grammar.specs.Grammar.{Token}
+use Rattle.grammar.specs.Machine.{phrase, elementOf}
+use Rattle.grammar.specs.Shapes.{Kind, initial, element, OperandShape, wants, move, shapeComplete, isPhrase}
 use Rattle.read_tokens.specs.Chunks.{itemsOf}
 use Rattle.read_scan.specs.Nexts.{tokenList}
 

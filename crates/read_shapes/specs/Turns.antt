@@ -6,8 +6,8 @@ use mathlib.Core.List.{_∷_}
 use Prim.Native.Nat.{ℕ, _+_, _-_, _%_}
 use lib.Dec.{eqb, ltb}
 use Rattle.meaning.specs.Basics.{ifElse}
-use Rattle.read_phrases.specs.Grammar.{both, either, Token}
-use Rattle.read_phrases.specs.Shapes.{initial, final, element, round-in, OperandShape, wants, has, unlessElement, ifInitial, chainOn, roundOff, squareOff, squareOn, shapeAfter}
+use Rattle.grammar.specs.Grammar.{both, either, Token}
+use Rattle.grammar.specs.Shapes.{initial, final, element, round-in, OperandShape, wants, has, unlessElement, ifInitial, chainOn, roundOff, squareOff, squareOn, shapeAfter}
 use Rattle.read_tokens.specs.Sorts as sorts
 use Rattle.read_tokens.specs.Lexemes.{tokenLexeme}
 use Rattle.read_shapes.specs.Numbers.{wanting, having, havingName, stop}

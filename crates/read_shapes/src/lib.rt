@@ -2,7 +2,7 @@
 ghost use mathlib.Core.Path.{_≡_};
 ghost use Prim.Native.Nat.{_≤_, _<_};
 ghost use lib.ListN.{length};
-ghost use Rattle.read_phrases.specs.Shapes.{initial, element};
+ghost use Rattle.grammar.specs.Shapes.{initial, element};
 ghost use Rattle.read_tokens.specs.Chunks.{itemsOf};
 ghost use Rattle.read_scan.specs.Nexts.{tokenList};
 ghost use Rattle.read_shapes.specs.Phrases.{phraseIn, partText};

@@ -7,8 +7,8 @@ use lib.ListN.{take, drop}
 use lib.Dec.{eqb}
 use borrow.Author.Tests.{eqb-true}
 use Rattle.meaning.specs.Basics.{ifElse}
-use Rattle.read_phrases.specs.Scan.{space, Item, gap, chunk, glue, items}
-use Rattle.read_phrases.specs.Tokens.{tokenOf, hang, needsSpace}
+use Rattle.grammar.specs.Scan.{space, Item, gap, chunk, glue, items}
+use Rattle.grammar.specs.Tokens.{tokenOf, hang, needsSpace}
 use Rattle.read_tokens.specs.Chunks.{chunkSize, itemsOf, ChunkFirst}
 
 -- n bytes as a chunk, and then the items of the rest

@@ -7,7 +7,7 @@ use native.Mathlib.Omega.{arith}
 use native.Mathlib.Numerals.{add-one}
 use lib.ListN.{length, getD, drop, drop-of-length-le}
 use lib.Seq.{drop-cons}
-use Rattle.read_phrases.specs.Tokens.{hang}
+use Rattle.grammar.specs.Tokens.{hang}
 use Rattle.read_tokens.specs.Chunks.{chunkSize}
 
 module _ (s : List ℕ) (at : ℕ) where

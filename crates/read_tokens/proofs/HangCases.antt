@@ -5,7 +5,7 @@ use Prim.Native.Nat.{ℕ}
 use lib.Dec.{eqb}
 use borrow.Author.Tests.{ne-eqb}
 use Rattle.meaning.specs.Numerals.{isDigit}
-use Rattle.read_phrases.specs.Tokens.{isWordByte, hang}
+use Rattle.grammar.specs.Tokens.{isWordByte, hang}
 
 -- a minus, with a digit
 pub after-minus : (c : ℕ) → isDigit c ≡ hang 45 c

@@ -9,8 +9,8 @@ use lib.ListN.{length, getD, drop, drop-of-length-le}
 use lib.Seq.{drop-cons}
 use Rattle.meaning.specs.Basics.{ifElse}
 use Rattle.meaning.specs.Lines.{same}
-use Rattle.read_phrases.specs.Tokens.{TokenEntry, tokenSpelt}
-use Rattle.read_phrases.proofs.LinesSound.{split-and}
+use Rattle.grammar.specs.Tokens.{TokenEntry, tokenSpelt}
+use Rattle.grammar.proofs.LinesSound.{split-and}
 use Rattle.read_tokens.specs.Sorts as sorts
 use Rattle.read_tokens.specs.Lexemes.{plain, tokenLexeme, lexemeOf}
 use Rattle.read_tokens.specs.Table.{short, allShort, lineSpelling, lineLexeme, lexemeIn}

@@ -11,8 +11,8 @@ use borrow.Author.Tests.{le-leb, lt-leb}
 use Rattle.meaning.specs.Numerals as numerals
 use Rattle.base_numbers.specs.declared.Parsed.the-variants.{Number, Malformed}
 use Rattle.base_numbers.specs.Reading.{parsedOf}
-use Rattle.read_phrases.specs.Grammar.{Token}
-use Rattle.read_phrases.specs.Tokens.{words, symbols, tokenSpelt, isWord, orName, orNumber, tokenOf}
+use Rattle.grammar.specs.Grammar.{Token}
+use Rattle.grammar.specs.Tokens.{words, symbols, tokenSpelt, isWord, orName, orNumber, tokenOf}
 use Rattle.read_tokens.specs.Sorts as sorts
 use Rattle.read_tokens.specs.Lexemes.{valued, lexemeOf}
 use Rattle.read_tokens.specs.declared.Lexeme.{Lexeme}

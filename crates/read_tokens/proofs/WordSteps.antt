@@ -7,7 +7,7 @@ use native.Mathlib.Omega.{arith}
 use native.Mathlib.Numerals.{add-one}
 use lib.ListN.{length, getD, drop, drop-of-length-le}
 use lib.Seq.{drop-cons}
-use Rattle.read_phrases.specs.Tokens.{isLetter, isWordByte, allWordBytes, isWord}
+use Rattle.grammar.specs.Tokens.{isLetter, isWordByte, allWordBytes, isWord}
 
 -- no bytes are no word
 pub no-word : (s : List ℕ) → length s ≡ 0 → isWord s ≡ false

@@ -6,8 +6,8 @@ use Prim.Native.Nat.{ℕ, suc}
 use lib.ListN.{take, drop}
 use lib.Dec.{eqb}
 use Rattle.meaning.specs.Basics.{ifElse}
-use Rattle.read_phrases.specs.Scan.{space, Item, chunk, items}
-use Rattle.read_phrases.specs.Tokens.{tokenOf, hang, needsSpace}
+use Rattle.grammar.specs.Scan.{space, Item, chunk, items}
+use Rattle.grammar.specs.Tokens.{tokenOf, hang, needsSpace}
 
 -- how many bytes at the beginning hang together
 unfoldable pub chunkSize : List ℕ → ℕ

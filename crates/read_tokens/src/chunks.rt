@@ -3,7 +3,7 @@ ghost use mathlib.Core.Path.{_≡_};
 ghost use Prim.Native.Nat.{_+_};
 ghost use lib.ListN.{drop};
 ghost use Rattle.meaning.specs.Numerals.{isDigit};
-ghost use Rattle.read_phrases.specs.Tokens as tokens;
+ghost use Rattle.grammar.specs.Tokens as tokens;
 ghost use Rattle.read_tokens.specs.Chunks.{chunkSize};
 
 // Whether a byte is a letter.

@@ -3,7 +3,7 @@ ghost use mathlib.Core.Path.{_≡_};
 ghost use mathlib.Core.Bool.{true};
 ghost use lib.IntN.{pos};
 ghost use Rattle.meaning.specs.Lines as lines;
-ghost use Rattle.read_phrases.specs.Tokens as tokens;
+ghost use Rattle.grammar.specs.Tokens as tokens;
 ghost use Rattle.read_tokens.specs.Lexemes.{valued, lexemeOf};
 ghost use Rattle.read_tokens.specs.Table.{short, allShort, lineSpelling, lexemeIn};
 use crate::Lexeme;

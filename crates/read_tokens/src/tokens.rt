@@ -1,7 +1,7 @@
 // The token that bytes are: a word or a name, else a symbol or a number.
 ghost use mathlib.Core.Path.{_≡_};
 ghost use Rattle.meaning.specs.Numerals as numerals;
-ghost use Rattle.read_phrases.specs.Tokens as tokens;
+ghost use Rattle.grammar.specs.Tokens as tokens;
 ghost use Rattle.read_tokens.specs.Lexemes.{lexemeOf};
 use crate::Lexeme;
 use crate::chunks;

@@ -5,7 +5,7 @@ use native.Mathlib.Omega.{arith}
 use borrow.Author.Needs.{needs}
 use lib.ListN.{length, drop}
 use Rattle.meaning.specs.Basics.{isSome}
-use Rattle.read_phrases.specs.LineBytes.{bodyOf}
+use Rattle.grammar.specs.LineBytes.{bodyOf}
 use Rattle.read_tokens.specs.Chunks.{itemsOf}
 use Rattle.read_scan.proofs.SpeltSteps.{spelt, spelt-line, spelt-end, spelt-stops, spelt-goes-on, item-wide, item-within}
 use Rattle.read_scan.proofs.is_spelt.Statement.{statement}

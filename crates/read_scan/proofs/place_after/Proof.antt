@@ -2,7 +2,7 @@
 use mathlib.Core.Path.{sym, ap, _∙_}
 use borrow.Author.Needs.{needs}
 use borrow.Author.Tests.{not-true, not-false}
-use Rattle.read_phrases.specs.Tokens.{isWordByte}
+use Rattle.grammar.specs.Tokens.{isWordByte}
 use Rattle.read_scan.proofs.LastTells.{last-at}
 use Rattle.read_scan.proofs.PlaceSteps.{nothing-after, space-first, space-later, no-token-after, symbol-after, word-after-word, word-after}
 use Rattle.read_scan.proofs.place_after.Statement.{statement}

@@ -1,7 +1,7 @@
 -- The two tests in turn. Assumes nothing.
 use mathlib.Core.Path.{sym, _∙_}
 use borrow.Author.Needs.{needs}
-use Rattle.read_phrases.specs.Shapes.{element}
+use Rattle.grammar.specs.Shapes.{element}
 use Rattle.read_shapes.specs.Phrases.{phraseIn}
 use Rattle.read_shapes.proofs.PhraseLaws.{part-read}
 use Rattle.read_classes.specs.Parts.{chunksOf}

@@ -2,7 +2,7 @@
 use mathlib.Core.Path.{sym, ap, _∙_}
 use Prim.Native.Nat.{ℕ}
 use borrow.Author.Needs.{needs}
-use Rattle.read_phrases.specs.Shapes.{initial, element}
+use Rattle.grammar.specs.Shapes.{initial, element}
 use Rattle.read_shapes.proofs.PhraseLaws.{part-read}
 use Rattle.read_classes.specs.Parts.{chunksOf}
 use Rattle.read_classes.specs.Rules.{partIs}

@@ -5,7 +5,7 @@ use Prim.Native.Nat.{ℕ}
 use lib.Dec.{eqb}
 use borrow.Author.Needs.{needs}
 use borrow.Author.Tests.{eq-eqb, ne-eqb}
-use Rattle.read_phrases.specs.Tokens.{isWordByte, hang}
+use Rattle.grammar.specs.Tokens.{isWordByte, hang}
 use Rattle.read_tokens.proofs.HangCases.{after-minus, after-colon, after-less, after-more, after-other}
 use Rattle.read_tokens.proofs.chunks.hang.Statement.{statement}
 use Rattle.read_tokens.proofs.chunks.hang.Tie as tie

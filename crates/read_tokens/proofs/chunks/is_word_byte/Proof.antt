@@ -3,7 +3,7 @@ use mathlib.Core.Path.{_≡_, sym, _∙_}
 use mathlib.Core.Bool.{true, false}
 use borrow.Author.Needs.{needs}
 use Rattle.meaning.specs.Numerals.{isDigit}
-use Rattle.read_phrases.specs.Tokens.{isLetter}
+use Rattle.grammar.specs.Tokens.{isLetter}
 use Rattle.read_tokens.proofs.chunks.is_word_byte.Statement.{statement}
 use Rattle.read_tokens.proofs.chunks.is_word_byte.Tie as tie
 

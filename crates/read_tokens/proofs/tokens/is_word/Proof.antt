@@ -4,7 +4,7 @@ use Prim.Native.Nat.{_-_}
 use borrow.Author.Needs.{needs}
 use borrow.Author.Tests.{not-true, not-false}
 use lib.ListN.{length, drop}
-use Rattle.read_phrases.specs.Tokens.{allWordBytes, isWord}
+use Rattle.grammar.specs.Tokens.{allWordBytes, isWord}
 use Rattle.read_tokens.proofs.WordSteps.{no-word, no-letter, after-letter, word-ends, word-breaks, word-goes-on}
 use Rattle.read_tokens.proofs.tokens.is_word.Statement.{statement}
 use Rattle.read_tokens.proofs.tokens.is_word.Tie as tie

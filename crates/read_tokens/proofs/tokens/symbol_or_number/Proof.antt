@@ -4,7 +4,7 @@ use mir.Syntax.{w32}
 use mir.Val.{SFits}
 use mir.ValLaws.{toZ-ofZ}
 use Rattle.meaning.specs.Numerals.{number}
-use Rattle.read_phrases.specs.Tokens.{symbols, tokenSpelt}
+use Rattle.grammar.specs.Tokens.{symbols, tokenSpelt}
 use Rattle.read_tokens.proofs.TokenCases.{symbol-found, number-found, none-found}
 use borrow.Author.Needs.{needs}
 use Rattle.read_tokens.proofs.tokens.symbol_or_number.Statement.{statement}

@@ -3,7 +3,7 @@ use native.Mathlib.Omega.{arith}
 use mir.Syntax.{w32}
 use mir.ValLaws.{toZ-pos}
 use lib.ListN.{length}
-use Rattle.read_phrases.specs.Tokens.{words, tokenSpelt}
+use Rattle.grammar.specs.Tokens.{words, tokenSpelt}
 use Rattle.read_tokens.proofs.TokenCases.{word-found, name-found, name-too-long}
 use borrow.Author.Needs.{needs}
 use Rattle.read_tokens.proofs.tokens.word_or_name.Statement.{statement}

@@ -1,0 +1,21 @@
+-- What is claimed of the rows that a text is read to: its declarations and its process stand in them, and they are in top-down numbering.
+use mathlib.Core.Path.{_≡_}
+use mathlib.Core.List.{List, map}
+use Prim.Native.Nat.{ℕ}
+use lib.ListN.{length}
+use Rattle.meaning.specs.Declarations as table
+use Rattle.base_top_down.specs.Forms.{formOf, topDown}
+use Rattle.grammar.specs.Outline.{heads, Trees}
+use Rattle.grammar.specs.Names.{nameOf}
+use Rattle.grammar.specs.TextRows.{declarations, treesForm, textLines, textRows}
+use Rattle.grammar.specs.TextClaims.{OfGrammar}
+
+-- of a text of the grammar there are as many declarations in its rows as in its lines, and the process at their root is that of its trees
+abbrev pub RowsHold : Type 0
+RowsHold = (text : List ℕ) (ps : Trees) → OfGrammar text ps
+    → let ds = declarations (textLines text) in
+    (table.declarations (textRows text) ≡ length ds) × (formOf (textRows text) ≡ treesForm (map nameOf ds) ps heads)
+
+-- "Rows are numbered from the top, each row before the rows of its a, b and c in turn"
+abbrev pub RowsTopDown : Type 0
+RowsTopDown = (text : List ℕ) (ps : Trees) → OfGrammar text ps → topDown (textRows text) ≡ textRows text
