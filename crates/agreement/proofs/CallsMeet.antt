@@ -23,7 +23,7 @@ use Rattle.meaning.specs.Accepted.{BothAccepted}
 use Rattle.meaning.specs.Answers.{check, Task, ran, Reply, replyOf, reply, replyToBytes}
 use Rattle.agreement.specs.Statements.{NoAlt}
 use Rattle.agreement.specs.CallClaims.{taskOfBytes, RanAs}
-use Rattle.agreement.specs.CommonClaims.{GoOn, CallsMeet, CallsMeetBytes}
+use Rattle.agreement.specs.CommonClaims.{GoOn, CallsMeet, CallsMeetBytes, RunsMeet}
 use Rattle.agreement.proofs.Claims.{Finish}
 use Rattle.agreement.proofs.TableFit.{fit, rows-limit}
 use Rattle.agreement.proofs.TableOptions.{option-rows}
@@ -127,12 +127,11 @@ calls-meet rows sheet w choices others budget bound b c o p n m total left e f f
     both-go-on rows sheet w (run-answered (record { rows = rows; sheet = sheet; choices = choices; budget = budget }) b o n total e)
     (run-answered (record { rows = rows; sheet = sheet; choices = others; budget = bound }) c p m left f) few
 
-pub calls-meet-bytes : CallsMeetBytes
-calls-meet-bytes table sheet w choices others budget bound b c o p n m total left e f few =
-    let whole = ran-unrefused table sheet choices budget b o n total e in
-    let same : (choices : List ℕ) (budget : ℕ) (b : Buffers) → replyToBytes table sheet choices budget b ≡ reply (taskOfBytes table sheet choices budget) b = λ choices budget b. bytes-as-rows table sheet choices budget b .0 whole in
-    let g = calls-meet (rowsOf table) sheet w choices others budget bound b c o p n m total left (ap (λ (r : Reply). r .answer) (sym (same choices budget b)) ∙ e) (ap (λ (r : Reply). r .answer) (sym (same others bound c)) ∙ f) few in
-    let left-by : (choices : List ℕ) (budget : ℕ) (b : Buffers) → replyToBytes table sheet choices budget b .buffers ≡ reply (taskOfBytes table sheet choices budget) b .buffers = λ choices budget b. ap (λ (r : Reply). r .buffers) (same choices budget b) in
+-- a call that answers and leaves as another does
+pub meets-alike : (call other : List ℕ → ℕ → Buffers → Reply) → ((choices : List ℕ) (budget : ℕ) (b : Buffers) → other choices budget b ≡ call choices budget b) → RunsMeet call → RunsMeet other
+meets-alike call other same meet choices others budget bound b c o p n m total left e f few =
+    let g = meet choices others budget bound b c o p n m total left (ap (λ (r : Reply). r .answer) (sym (same choices budget b)) ∙ e) (ap (λ (r : Reply). r .answer) (sym (same others bound c)) ∙ f) few in
+    let left-by : (choices : List ℕ) (budget : ℕ) (b : Buffers) → other choices budget b .buffers ≡ call choices budget b .buffers = λ choices budget b. ap (λ (r : Reply). r .buffers) (same choices budget b) in
     record {
       first = g .first;
       second = g .second;
@@ -146,3 +145,9 @@ calls-meet-bytes table sheet w choices others budget bound b c o p n m total lef
       steps-bound = g .steps-bound;
       alike = λ lent long. same (g .first) (g .steps) lent ∙ g .alike lent long ∙ sym (same (g .second) (g .steps) lent);
     }
+
+pub calls-meet-bytes : CallsMeetBytes
+calls-meet-bytes table sheet w choices others budget bound b c o p n m total left e =
+    let whole = ran-unrefused table sheet choices budget b o n total e in
+    meets-alike (λ choices budget b. reply (taskOfBytes table sheet choices budget) b) (λ choices budget b. replyToBytes table sheet choices budget b) (λ choices budget b. bytes-as-rows table sheet choices budget b .0 whole)
+    (calls-meet (rowsOf table) sheet w) choices others budget bound b c o p n m total left e

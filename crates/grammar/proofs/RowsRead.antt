@@ -150,7 +150,7 @@ four (channel z n) = refl
 four (source n) = refl
 four (sink z n) = refl
 
-rows-sized : (ds : List Declaration) → length (flatten (map declarationRow ds)) ≡ 4 * length ds
+pub rows-sized : (ds : List Declaration) → length (flatten (map declarationRow ds)) ≡ 4 * length ds
 unfolding flatten
 rows-sized [] = refl
 rows-sized (d ∷ ds) = let e = length-append (declarationRow d) (flatten (map declarationRow ds)) in let f = four d in let g = rows-sized ds in omega arith

@@ -13,11 +13,13 @@ mod parts; // parts.rt: the parts of a line
 use classes::*;
 use parts::*;
 
+pub use parts::first_mark;
+
 // The first mark of a part: its sort, where the tokens before it end, and where it ends.
-struct Marked {
-    sort: u8,
-    from: usize,
-    to: usize,
+pub struct Marked {
+    pub sort: u8,
+    pub from: usize,
+    pub to: usize,
 }
 
 // A sort that parts no line.

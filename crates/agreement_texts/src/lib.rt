@@ -1,0 +1,1 @@
+// The demands about calls on texts: statements and proofs only.
