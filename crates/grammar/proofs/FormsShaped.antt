@@ -4,7 +4,7 @@ use mathlib.Core.Bool.{Bool, true, false}
 use mathlib.Core.List.{List}
 use mathlib.Core.Option.{Option, none, some}
 use Prim.Native.Nat.{ℕ}
-use lib.IntN.{pos}
+use lib.IntN.{ℤ, pos}
 use Rattle.meaning.specs.Basics.{ifElse}
 use Rattle.meaning.specs.Kinds.{shapes, shapeIn, shapeOf}
 use Rattle.base_top_down.specs.Forms.{Form, absent, number, row, isReference, Suits, Shaped}
@@ -73,38 +73,29 @@ module _ (names : List (List ℕ)) where
   unfolding Shaped shapes shapeIn shapeOf isReference
   zero-whole = (tt, (((tt, tt), (tt, tt)), (tt, tt)))
 
-  assign-whole : (a : Syn) (f : Form) → Whole f → Whole (elementRow names 22 a f)
-  unfolding Shaped shapes shapeIn shapeOf isReference
-  assign-whole (literal z) f h = nothing-whole
-  assign-whole (bare n) f h = (tt, (((tt, tt), zero-whole), h))
-  assign-whole (at n e) f h = (tt, (((tt, tt), expression-whole e), h))
-  assign-whole (monadic k e) f h = nothing-whole
-  assign-whole (dyadic k e g) f h = nothing-whole
+  -- a kind whose row is whole if it has a name, and whole forms in its other fields
+  abbrev TakesElement : ℕ → Type 0
+  TakesElement k = (z : ℤ) (s f : Form) → Whole s → Whole f → Whole (row k (number z) s f)
 
-  input-whole : (a : Syn) (f : Form) → Whole f → Whole (elementRow names 23 a f)
+  takes-element : TakesElement 22 × TakesElement 23 × TakesElement 24
   unfolding Shaped shapes shapeIn shapeOf isReference
-  input-whole (literal z) f h = nothing-whole
-  input-whole (bare n) f h = (tt, (((tt, tt), zero-whole), h))
-  input-whole (at n e) f h = (tt, (((tt, tt), expression-whole e), h))
-  input-whole (monadic k e) f h = nothing-whole
-  input-whole (dyadic k e g) f h = nothing-whole
+  takes-element = (λ z s f u h. (tt, (((tt, tt), u), h)), λ z s f u h. (tt, (((tt, tt), u), h)), λ z s f u h. (tt, (((tt, tt), u), h)))
 
-  output-whole : (a : Syn) (f : Form) → Whole f → Whole (elementRow names 24 a f)
-  unfolding Shaped shapes shapeIn shapeOf isReference
-  output-whole (literal z) f h = nothing-whole
-  output-whole (bare n) f h = (tt, (((tt, tt), zero-whole), h))
-  output-whole (at n e) f h = (tt, (((tt, tt), expression-whole e), h))
-  output-whole (monadic k e) f h = nothing-whole
-  output-whole (dyadic k e g) f h = nothing-whole
+  element-whole : (k : ℕ) → TakesElement k → (a : Syn) (f : Form) → Whole f → Whole (elementRow names k a f)
+  element-whole k t (literal z) f h = nothing-whole
+  element-whole k t (bare n) f h = t _ _ f zero-whole h
+  element-whole k t (at n e) f h = t _ _ f (expression-whole e) h
+  element-whole k t (monadic o e) f h = nothing-whole
+  element-whole k t (dyadic o e g) f h = nothing-whole
 
   process-whole : (x : OutlineLine) (b : Form) → Whole b → Whole (processForm names x b)
   unfolding Shaped shapes shapeIn shapeOf isReference
   process-whole (declare d) b h = nothing-whole
   process-whole skip b h = (tt, (((tt, tt), (tt, tt)), (tt, tt)))
   process-whole stop b h = (tt, (((tt, tt), (tt, tt)), (tt, tt)))
-  process-whole (assign a e) b h = assign-whole a (expressionForm names e) (expression-whole e)
-  process-whole (input c a) b h = input-whole c (expressionForm names a) (expression-whole a)
-  process-whole (output c e) b h = output-whole c (expressionForm names e) (expression-whole e)
+  process-whole (assign a e) b h = element-whole 22 (takes-element .0) a (expressionForm names e) (expression-whole e)
+  process-whole (input c a) b h = element-whole 23 (takes-element .1) c (expressionForm names a) (expression-whole a)
+  process-whole (output c e) b h = element-whole 24 (takes-element .2) c (expressionForm names e) (expression-whole e)
   process-whole seq b h = (tt, ((h, (tt, tt)), (tt, tt)))
   process-whole par b h = (tt, ((h, (tt, tt)), (tt, tt)))
   process-whole ifs b h = (tt, ((h, (tt, tt)), (tt, tt)))
@@ -136,7 +127,7 @@ module _ (names : List (List ℕ)) where
   guard-whole skip = nothing-whole
   guard-whole stop = nothing-whole
   guard-whole (assign a e) = nothing-whole
-  guard-whole (input c a) = input-whole c (expressionForm names a) (expression-whole a)
+  guard-whole (input c a) = element-whole 23 (takes-element .1) c (expressionForm names a) (expression-whole a)
   guard-whole (output c e) = nothing-whole
   guard-whole seq = nothing-whole
   guard-whole par = nothing-whole
@@ -144,7 +135,7 @@ module _ (names : List (List ℕ)) where
   guard-whole alts = nothing-whole
   guard-whole (while e) = nothing-whole
   guard-whole (test e) = nothing-whole
-  guard-whole (guarded e c a) = (tt, ((expression-whole e, input-whole c (expressionForm names a) (expression-whole a)), (tt, tt)))
+  guard-whole (guarded e c a) = (tt, ((expression-whole e, element-whole 23 (takes-element .1) c (expressionForm names a) (expression-whole a)), (tt, tt)))
   guard-whole (allowed e) = (tt, ((expression-whole e, (tt, (((tt, tt), (tt, tt)), (tt, tt)))), (tt, tt)))
 
   block-whole : (o : Option Declaration) (p : Form) → Whole p → Whole (blockForm names o p)

@@ -16,7 +16,7 @@ abbrev pub Above : ℕ → List Lined → Type 0
 Above l [] = Unit {0}
 Above l (lined i x ∷ ls) = i < l
 
-above-next : {e : Expect} {l : ℕ} {ms : List Lined} {qs : Trees} → Block e l ms qs → (rest : List Lined) → Above l rest → Above (suc l) (ms ++ rest)
+pub above-next : {e : Expect} {l : ℕ} {ms : List Lined} {qs : Trees} → Block e l ms qs → (rest : List Lined) → Above l rest → Above (suc l) (ms ++ rest)
 above-next (end {l} h) rest a = higher rest a
   where
     higher : (rest : List Lined) → Above l rest → Above (suc l) rest

@@ -9,7 +9,7 @@ use native.Mathlib.Omega.{arith}
 use lib.IntN.{ℤ, pos}
 use lib.ListN.{length, getD, length-append}
 use lib.Dec.{eqb}
-use Rattle.meaning.specs.Basics.{ifElse, allSome}
+use Rattle.meaning.specs.Basics.{ifElse}
 use Rattle.meaning.specs.Lines.{lines}
 use Rattle.meaning.specs.Rows.{naturalOf}
 use Rattle.meaning.specs.Declarations as table
@@ -18,7 +18,7 @@ use Rattle.base_top_down.proofs.Made.{made-declarations, made-form, made-top-do
 use Rattle.grammar.specs.Grammar.{Token, Syn, literal, bare, at, monadic, dyadic, Element, alone, subscripted}
 use Rattle.grammar.specs.Outline.{Declaration, variable, channel, source, sink, OutlineLine, declare, skip, stop, assign, input, output, seq, par, ifs, alts, while, test, guarded, allowed, Lined, lined, Expect, nothing, heads, processBeneath, isDeclaration, expectedBeneath, expectedAfter, mayEnd, node, Trees, also, Block, end, more, grown}
 use Rattle.grammar.specs.Lines.{Spells, declares, word, repeats, assigns, inputs, outputs, tests, guards, allows, skips, stops, seqs, pars, chooses, selects}
-use Rattle.grammar.specs.Places.{Spelt, done, next}
+use Rattle.grammar.specs.Places.{Spelt, done, next, Document}
 use Rattle.grammar.specs.LineBytes.{IsLine, is-line}
 use Rattle.grammar.specs.TextBytes.{IsTextLine, textLine}
 use Rattle.grammar.specs.Names.{nameOf}
@@ -26,7 +26,7 @@ use Rattle.grammar.specs.TextRows.{declarationRow, declarations, process
 use Rattle.grammar.specs.TextClaims.{OfGrammar}
 use Rattle.grammar.specs.RowClaims.{RowsHold, RowsTopDown}
 use Rattle.grammar.proofs.LinesComplete.{lines-complete}
-use Rattle.grammar.proofs.TextPlaces.{fed-read}
+use Rattle.grammar.proofs.TextPlaces.{lines-are, by-lines}
 use Rattle.grammar.proofs.FormsShaped.{trees-whole}
 
 -- Lines whose elements are elements -------------------------------------------------------------------------------------------------
@@ -83,12 +83,6 @@ line-proper (is-line p s) = spelt-proper s
 all-proper : {bs : List (List ℕ)} {ls : List Lined} → Spelt IsTextLine textLine bs ls → (y : Lined) → List·Memᴰ y ls → ProperLine y
 all-proper done y m = absurd (List·Memᴰ·not-nil m)
 all-proper (next {y = z} p s) y m = ⊎-elim (λ e. subst ProperLine (sym e) (line-proper (p .3))) (λ r. all-proper s y r) (List·Memᴰ·cases-cons m)
-
--- the lines of the text are these
-lines-are : {bs : List (List ℕ)} {ls : List Lined} → Spelt IsTextLine textLine bs ls → allSome (map textLine bs) ≡ some ls
-unfolding allSome
-lines-are done = refl
-lines-are (next {b} {y} p s) = rw (fed-read b y p, lines-are s)
 
 -- The process -----------------------------------------------------------------------------------------------------------------------
 
@@ -180,15 +174,18 @@ rows-declare (d ∷ ds) (suc q) h =
 -- The text --------------------------------------------------------------------------------------------------------------------------
 
 module _ (text : List ℕ) (ps : Trees) (g : OfGrammar text ps) where
+  abbrev cut : Document IsTextLine textLine (lines text) ps
+  cut = by-lines text ps .0 g .1
+
   abbrev found : List Lined
-  found = g .1 .0
+  found = cut .0
 
   there : textLines text ≡ found
   unfolding textLines
-  there = rw (lines-are (g .1 .1))
+  there = rw (lines-are (cut .1))
 
   grown-there : grown found 0 ≡ ps
-  grown-there = sym (lines-complete found ps (g .1 .2) .1)
+  grown-there = sym (lines-complete found ps (cut .2) .1)
 
   -- a text's rows are its declarations' and those of its process
   rows-there : (ds : List Declaration) → ds ≡ declarations (textLines text) → textRows text ≡ flatten (map declarationRow ds) ++ rowsFrom (length ds) (treesForm (map nameOf ds) ps heads)
@@ -200,7 +197,7 @@ module _ (text : List ℕ) (ps : Trees) (g : OfGrammar text ps) where
 
   read : (ds : List Declaration) → Read ds (treesForm (map nameOf ds) ps heads) (flatten (map declarationRow ds) ++ rowsFrom (length ds) (treesForm (map nameOf ds) ps heads))
   read ds =
-      let (k, (a, (b, (c, e, u)))) = text-root (map nameOf ds) (g .1 .2) refl (all-proper (g .1 .1)) in
+      let (k, (a, (b, (c, e, u)))) = text-root (map nameOf ds) (cut .2) refl (all-proper (cut .1)) in
       let s : Shaped (row k a b c) = subst Shaped e (trees-whole (map nameOf ds) ps heads .1) in
       let D = flatten (map declarationRow ds) in
       subst (λ (f : Form). Read ds f (D ++ rowsFrom (length ds) f)) (sym e) (

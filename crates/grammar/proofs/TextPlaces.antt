@@ -2,35 +2,34 @@
 use mathlib.Core.Path.{_≡_, refl, sym, ap, subst, _∙_}
 use mathlib.Core.Bool.{Bool, true, false}
 use mathlib.Core.Logic.{_↔_}
-use mathlib.Core.List.{List, [], _∷_, _++_}
+use mathlib.Core.List.{List, [], _∷_, _++_, map, flatten}
 use mathlib.Core.Option.{Option, none, some, Option·map, Option·none-ne-some, Option·some-injective}
 use Prim.Native.Nat.{ℕ, zero, suc, _<_, _≤_}
 use native.Mathlib.Omega.{arith}
-use borrow.Author.Tests.{eqb-false, ne-eqb, ltb-true, ltb-false}
+use borrow.Author.Tests.{eqb-false, ltb-true, ltb-false}
 use lib.Dec.{eqb}
 use lib.ListN.{length}
-use Rattle.meaning.specs.Basics.{ifElse}
+use Rattle.meaning.specs.Basics.{ifElse, allSome}
 use Rattle.meaning.specs.Texts.{bytes, lineFeed}
 use Rattle.meaning.specs.Lines.{lines, ending, text, same}
-use Rattle.meaning.specs.PrintedForms.{Each, each-none, each-more}
+use Rattle.meaning.specs.PrintedForms.{each-none, each-more}
 use Rattle.meaning.specs.ByteClaims.{NoFeed}
-use Rattle.meaning.proofs.LineLaws.{Plain, text-whole, whole-line}
+use Rattle.meaning.proofs.LineLaws.{text-whole, whole-line, concat-lines}
+use Rattle.meaning.proofs.LineIsLaws.{no-feed}
 use Rattle.grammar.specs.Grammar.{Token, mark, a-skip}
 use Rattle.grammar.specs.Outline.{OutlineLine, Lined, lined, Trees}
 use Rattle.grammar.specs.Lines.{skips, word, lineSpelt}
 use Rattle.grammar.specs.Scan.{space, glue, items, read, tokens}
 use Rattle.grammar.specs.Tokens.{tokenSpelt, words, allWordBytes, isWord, orName, tokenOf}
-use Rattle.grammar.specs.Places.{Fault, faultLine, Lines}
+use Rattle.grammar.specs.Places.{Spelt, done, next, Document, Fault, faultLine, Lines}
 use Rattle.grammar.specs.LineBytes.{Written, written, Indented, deeper, lineFromBytes, IsLine, is-line, atLevel, linedOf, lineOfBytes}
 use Rattle.grammar.specs.TextBytes.{maxText, IsTextLine, readLine, textLine, overlong, grammarFault}
+use Rattle.grammar.specs.OutlineClaims.{Text}
+use Rattle.grammar.specs.TextRows.{orNone, textLines}
 use Rattle.grammar.specs.TextClaims.{OfGrammar, NotOfGrammar, too-long, at-line, GrammarExactly, OneReading}
 use Rattle.grammar.proofs.LineRead.{line-complete, line-sound}
 use Rattle.grammar.proofs.Indents.{line-bytes-exact}
 use Rattle.grammar.proofs.Places.{read-unique, fault-exact}
-
-no-feed : {t : List ℕ} → NoFeed t → Each Plain t
-no-feed each-none = each-none
-no-feed (each-more {x} p h) = each-more (ne-eqb x lineFeed p) (no-feed h)
 
 line-read : {bs : List ℕ} {y : Lined} → IsLine bs y → lineOfBytes bs ≡ some y
 unfolding lineOfBytes
@@ -68,12 +67,12 @@ text-plain (b ∷ l) t e = go (eqb b lineFeed) refl (λ u. text-plain l u) e
     none-after (c ∷ l) e = absurd (Option·none-ne-some t e)
 
     before : (o : Option (List ℕ)) → text l ≡ o → eqb b lineFeed ≡ false → ((u : List ℕ) → text l ≡ some u → NoFeed u) → Option·map (λ u. b ∷ u) o ≡ some t → NoFeed t
-    before none q i next e = absurd (Option·none-ne-some t e)
-    before (some u) q i next e = subst NoFeed (Option·some-injective (b ∷ u) t e) (each-more (eqb-false b lineFeed i) (next u q))
+    before none q i further e = absurd (Option·none-ne-some t e)
+    before (some u) q i further e = subst NoFeed (Option·some-injective (b ∷ u) t e) (each-more (eqb-false b lineFeed i) (further u q))
 
     go : (c : Bool) → eqb b lineFeed ≡ c → ((u : List ℕ) → text l ≡ some u → NoFeed u) → ifElse c (ending l) (Option·map (λ u. b ∷ u) (text l)) ≡ some t → NoFeed t
-    go true i next e = none-after l e
-    go false i next e = before (text l) refl i next e
+    go true i further e = none-after l e
+    go false i further e = before (text l) refl i further e
 
 pub fed-read : (line : List ℕ) (y : Lined) → IsTextLine line y → textLine line ≡ some y
 fed-read line y (t, n, e, p) = ap readLine (ap text e ∙ text-whole t (no-feed n)) ∙ line-read p
@@ -97,15 +96,36 @@ skip-plain (suc l) = plain refl (plain refl (skip-plain l))
 fed-lines : Lines IsTextLine textLine
 fed-lines = record { exact = λ line y. (fed-read line y, fed-from line y); skips = λ l. let (t, p) = skip-line l in (t ++ (lineFeed ∷ []), (t, skip-plain l, refl, is-line p (word skips))) }
 
+-- lines of the grammar are read one by one
+pub lines-are : {bs : List (List ℕ)} {ls : List Lined} → Spelt IsTextLine textLine bs ls → allSome (map textLine bs) ≡ some ls
+unfolding allSome
+lines-are done = refl
+lines-are (next {b} {y} p s) = rw (fed-read b y p, lines-are s)
+
+-- lines of the grammar, one after the other, are the lines of their bytes
+cut-again : {bs : List (List ℕ)} {ls : List Lined} → Spelt IsTextLine textLine bs ls → lines (flatten bs) ≡ bs
+unfolding lines flatten
+cut-again done = refl
+cut-again (next {b} {bs = bs} p s) =
+    let (t, n, e, _) = p in
+    whole-line b t (ap text e ∙ text-whole t (no-feed n)) .1 (flatten bs) ∙ ap (λ (more : List (List ℕ)). b ∷ more) (cut-again s)
+
+-- a text of the grammar, by the lines that its bytes are cut into
+pub by-lines : (text : List ℕ) (ps : Trees) → OfGrammar text ps ↔ ((length text ≤ maxText) × Document IsTextLine textLine (lines text) ps)
+by-lines text ps = (to, λ g. (g .0, (lines text, sym (concat-lines text), g .1)))
+  where
+    to : OfGrammar text ps → (length text ≤ maxText) × Document IsTextLine textLine (lines text) ps
+    to (h, (bs, e, d)) = (h, subst (λ (ls : List (List ℕ)). Document IsTextLine textLine ls ps) (sym (ap lines e ∙ cut-again (d .1))) d)
+
 pub one-reading : OneReading
-one-reading text ps qs p q = read-unique IsTextLine textLine fed-lines (lines text) ps qs (p .1) (q .1)
+one-reading text ps qs p q = read-unique IsTextLine textLine fed-lines (lines text) ps qs (by-lines text ps .0 p .1) (by-lines text qs .0 q .1)
 
 -- of a text that is no longer than it may be
 short-enough : (text : List ℕ) → length text ≤ maxText
     → (faultLine IsTextLine textLine (lines text) ≡ none ↔ ((ps : Trees) × OfGrammar text ps)) × ((n : ℕ) → (faultLine IsTextLine textLine (lines text) ≡ some n) ↔ NotOfGrammar text n)
 short-enough text h =
     let (whole, at) = fault-exact IsTextLine textLine fed-lines (lines text) in (
-      (λ e. let (ps, d) = whole .0 e in (ps, (h, d)), λ w. let (ps, d) = w in whole .1 (ps, d .1)),
+      (λ e. let (ps, d) = whole .0 e in (ps, by-lines text ps .1 (h, d)), λ w. let (ps, g) = w in whole .1 (ps, by-lines text ps .0 g .1)),
       λ n. (λ e. at-line h (at n .0 e), λ f. at n .1 (inside-text f)),
     )
   where
@@ -132,3 +152,13 @@ grammar-exactly text = go (overlong text) refl
         × ((n : ℕ) → (ifElse b (some 0) (faultLine IsTextLine textLine (lines text)) ≡ some n) ↔ NotOfGrammar text n)
     go true e = past-limit text (ltb-true maxText (length text) e)
     go false e = short-enough text (ltb-false maxText (length text) e)
+
+-- a text that is not refused by 12: its lines are of the grammar, declarations and one process
+pub text-lines : (text : List ℕ) → grammarFault text ≡ none
+    → (length text ≤ maxText) × Spelt IsTextLine textLine (lines text) (textLines text) × ((ps : Trees) × Text (textLines text) ps)
+unfolding textLines
+text-lines text e =
+    let (ps, g) = grammar-exactly text .0 .0 e in
+    let (short, (ls, s, w)) = by-lines text ps .0 g in
+    let same : textLines text ≡ ls = ap orNone (lines-are s) in
+    (short, subst (λ (ms : List Lined). Spelt IsTextLine textLine (lines text) ms) (sym same) s, (ps, subst (λ (ms : List Lined). Text ms ps) (sym same) w))

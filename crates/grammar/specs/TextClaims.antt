@@ -1,7 +1,7 @@
 -- What is claimed of a text's bytes: which texts are of the grammar, that each is read in one way, and where the others are refused by 12.
 use mathlib.Core.Path.{_≡_}
 use mathlib.Core.Logic.{_↔_}
-use mathlib.Core.List.{List}
+use mathlib.Core.List.{List, flatten}
 use mathlib.Core.Option.{none, some}
 use Prim.Native.Nat.{ℕ, _<_, _≤_}
 use lib.ListN.{length}
@@ -10,9 +10,9 @@ use Rattle.grammar.specs.Outline.{Trees}
 use Rattle.grammar.specs.Places.{Document, Fault}
 use Rattle.grammar.specs.TextBytes.{maxText, IsTextLine, textLine, grammarFault}
 
--- a text of the grammar and the trees of its lines: at most 32,768 bytes; its lines are declarations and one process
+-- a text of the grammar and the trees of its lines: at most 32,768 bytes, which are lines one after the other, declarations and one process
 abbrev pub OfGrammar : List ℕ → Trees → Type 0
-OfGrammar text ps = (length text ≤ maxText) × Document IsTextLine textLine (lines text) ps
+OfGrammar text ps = (length text ≤ maxText) × ((ls : List (List ℕ)) × (text ≡ flatten ls) × Document IsTextLine textLine ls ps)
 
 -- 12: a text that is too long, at 0; else the first line that no lines after it could mend, or the line after the last, if the text only begins one of the grammar
 pub data NotOfGrammar (text : List ℕ) : ℕ → Type 0 where

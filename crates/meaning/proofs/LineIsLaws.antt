@@ -14,7 +14,8 @@ use Rattle.meaning.specs.PrintedForms.{Each, each-none, each-more}
 use Rattle.meaning.specs.ByteClaims.{NoFeed, LineIs, line-ended, line-unended, line-later}
 use Rattle.meaning.proofs.LineLaws.{Plain, text-whole, whole-line}
 
-no-feed : {t : List ℕ} → NoFeed t → Each Plain t
+-- no byte of it is a line feed, by the test
+pub no-feed : {t : List ℕ} → NoFeed t → Each Plain t
 no-feed each-none = each-none
 no-feed (each-more {x} p h) = each-more (ne-eqb x lineFeed p) (no-feed h)
 

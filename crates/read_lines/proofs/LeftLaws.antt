@@ -1,5 +1,5 @@
 -- The lines that a text has from a place on: the line there is the first of them, and the others begin where it ends.
-use mathlib.Core.Path.{_≡_, refl, sym, ap, _∙_}
+use mathlib.Core.Path.{_≡_, sym, ap, _∙_}
 use mathlib.Core.List.{List, [], _∷_, map}
 use mathlib.Core.Option.{Option, none, some, Option·none-ne-some}
 use Prim.Native.Nat.{ℕ, suc, _<_, _≤_}
@@ -15,10 +15,9 @@ use Rattle.meaning.proofs.FirstLine.{lines-first}
 use Rattle.meaning.proofs.NumeralForm.{let-through}
 use Rattle.grammar.specs.Outline.{OutlineLine, Lined, lined}
 use Rattle.grammar.specs.LineBytes.{atLevel}
-use Rattle.grammar.specs.Places.{Spelt, done, next}
-use Rattle.grammar.specs.TextBytes.{IsTextLine, textLine}
-use Rattle.grammar.specs.TextRows.{orNone, textLines}
-use Rattle.grammar.proofs.TextPlaces.{fed-read, grammar-exactly}
+use Rattle.grammar.specs.Places.{next}
+use Rattle.grammar.specs.TextBytes.{textLine}
+use Rattle.grammar.proofs.TextPlaces.{lines-are, text-lines}
 use Rattle.read_classes.specs.LineClasses.{lineOf}
 use Rattle.read_lines.specs.LineParts.{lineFrom, lineIn, bodyIn}
 use Rattle.read_lines.specs.Left.{LinesLeft, FirstLine, NoLine, StartLeft, LeftStep, LeftEnd, LeftMore}
@@ -36,18 +35,8 @@ pub no-line : NoLine
 unfolding lines
 no-line text at h = ap lines (drop-of-length-le text h)
 
--- lines of the grammar, read one by one
-lines-read : {bs : List (List ℕ)} {ls : List Lined} → Spelt IsTextLine textLine bs ls → allSome (map textLine bs) ≡ some ls
-unfolding allSome
-lines-read done = refl
-lines-read (next {b} {y} p s) = rw (fed-read b y p, lines-read s)
-
 pub start-left : StartLeft
-unfolding textLines
-start-left text e =
-    let (ps, g) = grammar-exactly text .0 .0 e in
-    let r = lines-read (g .1 .1) in
-    (g .0, r ∙ ap some (sym (ap orNone r)))
+start-left text e = let (short, s, _) = text-lines text e in (short, lines-are s)
 
 -- the first of some values that are all there, and the others
 first-there : (o : Option Lined) (os : List (Option Lined)) (y : Lined) (ys : List Lined) → allSome (o ∷ os) ≡ some (y ∷ ys) → (o ≡ some y) × (allSome os ≡ some ys)

@@ -1,6 +1,6 @@
 -- Names that are listed by where they stand in a text: where each begins, and how many bytes it has.
 use mathlib.Core.List.{List, [], _∷_}
-use Prim.Native.Nat.{ℕ, zero, suc}
+use Prim.Native.Nat.{ℕ}
 use lib.ListN.{take, drop}
 
 -- one name

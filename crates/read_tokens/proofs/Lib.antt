@@ -1,3 +1,5 @@
+pub mod WordFilter
+pub mod SymbolCases
 pub mod HangCases
 pub mod ChunkSteps
 pub mod ChunkFirst

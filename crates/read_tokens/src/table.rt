@@ -1,11 +1,12 @@
-// The words and symbols as constant tables, and the token that a table has for some bytes.
+// The words as a constant table, and the token that it has for some bytes; the symbols by their bytes.
 ghost use mathlib.Core.Path.{_≡_};
 ghost use mathlib.Core.Bool.{true};
+ghost use mathlib.Core.List.{[], _∷_};
 ghost use lib.IntN.{pos};
 ghost use Rattle.meaning.specs.Lines as lines;
 ghost use Rattle.grammar.specs.Tokens as tokens;
 ghost use Rattle.read_tokens.specs.Lexemes.{valued, lexemeOf};
-ghost use Rattle.read_tokens.specs.Table.{short, allShort, lineSpelling, lexemeIn};
+ghost use Rattle.read_tokens.specs.Table.{short, allShort, lineSpelling, lexemeIn, mayBeWord};
 use crate::Lexeme;
 use crate::sorts::*;
 use read_table::scan;
@@ -34,29 +35,6 @@ const WORDS: [[u8; 10]; 22] = [
     [b'T', b'R', b'U', b'E', 0, 0, 0, 4, UNUSED, 0],
     [b'F', b'A', b'L', b'S', b'E', 0, 0, 5, UNUSED, 1],
     [b'F', b'O', b'R', 0, 0, 0, 0, 3, UNUSED, 2],
-];
-
-// The symbols, in lines of the same form.
-const SYMBOLS: [[u8; 10]; 19] = [
-    [b':', b'=', 0, 0, 0, 0, 0, 2, BECOMES, 0],
-    [b'<', b'>', 0, 0, 0, 0, 0, 2, ARITH, 9],
-    [b'<', b'=', 0, 0, 0, 0, 0, 2, ARITH, 11],
-    [b'>', b'=', 0, 0, 0, 0, 0, 2, ARITH, 13],
-    [b':', 0, 0, 0, 0, 0, 0, 1, COLON, 0],
-    [b'=', 0, 0, 0, 0, 0, 0, 1, ARITH, 8],
-    [b'<', 0, 0, 0, 0, 0, 0, 1, ARITH, 10],
-    [b'>', 0, 0, 0, 0, 0, 0, 1, ARITH, 12],
-    [b'[', 0, 0, 0, 0, 0, 0, 1, SQUARE_OPEN, 0],
-    [b']', 0, 0, 0, 0, 0, 0, 1, SQUARE_CLOSE, 0],
-    [b'(', 0, 0, 0, 0, 0, 0, 1, ROUND_OPEN, 0],
-    [b')', 0, 0, 0, 0, 0, 0, 1, ROUND_CLOSE, 0],
-    [b'+', 0, 0, 0, 0, 0, 0, 1, ARITH, 0],
-    [b'-', 0, 0, 0, 0, 0, 0, 1, MINUS, 0],
-    [b'*', 0, 0, 0, 0, 0, 0, 1, ARITH, 2],
-    [b'/', 0, 0, 0, 0, 0, 0, 1, ARITH, 3],
-    [b'?', 0, 0, 0, 0, 0, 0, 1, ASKS, 0],
-    [b'!', 0, 0, 0, 0, 0, 0, 1, TELLS, 0],
-    [b'&', 0, 0, 0, 0, 0, 0, 1, AMPERSAND, 0],
 ];
 
 // A token of a sort and a value.
@@ -94,18 +72,94 @@ fn look_up(table: &[[u8; 10]], chunk: &[u8]) -> Lexeme
     lexeme(NO_TOKEN, 0)
 }
 
+// Whether some bytes can be a word of the grammar: by their number, and by the first of them, which is no small letter.
+fn may_be_word(chunk: &[u8]) -> bool
+    ensures { λ r. ⌜ r ≡ mayBeWord (now (chunk .entry)) ⌝ }
+{
+    if chunk.len() == 0 {
+        return false;
+    }
+    if 7 < chunk.len() {
+        return false;
+    }
+    chunk[0] <= b'Z'
+}
+
 // The word of the grammar that some bytes are.
 pub fn word(chunk: &[u8]) -> Lexeme
     ensures { λ r. ⌜ r ≡ lexemeOf (tokens.tokenSpelt tokens.words (now (chunk .entry))) ⌝ }
 {
+    if !may_be_word(chunk) {
+        return lexeme(NO_TOKEN, 0);
+    }
     let table = WORDS;
     look_up(&table, chunk)
+}
+
+// The symbol that a byte is.
+fn one_byte(b: u8) -> Lexeme
+    ensures { λ r. ⌜ r ≡ lexemeOf (tokens.tokenSpelt tokens.symbols (b ∷ [])) ⌝ }
+{
+    match b {
+        b':' => lexeme(COLON, 0),
+        b'=' => lexeme(ARITH, 8),
+        b'<' => lexeme(ARITH, 10),
+        b'>' => lexeme(ARITH, 12),
+        b'[' => lexeme(SQUARE_OPEN, 0),
+        b']' => lexeme(SQUARE_CLOSE, 0),
+        b'(' => lexeme(ROUND_OPEN, 0),
+        b')' => lexeme(ROUND_CLOSE, 0),
+        b'+' => lexeme(ARITH, 0),
+        b'-' => lexeme(MINUS, 0),
+        b'*' => lexeme(ARITH, 2),
+        b'/' => lexeme(ARITH, 3),
+        b'?' => lexeme(ASKS, 0),
+        b'!' => lexeme(TELLS, 0),
+        b'&' => lexeme(AMPERSAND, 0),
+        _ => lexeme(NO_TOKEN, 0),
+    }
+}
+
+// The symbol that ends with `=`, by the byte before it.
+fn with_equals(b: u8) -> Lexeme
+    ensures { λ r. ⌜ r ≡ lexemeOf (tokens.tokenSpelt tokens.symbols (b ∷ 61 ∷ [])) ⌝ }
+{
+    match b {
+        b':' => lexeme(BECOMES, 0),
+        b'<' => lexeme(ARITH, 11),
+        b'>' => lexeme(ARITH, 13),
+        _ => lexeme(NO_TOKEN, 0),
+    }
+}
+
+// The symbol that ends with `>`, by the byte before it.
+fn with_more(b: u8) -> Lexeme
+    ensures { λ r. ⌜ r ≡ lexemeOf (tokens.tokenSpelt tokens.symbols (b ∷ 62 ∷ [])) ⌝ }
+{
+    match b {
+        b'<' => lexeme(ARITH, 9),
+        _ => lexeme(NO_TOKEN, 0),
+    }
+}
+
+// The symbol that two bytes are.
+fn two_bytes(b: u8, c: u8) -> Lexeme
+    ensures { λ r. ⌜ r ≡ lexemeOf (tokens.tokenSpelt tokens.symbols (b ∷ c ∷ [])) ⌝ }
+{
+    match c {
+        b'=' => with_equals(b),
+        b'>' => with_more(b),
+        _ => lexeme(NO_TOKEN, 0),
+    }
 }
 
 // The symbol that some bytes are.
 pub fn symbol(chunk: &[u8]) -> Lexeme
     ensures { λ r. ⌜ r ≡ lexemeOf (tokens.tokenSpelt tokens.symbols (now (chunk .entry))) ⌝ }
 {
-    let table = SYMBOLS;
-    look_up(&table, chunk)
+    match chunk.len() {
+        1 => one_byte(chunk[0]),
+        2 => two_bytes(chunk[0], chunk[1]),
+        _ => lexeme(NO_TOKEN, 0),
+    }
 }

@@ -1,0 +1,2 @@
+pub mod OwnRows
+pub mod TokenRows

@@ -1,0 +1,4 @@
+pub mod Kinds
+pub mod Places
+pub mod Steps
+pub mod Outlines
