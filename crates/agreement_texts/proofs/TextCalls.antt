@@ -144,11 +144,13 @@ pub demand3-text : Demand3Text
 demand3-text text sheet accepted right w l s o r =
     let (whole, fine) = accepted-text text accepted in
     let (one, calls) = demand3 (textRows text) sheet fine right w l s o r in
-    let same : (choices : List ℕ) (budget : ℕ) (b : Buffers) → answered text sheet choices budget b ≡ onRows text sheet choices budget b = λ choices budget b. read-whole text sheet choices budget b whole in
-    (one, λ choices budget b e m. let (enough, less) = calls choices budget b e m in (
-      λ k. same choices budget b ∙ enough k,
-      λ k. let (total, some-ready, z) = less k in (total, some-ready, ap (λ (r : Reply). r .answer) (same choices budget b) ∙ z),
-    ))
+    let same : (choices : List ℕ) (budget : ℕ) (b : Buffers) → answered text sheet choices budget b ≡ onRows text sheet choices budget b = λ choices budget b. read-whole text sheet choices budget b whole in (
+      one,
+      λ choices budget b e m. let (enough, less) = calls choices budget b e m in (
+        λ k. same choices budget b ∙ enough k,
+        λ k. let (total, some-ready, z) = less k in (total, some-ready, ap (λ (r : Reply). r .answer) (same choices budget b) ∙ z),
+      ),
+    )
 
 pub calls-begin-text : CallsBeginText
 calls-begin-text text sheet w choices others budget bound b c o p n m total left e f =

@@ -11,9 +11,8 @@ pub mod classes; // classes.rt: the classes by number
 mod parts; // parts.rt: the parts of a line
 
 use classes::*;
-use parts::*;
-
 pub use parts::first_mark;
+use parts::*;
 
 // The first mark of a part: its sort, where the tokens before it end, and where it ends.
 pub struct Marked {

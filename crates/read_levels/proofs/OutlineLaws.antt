@@ -1,51 +1,49 @@
 -- The kinds that are read of a text of the grammar are those of its lines.
-use mathlib.Core.Path.{_≡_, refl, ap, _∙_}
-use mathlib.Core.Bool.{Bool, true, false≢true}
-use mathlib.Core.List.{List, [], _∷_}
-use mathlib.Core.Option.{Option, none, some}
+use mathlib.Core.Path.{_≡_, refl, sym, ap, _∙_}
+use mathlib.Core.Bool.{Bool}
+use mathlib.Core.List.{List, [], _∷_, map}
+use mathlib.Core.Option.{Option, none, some, Option·none-ne-some}
 use Prim.Native.Nat.{ℕ, suc}
+use native.Mathlib.Omega.{arith}
 use lib.ListN.{length, take, drop}
 use lib.Seq.{take-at}
 use borrow.Author.Tests.{le-ltb}
-use Rattle.meaning.specs.Basics.{ifElse}
+use Rattle.meaning.specs.Basics.{ifElse, allSome}
 use Rattle.meaning.specs.Lines.{lines}
-use Rattle.grammar.specs.Outline.{Lined, lined, heads, Levels, accept, acceptLine, acceptAll, levelsEnded, outset, wholeText}
-use Rattle.grammar.specs.Places.{Spelt, done, next, takeLine}
+use Rattle.grammar.specs.Outline.{Lined, lined, heads, Levels, accept, acceptLine, outset}
+use Rattle.grammar.specs.Places.{takeLine, orRest, placeFrom}
 use Rattle.grammar.specs.TextBytes.{IsTextLine, textLine, grammarFault}
 use Rattle.grammar.specs.TextRows.{textLines}
-use Rattle.grammar.proofs.LinesComplete.{lines-complete}
-use Rattle.grammar.proofs.TextPlaces.{fed-read, text-lines}
-use Rattle.read_lines.proofs.LeftLaws.{start-left}
+use Rattle.read_lines.proofs.LeftLaws.{all-placed, start-left, first-there, some-there}
 use Rattle.read_levels.specs.Kinds.{expectations, kindsFrom, kindsOf}
 use Rattle.read_levels.specs.Outlines.{kindIn, ifTaken, kindsTaken, kindsRead, past, outlined, OutlineHeld, KindsCounted}
 
--- lines that have failed have not ended
-never-ended : (ls : List Lined) → levelsEnded (acceptAll none ls) ≡ true → ⊥
-unfolding acceptAll acceptLine levelsEnded
-never-ended [] h = false≢true h
-never-ended (y ∷ ls) h = never-ended ls h
-
--- lines that are all taken: each has its kind
+-- each line has its kind
 abbrev Kept : List (List ℕ) → List Lined → Option Levels → Type 0
 Kept bs ls o = (kindsTaken o bs ≡ kindsFrom (expectations o ls) ls) × (length (kindsFrom (expectations o ls) ls) ≡ length ls)
 
-all-taken : {bs : List (List ℕ)} {ls : List Lined} → Spelt IsTextLine textLine bs ls → (k : Levels) → levelsEnded (acceptAll (some k) ls) ≡ true → Kept bs ls (some k)
-unfolding kindsTaken expectations kindsFrom takeLine acceptAll acceptLine
-all-taken done k h = (refl, refl)
-all-taken (next {b} {y = lined l x} {bs} {ls} p s) k h = rw (fed-read b (lined l x) p) (go (accept k l x) h (λ j. all-taken s j))
+-- lines that are taken to the end
+all-taken : (bs : List (List ℕ)) (ls : List Lined) → allSome (map textLine bs) ≡ some ls → (k : Levels) (n : ℕ) → placeFrom IsTextLine textLine (some k) n bs ≡ none → Kept bs ls (some k)
+unfolding allSome placeFrom orRest kindsTaken expectations kindsFrom takeLine acceptLine
+all-taken [] [] r k n h = (refl, refl)
+all-taken [] (y ∷ ls) r k n h = absurd (let z : _≡_ {A = ℕ} 0 1 = cc in omega arith)
+all-taken (b ∷ bs) [] r k n h = absurd (some-there (textLine b) (map textLine bs) r)
+all-taken (b ∷ bs) (lined l x ∷ ls) r k n h =
+    let (e, f) = first-there (textLine b) (map textLine bs) (lined l x) ls r in
+    rw e (go (accept k l x) (rw e at h) (λ j. all-taken bs ls f j (suc n)))
   where
     kind : ℕ
     kind = kindIn (some k) (some (lined l x))
 
-    go : (o : Option Levels) → levelsEnded (acceptAll o ls) ≡ true → ((j : Levels) → levelsEnded (acceptAll (some j) ls) ≡ true → Kept bs ls (some j))
+    go : (o : Option Levels) → orRest IsTextLine textLine o n (placeFrom IsTextLine textLine o (suc n) bs) ≡ none
+        → ((j : Levels) → placeFrom IsTextLine textLine (some j) (suc n) bs ≡ none → Kept bs ls (some j))
         → (ifTaken o kind (kindsTaken o bs) ≡ kind ∷ kindsFrom (expectations o ls) ls) × (suc (length (kindsFrom (expectations o ls) ls)) ≡ suc (length ls))
-    go none h rest = absurd (never-ended ls h)
+    go none h rest = absurd (Option·none-ne-some n (sym h))
     go (some j) h rest = let (e, f) = rest j h in (ap {B = List ℕ} (λ ks. kind ∷ ks) e, ap suc f)
 
--- so are those of a text of the grammar
+-- those of a text of the grammar are
 text-taken : (text : List ℕ) → grammarFault text ≡ none → Kept (lines text) (textLines text) outset
-unfolding wholeText
-text-taken text fine = let (_, s, (ps, w)) = text-lines text fine in all-taken s (heads ∷ []) (lines-complete (textLines text) ps w .0)
+text-taken text fine = all-taken (lines text) (textLines text) (start-left text fine .1) (heads ∷ []) 1 (all-placed text fine .1)
 
 kinds-are : (text : List ℕ) → grammarFault text ≡ none → kindsRead text ≡ kindsOf (textLines text)
 unfolding kindsRead kindsOf

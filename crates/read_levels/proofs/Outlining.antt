@@ -25,6 +25,7 @@ use Rattle.read_lines.specs.LineParts.{lineFrom, lineIn, bodyIn}
 use Rattle.read_lines.proofs.LineLaws.{line-inside, line-told}
 use Rattle.read_lines.proofs.LeftLaws.{first-line, no-line}
 use Rattle.read_levels.specs.declared.Place.{Place}
+use Rattle.read_levels.specs.declared.Place.the-variants.{Line as AtLine}
 use Rattle.read_levels.specs.declared.Step.{Step}
 use Rattle.read_levels.specs.Kinds.{expectNumber}
 use Rattle.read_levels.specs.Places.{placeOf}
@@ -40,6 +41,7 @@ placeLeft text k n at = placeFrom IsTextLine textLine (some k) n (lines (drop at
 abbrev kindsLeft : List ℕ → Levels → ℕ → List ℕ
 kindsLeft text k at = kindsTaken (some k) (lines (drop at text))
 
+-- so many lines are read, up to a place: the levels that they leave open, as the stack holds them, and their kinds, as the lent bytes hold them
 pub record Outlining (text lent stack₀ kinds stack : List ℕ) (depth count at : ℕ) : Type 0 where
   pub levels : Levels
   pub done : List ℕ

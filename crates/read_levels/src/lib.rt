@@ -5,10 +5,6 @@ ghost use lib.ListN.{length};
 ghost use Rattle.read_levels.specs.Steps.{beneathTable, afterTable, tableAt, Numbered, endedTo, stepAt, lineClass};
 ghost use Rattle.read_levels.specs.Outlines.{outlined};
 
-mod expects; // expects.rt: what may be expected at a level, by number
-
-use expects::*;
-
 // Where a text is at fault: nowhere, or at a line.
 pub enum Place {
     Nowhere,
@@ -22,164 +18,36 @@ struct Step {
     after: u8,
 }
 
-// Beneath a line that is a process or declares a variable, by its class.
-const BENEATH_MEMBER: [u8; 11] = [
-    NONE,
-    NOTHING,
-    NONE,
-    NOTHING,
-    NOTHING,
-    MEMBERS,
-    CHOICES,
-    OPTIONS,
-    ONE_PROCESS,
-    NONE,
-    NONE,
-];
+// One process, which must come. What is below it by number may end.
+const ONE_PROCESS: u8 = 4;
 
-// By what is expected where a line stands and by its class: what is expected beneath it.
+// Declarations and then one process.
+const HEADS: u8 = 6;
+
+// The line may not stand there.
+const NONE: u8 = 7;
+
+// What is expected beneath a line, by number. A row for what is expected where it stands; in a row first no line, and then the line's class: a variable's
+// declaration, another one; a process with nothing beneath it, an input; SEQ or PAR, IF, ALT, WHILE; a choice's boolean; a guard.
 const BENEATH: [[u8; 11]; 7] = [
-    BENEATH_MEMBER, // 0 processes
-    [
-        NONE,
-        NONE,
-        NONE,
-        NONE,
-        NONE,
-        NONE,
-        NONE,
-        NONE,
-        NONE,
-        ONE_PROCESS,
-        NONE,
-    ], // 1 choices
-    [
-        NONE,
-        NONE,
-        NONE,
-        NONE,
-        ONE_PROCESS,
-        NONE,
-        NONE,
-        NONE,
-        NONE,
-        NONE,
-        ONE_PROCESS,
-    ], // 2 options
-    [
-        NONE,
-        NONE,
-        NONE,
-        NONE,
-        NONE,
-        NONE,
-        NONE,
-        NONE,
-        NONE,
-        NONE,
-        NONE,
-    ], // 3 nothing
-    BENEATH_MEMBER, // 4 one process
-    BENEATH_MEMBER, // 5 one process, and then processes
-    [
-        NONE,
-        NOTHING,
-        NOTHING,
-        NOTHING,
-        NOTHING,
-        MEMBERS,
-        CHOICES,
-        OPTIONS,
-        ONE_PROCESS,
-        NONE,
-        NONE,
-    ], // 6 declarations and one process
+    [7, 3, 7, 3, 3, 0, 1, 2, 4, 7, 7], // 0 processes
+    [7, 7, 7, 7, 7, 7, 7, 7, 7, 4, 7], // 1 choices
+    [7, 7, 7, 7, 4, 7, 7, 7, 7, 7, 4], // 2 options
+    [7, 7, 7, 7, 7, 7, 7, 7, 7, 7, 7], // 3 nothing
+    [7, 3, 7, 3, 3, 0, 1, 2, 4, 7, 7], // 4 one process, which must come
+    [7, 3, 7, 3, 3, 0, 1, 2, 4, 7, 7], // 5 one process, which must come, and then processes
+    [7, 3, 3, 3, 3, 0, 1, 2, 4, 7, 7], // 6 declarations and then one process
 ];
 
-// After a member: another one must come if it declares a variable.
-const AFTER_MEMBER: [u8; 11] = [
-    NONE,
-    ONE_MEMBER,
-    MEMBERS,
-    MEMBERS,
-    MEMBERS,
-    MEMBERS,
-    MEMBERS,
-    MEMBERS,
-    MEMBERS,
-    MEMBERS,
-    MEMBERS,
-];
-
-// By what is expected where a line stands and by its class: what is expected after it.
+// What is expected after a line at its level, in the same order.
 const AFTER: [[u8; 11]; 7] = [
-    AFTER_MEMBER, // 0 processes
-    [
-        NONE,
-        CHOICES,
-        CHOICES,
-        CHOICES,
-        CHOICES,
-        CHOICES,
-        CHOICES,
-        CHOICES,
-        CHOICES,
-        CHOICES,
-        CHOICES,
-    ], // 1 choices
-    [
-        NONE,
-        OPTIONS,
-        OPTIONS,
-        OPTIONS,
-        OPTIONS,
-        OPTIONS,
-        OPTIONS,
-        OPTIONS,
-        OPTIONS,
-        OPTIONS,
-        OPTIONS,
-    ], // 2 options
-    [
-        NONE,
-        NOTHING,
-        NOTHING,
-        NOTHING,
-        NOTHING,
-        NOTHING,
-        NOTHING,
-        NOTHING,
-        NOTHING,
-        NOTHING,
-        NOTHING,
-    ], // 3 nothing
-    [
-        NONE,
-        ONE_PROCESS,
-        NOTHING,
-        NOTHING,
-        NOTHING,
-        NOTHING,
-        NOTHING,
-        NOTHING,
-        NOTHING,
-        NOTHING,
-        NOTHING,
-    ], // 4 one process
-    AFTER_MEMBER, // 5 one process, and then processes
-    [
-        NONE,
-        HEADS,
-        HEADS,
-        NOTHING,
-        NOTHING,
-        NOTHING,
-        NOTHING,
-        NOTHING,
-        NOTHING,
-        NOTHING,
-        NOTHING,
-    ], // 6 declarations and one process
+    [7, 5, 0, 0, 0, 0, 0, 0, 0, 0, 0], // 0 processes
+    [7, 1, 1, 1, 1, 1, 1, 1, 1, 1, 1], // 1 choices
+    [7, 2, 2, 2, 2, 2, 2, 2, 2, 2, 2], // 2 options
+    [7, 3, 3, 3, 3, 3, 3, 3, 3, 3, 3], // 3 nothing
+    [7, 4, 3, 3, 3, 3, 3, 3, 3, 3, 3], // 4 one process, which must come
+    [7, 5, 0, 0, 0, 0, 0, 0, 0, 0, 0], // 5 one process, which must come, and then processes
+    [7, 6, 6, 3, 3, 3, 3, 3, 3, 3, 3], // 6 declarations and then one process
 ];
 
 // What is expected beneath a line.

@@ -1,9 +1,9 @@
 -- The loop keeps what `Outlining` says: the levels that the lines so far leave open, and their kinds. Assumes nothing.
 use mathlib.Core.Path.{sym, _∙_}
+use mathlib.Core.Bool.{true, false}
 use mathlib.Core.List.{List}
 use Prim.Native.Nat.{ℕ, _-_, _≤_, _<_}
 use native.Mathlib.Omega.{arith}
-use mathlib.Core.Bool.{true, false}
 use lib.ListN.{length, set, length-set}
 use Rattle.read_lines.proofs.LineLaws.{line-inside}
 use Rattle.read_levels.proofs.TableTells.{line-class-few}
@@ -65,26 +65,25 @@ cast-t18 c =
 
 same-length : tie.Need-same-length Inv-loop μ-loop
 same-length c =
-    let t = c .before .before .before .before .before .before in
-    let l = t .before in
+    let l = c .before .before .before .before .before .before .before in
     let s = l .before .before .before .before in
-    let k = kinds-long (s .args .text .now) (s .pre .0) _ _ _ _ _ _ _ (l .loop .inv) (s .pre .1) in
-    k
+    kinds-long (s .args .text .now) (s .pre .0) _ _ _ _ _ _ _ (l .loop .inv) (s .pre .1)
 
 same-length-2 : tie.Need-same-length-2 Inv-loop μ-loop
 same-length-2 c =
-    let t = c .before .before .before .before .before .before in
-    let l = t .before in
+    let l = c .before .before .before .before .before .before .before in
     let s = l .before .before .before .before in
     l .loop .inv .stack-long ∙ length-set (s .args .stack .now) 0 6
 
 returns : tie.Need-returns Inv-loop μ-loop
 returns c =
-    let t = c .before .before .before .before .before .before in
+    let n = c .before .before .before .before .before in
+    let t = n .before in
     let l = t .before in
     let s = l .before .before .before .before in
     outlining-refused (s .args .text .now) (s .pre .0) _ _ _ _ _ _ _ (l .loop .inv) (t .loop-test .taken) (wide (s .args .stack .now) (s .pre .2))
-    (c .before .before .before .before .before .line-at .result) (c .before .before .before .before .before .line-at .ensures) (c .before .before .before .before .class-at .result) (c .before .before .before .before .class-at .ensures)
+    (n .line-at .result) (n .line-at .ensures)
+    (c .before .before .before .before .class-at .result) (c .before .before .before .before .class-at .ensures)
     (c .before .before .step-at .result) (c .before .before .step-at .ensures)
     (c .if1 .taken)
 
@@ -100,38 +99,42 @@ slice-write-kinds c =
 
 slice-write-stack-2 : tie.Need-slice-write-stack-2 Inv-loop μ-loop
 slice-write-stack-2 c =
-    let t = c .before .before .before .before .before .before in
+    let n = c .before .before .before .before .before in
+    let t = n .before in
     let l = t .before in
     let s = l .before .before .before .before in
-    let f = rw (sym (c .before .before .before .before .before .line-at .ensures)) at (level-fits (s .args .text .now) (s .pre .0) (l .loop .at) (t .loop-test .taken)) in
+    let f = rw (sym (n .line-at .ensures)) at (level-fits (s .args .text .now) (s .pre .0) (l .loop .at) (t .loop-test .taken)) in
     let w = l .loop .inv .stack-long in
     let r = wide (s .args .stack .now) (s .pre .2) in
     omega (arith, f, w, r)
 
 add-stack : tie.Need-add-stack Inv-loop μ-loop
 add-stack c =
-    let t = c .before .before .before .before .before .before in
+    let n = c .before .before .before .before .before in
+    let t = n .before in
     let l = t .before in
     let s = l .before .before .before .before in
-    let f = rw (sym (c .before .before .before .before .before .line-at .ensures)) at (level-fits (s .args .text .now) (s .pre .0) (l .loop .at) (t .loop-test .taken)) in
+    let f = rw (sym (n .line-at .ensures)) at (level-fits (s .args .text .now) (s .pre .0) (l .loop .at) (t .loop-test .taken)) in
     omega (arith, f)
 
 slice-write-stack-3 : tie.Need-slice-write-stack-3 Inv-loop μ-loop
 slice-write-stack-3 c =
-    let t = c .before .before .before .before .before .before in
+    let n = c .before .before .before .before .before in
+    let t = n .before in
     let l = t .before in
     let s = l .before .before .before .before in
-    let f = rw (sym (c .before .before .before .before .before .line-at .ensures)) at (level-fits (s .args .text .now) (s .pre .0) (l .loop .at) (t .loop-test .taken)) in
+    let f = rw (sym (n .line-at .ensures)) at (level-fits (s .args .text .now) (s .pre .0) (l .loop .at) (t .loop-test .taken)) in
     let w = l .loop .inv .stack-long in
     let r = wide (s .args .stack .now) (s .pre .2) in
     simp length-set (omega (arith, f, w, r))
 
 add-depth : tie.Need-add-depth Inv-loop μ-loop
 add-depth c =
-    let t = c .before .before .before .before .before .before in
+    let n = c .before .before .before .before .before in
+    let t = n .before in
     let l = t .before in
     let s = l .before .before .before .before in
-    let f = rw (sym (c .before .before .before .before .before .line-at .ensures)) at (level-fits (s .args .text .now) (s .pre .0) (l .loop .at) (t .loop-test .taken)) in
+    let f = rw (sym (n .line-at .ensures)) at (level-fits (s .args .text .now) (s .pre .0) (l .loop .at) (t .loop-test .taken)) in
     omega (arith, f)
 
 add-count : tie.Need-add-count Inv-loop μ-loop
@@ -144,21 +147,24 @@ add-count c =
 
 loop-less : tie.Need-loop-less Inv-loop μ-loop
 loop-less c =
-    let t = c .before .before .before .before .before .before in
+    let n = c .before .before .before .before .before in
+    let t = n .before in
     let l = t .before in
     let s = l .before .before .before .before in
     let h = t .loop-test .taken in
     let i = line-inside (s .args .text .now) (l .loop .at) h in
-    let n : l .loop .at < c .before .before .before .before .before .line-at .result .next = rw (c .before .before .before .before .before .line-at .ensures) (i .later) in
-    omega (arith, h, n)
+    let m : l .loop .at < n .line-at .result .next = rw (n .line-at .ensures) (i .later) in
+    omega (arith, h, m)
 
 loop-again : tie.Need-loop-again Inv-loop μ-loop
 loop-again c =
-    let t = c .before .before .before .before .before .before in
+    let n = c .before .before .before .before .before in
+    let t = n .before in
     let l = t .before in
     let s = l .before .before .before .before in
     outlining-goes-on (s .args .text .now) (s .pre .0) _ _ _ _ _ _ _ (l .loop .inv) (t .loop-test .taken) (wide (s .args .stack .now) (s .pre .2))
-    (c .before .before .before .before .before .line-at .result) (c .before .before .before .before .before .line-at .ensures) (c .before .before .before .before .class-at .result) (c .before .before .before .before .class-at .ensures)
+    (n .line-at .result) (n .line-at .ensures)
+    (c .before .before .before .before .class-at .result) (c .before .before .before .before .class-at .ensures)
     (c .before .before .step-at .result) (c .before .before .step-at .ensures)
     (s .pre .1) (c .if1 .left)
 
@@ -175,8 +181,7 @@ same-length-3 : tie.Need-same-length-3 Inv-loop μ-loop
 same-length-3 c =
     let l = c .before .before .before .before in
     let s = l .before .before .before .before in
-    let k = kinds-long (s .args .text .now) (s .pre .0) _ _ _ _ _ _ _ (l .loop .inv) (s .pre .1) in
-    k
+    kinds-long (s .args .text .now) (s .pre .0) _ _ _ _ _ _ _ (l .loop .inv) (s .pre .1)
 
 same-length-4 : tie.Need-same-length-4 Inv-loop μ-loop
 same-length-4 c =
@@ -212,8 +217,7 @@ same-length-5 : tie.Need-same-length-5 Inv-loop μ-loop
 same-length-5 c =
     let l = c .before .before .before .before in
     let s = l .before .before .before .before in
-    let k = kinds-long (s .args .text .now) (s .pre .0) _ _ _ _ _ _ _ (l .loop .inv) (s .pre .1) in
-    k
+    kinds-long (s .args .text .now) (s .pre .0) _ _ _ _ _ _ _ (l .loop .inv) (s .pre .1)
 
 same-length-6 : tie.Need-same-length-6 Inv-loop μ-loop
 same-length-6 c =

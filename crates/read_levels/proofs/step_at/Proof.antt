@@ -63,7 +63,8 @@ returns-3 c =
     let t = e .before in
     let i = t .before in
     let a = i .before .before .args in
-    step-told (a .stack .now) (a .depth) (a .level) (a .class) (i .if1 .left) (t .ended-to .result) (t .ended-to .ensures) (not-false (t .ended-to .result) (e .if2 .left)) (c .before .beneath .result) (c .after .result) (c .before .beneath .ensures) (c .after .ensures)
+    step-told (a .stack .now) (a .depth) (a .level) (a .class) (i .if1 .left) (t .ended-to .result) (t .ended-to .ensures)
+    (not-false (t .ended-to .result) (e .if2 .left)) (c .before .beneath .result) (c .after .result) (c .before .beneath .ensures) (c .after .ensures)
 
 pub step-at-spec : {M : Type 1} → statement M
 step-at-spec =
