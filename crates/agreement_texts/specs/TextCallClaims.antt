@@ -4,13 +4,15 @@ use mathlib.Core.Logic.{_≢_, _⊎_}
 use mathlib.Core.Bool.{false}
 use mathlib.Core.Option.{none, some}
 use mathlib.Core.List.{List}
-use Prim.Native.Nat.{ℕ, suc, _≤_}
+use Prim.Native.Nat.{ℕ, suc, _≤_, _<_}
+use lib.IntN.{ℤ}
 use lib.ListN.{length}
 use Rattle.meaning.specs.declared.Outcome.{Outcome}
 use Rattle.meaning.specs.declared.Answer.the-variants.{Refused, Ran}
 use Rattle.meaning.specs.Limits.{maxRows}
 use Rattle.meaning.specs.Lines.{lines}
 use Rattle.meaning.specs.Refusals.{Refusal}
+use Rattle.meaning.specs.Declarations.{declarations}
 use Rattle.meaning.specs.State.{State}
 use Rattle.meaning.specs.Labels.{Label}
 use Rattle.meaning.specs.Sheet.{sheetFault, readings}
@@ -56,16 +58,20 @@ pub data TextRefusal (text : List ℕ) : ℕ → ℕ → Type 0 where
   -- 3, 1,024
   too-many-rows : TextRefusal text 3 maxRows
 
--- the verdict on a text refuses with one of these, or its rows with 4 to 9 or 14
+-- how the rows of a text that is read are refused: not with 2, 3 or 5, and with 4 only at a declaration ("[0]INT x:")
+abbrev pub OfReadText : List ℤ → ℕ → ℕ → Type 0
+OfReadText rows number place = (number ≢ 2) × (number ≢ 3) × (number ≢ 5) × (number ≡ 4 → place < declarations rows)
+
+-- the verdict on a text refuses with one of these, or its rows with 4 (at a declaration), 6 to 9 or 14
 abbrev pub TextRefused : Type 0
 TextRefused = (text : List ℕ) (number place : ℕ) → checkText text ≡ some (number, place)
-    → TextRefusal text number place ⊎ (TableRefusal (textRows text) number place × (number ≢ 2) × (number ≢ 3))
+    → TextRefusal text number place ⊎ (TableRefusal (textRows text) number place × OfReadText (textRows text) number place)
 
--- a call on a text refuses with one of these, or as a call on its rows does, never with 2
+-- a call on a text refuses with one of these, or as a call on its rows does, but never with 2, 3 or 5, and with 4 only at a declaration
 abbrev pub TextCallRefused : Type 0
 TextCallRefused = (text sheet choices : List ℕ) (budget : ℕ) (b : Buffers) (number place : ℕ)
     → replyToText text sheet choices budget b .answer ≡ Refused number place
-    → TextRefusal text number place ⊎ (CallRefusal (textRows text) number place × (number ≢ 2))
+    → TextRefusal text number place ⊎ (CallRefusal (textRows text) number place × OfReadText (textRows text) number place)
 
 -- Demand 2 --------------------------------------------------------------------------------------------------------------------------
 

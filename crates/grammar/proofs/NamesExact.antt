@@ -84,13 +84,13 @@ on-line (allowed-used p) = in-uses p
 
 -- Declarations ----------------------------------------------------------------------------------------------------------------------
 
-its-name : (d : Declaration) → Declares d (nameOf d) (sizeOf d)
+pub its-name : (d : Declaration) → Declares d (nameOf d) (sizeOf d)
 its-name (variable z n) = a-variable
 its-name (channel z n) = a-channel
 its-name (source n) = a-source
 its-name (sink z n) = a-sink
 
-name-is : {d : Declaration} {n : List ℕ} {z : ℤ} → Declares d n z → (n ≡ nameOf d) × (z ≡ sizeOf d)
+pub name-is : {d : Declaration} {n : List ℕ} {z : ℤ} → Declares d n z → (n ≡ nameOf d) × (z ≡ sizeOf d)
 name-is a-variable = (refl, refl)
 name-is a-channel = (refl, refl)
 name-is a-source = (refl, refl)
@@ -117,10 +117,10 @@ true-serves (sink z n) as-variable e = absurd (false≢true e)
 true-serves (sink z n) as-input e = absurd (false≢true e)
 true-serves (sink z n) as-output e = sink-takes
 
-decides-serves : (d : Declaration) (s : Sort) → Decides (Serves d s) (serves d s)
+pub decides-serves : (d : Declaration) (s : Sort) → Decides (Serves d s) (serves d s)
 decides-serves d s = decides (serves d s) (true-serves d s) (λ e h. false≢true (sym e ∙ serves-true h))
 
-declared-line : (x : OutlineLine) (d : Declaration) → declarationIn x ≡ some d → x ≡ declare d
+pub declared-line : (x : OutlineLine) (d : Declaration) → declarationIn x ≡ some d → x ≡ declare d
 declared-line (declare d) c e = ap declare (Option·some-injective d c e)
 declared-line skip d e = absurd (Option·none-ne-some d e)
 declared-line stop d e = absurd (Option·none-ne-some d e)
@@ -139,7 +139,7 @@ declared-line (allowed f) d e = absurd (Option·none-ne-some d e)
 -- The first declaration of a name ---------------------------------------------------------------------------------------------------
 
 -- what is found
-data Finding (n : List ℕ) (ls : List Lined) : Option Found → Type 0 where
+pub data Finding (n : List ℕ) (ls : List Lined) : Option Found → Type 0 where
   not-declared : ((j : ℕ) (d : Declaration) (z : ℤ) → ¬ DeclaredOn ls j n d z) → Finding n ls none
   declared-first : {f : Found} {z : ℤ} → FirstOn ls (f .before) n (f .declaration) z → Finding n ls (some f)
 
@@ -156,10 +156,10 @@ one-further n y ls o free (declared-first {f} {z} p) = declared-first {z = z} (r
     none-there zero l c w h = free c w h
     none-there (suc j) l c w h = p .none-before j (omega arith) c w h
 
-line-is : {l m : ℕ} {x : OutlineLine} {d : Declaration} → some (lined l x) ≡ some (lined m (declare d)) → x ≡ declare d
+pub line-is : {l m : ℕ} {x : OutlineLine} {d : Declaration} → some (lined l x) ≡ some (lined m (declare d)) → x ≡ declare d
 line-is e = cc
 
-finding : (n : List ℕ) (ls : List Lined) → Finding n ls (firstDeclared n ls)
+pub finding : (n : List ℕ) (ls : List Lined) → Finding n ls (firstDeclared n ls)
 unfolding firstDeclared
 finding n [] = not-declared (λ j d z h. Option·none-ne-some _ (h .1))
 finding n (lined l x ∷ ls) = go (declarationIn x) refl (finding n ls)

@@ -1,8 +1,7 @@
 -- The rows of a text of the grammar: its declarations, and then a process, as rows that are made of declarations and a form.
 use mathlib.Core.Path.{_≡_, refl, sym, ap, subst, _∙_}
 use mathlib.Core.Bool.{Bool, true, false, _||_, false≢true}
-use mathlib.Core.List.{List, [], _∷_, _++_, map, flatten, List·Memᴰ, List·Memᴰ·head, List·Memᴰ·tail, List·Memᴰ·not-nil, List·Memᴰ·cases-cons, Memᴰ·append-right}
-use mathlib.Core.Logic.{⊎-elim}
+use mathlib.Core.List.{List, [], _∷_, _++_, map, flatten, List·Memᴰ, List·Memᴰ·head, List·Memᴰ·tail, Memᴰ·append-right}
 use mathlib.Core.Option.{some, Option·none-ne-some}
 use Prim.Native.Nat.{ℕ, zero, suc, _+_, _*_, _<_}
 use native.Mathlib.Omega.{arith}
@@ -15,11 +14,9 @@ use Rattle.meaning.specs.Rows.{naturalOf}
 use Rattle.meaning.specs.Declarations as table
 use Rattle.base_top_down.specs.Forms.{Form, row, Shaped, rowsFrom, formOf, topDown}
 use Rattle.base_top_down.proofs.Made.{made-declarations, made-form, made-top-down}
-use Rattle.grammar.specs.Grammar.{Token, Syn, literal, bare, at, monadic, dyadic, Element, alone, subscripted}
+use Rattle.grammar.specs.Grammar.{literal, bare, at, monadic, dyadic}
 use Rattle.grammar.specs.Outline.{Declaration, variable, channel, source, sink, OutlineLine, declare, skip, stop, assign, input, output, seq, par, ifs, alts, while, test, guarded, allowed, Lined, lined, Expect, nothing, heads, processBeneath, isDeclaration, expectedBeneath, expectedAfter, mayEnd, node, Trees, also, Block, end, more, grown}
-use Rattle.grammar.specs.Lines.{Spells, declares, word, repeats, assigns, inputs, outputs, tests, guards, allows, skips, stops, seqs, pars, chooses, selects}
-use Rattle.grammar.specs.Places.{Spelt, done, next, Document}
-use Rattle.grammar.specs.LineBytes.{IsLine, is-line}
+use Rattle.grammar.specs.Places.{Document}
 use Rattle.grammar.specs.TextBytes.{IsTextLine, textLine}
 use Rattle.grammar.specs.Names.{nameOf}
 use Rattle.grammar.specs.TextRows.{declarationRow, declarations, processForm, orNothing, treeForm, treesForm, linesRows, textLines, textRows}
@@ -28,61 +25,7 @@ use Rattle.grammar.specs.RowClaims.{RowsHold, RowsTopDown}
 use Rattle.grammar.proofs.LinesComplete.{lines-complete}
 use Rattle.grammar.proofs.TextPlaces.{lines-are, by-lines}
 use Rattle.grammar.proofs.FormsShaped.{trees-whole}
-
--- Lines whose elements are elements -------------------------------------------------------------------------------------------------
-
-abbrev IsElement : Syn → Type 0
-IsElement (literal z) = ⊥
-IsElement (bare n) = Unit {0}
-IsElement (at n e) = Unit {0}
-IsElement (monadic k e) = ⊥
-IsElement (dyadic k e f) = ⊥
-
-abbrev Proper : OutlineLine → Type 0
-Proper (declare d) = Unit {0}
-Proper skip = Unit {0}
-Proper stop = Unit {0}
-Proper (assign a e) = IsElement a
-Proper (input c a) = IsElement c
-Proper (output c e) = IsElement c
-Proper seq = Unit {0}
-Proper par = Unit {0}
-Proper ifs = Unit {0}
-Proper alts = Unit {0}
-Proper (while e) = Unit {0}
-Proper (test e) = Unit {0}
-Proper (guarded e c a) = Unit {0}
-Proper (allowed e) = Unit {0}
-
-element-is : {ts : List Token} {a : Syn} → Element ts a → IsElement a
-element-is alone = tt
-element-is (subscripted p) = tt
-
-spelt-proper : {ts : List Token} {x : OutlineLine} → Spells ts x → Proper x
-spelt-proper (declares h) = tt
-spelt-proper (word skips) = tt
-spelt-proper (word stops) = tt
-spelt-proper (word seqs) = tt
-spelt-proper (word pars) = tt
-spelt-proper (word chooses) = tt
-spelt-proper (word selects) = tt
-spelt-proper (repeats p) = tt
-spelt-proper (assigns p q) = element-is p
-spelt-proper (inputs p q) = element-is p
-spelt-proper (outputs p q) = element-is p
-spelt-proper (tests p) = tt
-spelt-proper (guards p q r) = tt
-spelt-proper (allows p) = tt
-
-abbrev ProperLine : Lined → Type 0
-ProperLine (lined l x) = Proper x
-
-line-proper : {t : List ℕ} {y : Lined} → IsLine t y → ProperLine y
-line-proper (is-line p s) = spelt-proper s
-
-all-proper : {bs : List (List ℕ)} {ls : List Lined} → Spelt IsTextLine textLine bs ls → (y : Lined) → List·Memᴰ y ls → ProperLine y
-all-proper done y m = absurd (List·Memᴰ·not-nil m)
-all-proper (next {y = z} p s) y m = ⊎-elim (λ e. subst ProperLine (sym e) (line-proper (p .3))) (λ r. all-proper s y r) (List·Memᴰ·cases-cons m)
+use Rattle.grammar.proofs.TokensInRange.{RangedLine, InRangeLine, lines-range}
 
 -- The process -----------------------------------------------------------------------------------------------------------------------
 
@@ -91,25 +34,25 @@ abbrev Root : Form → Type 0
 Root f = (k : ℕ) × ((a : Form) × ((b : Form) × ((c : Form) × (f ≡ row k a b c) × ((eqb k 1 || eqb k 2) ≡ false))))
 
 module _ (names : List (List ℕ)) where
-  process-root : (x : OutlineLine) (b : Form) (e : Expect) → processBeneath x ≡ some e → Proper x → Root (processForm names x b)
+  process-root : (x : OutlineLine) (b : Form) (e : Expect) → processBeneath x ≡ some e → RangedLine x → Root (processForm names x b)
   process-root (declare d) b e h p = absurd (Option·none-ne-some e h)
   process-root skip b e h p = (_, (_, (_, (_, refl, refl))))
   process-root stop b e h p = (_, (_, (_, (_, refl, refl))))
-  process-root (assign (literal z) f) b e h p = absurd p
+  process-root (assign (literal z) f) b e h p = absurd (p .0 .0)
   process-root (assign (bare n) f) b e h p = (_, (_, (_, (_, refl, refl))))
   process-root (assign (at n g) f) b e h p = (_, (_, (_, (_, refl, refl))))
-  process-root (assign (monadic k g) f) b e h p = absurd p
-  process-root (assign (dyadic k g i) f) b e h p = absurd p
-  process-root (input (literal z) f) b e h p = absurd p
+  process-root (assign (monadic k g) f) b e h p = absurd (p .0 .0)
+  process-root (assign (dyadic k g i) f) b e h p = absurd (p .0 .0)
+  process-root (input (literal z) f) b e h p = absurd (p .0 .0)
   process-root (input (bare n) f) b e h p = (_, (_, (_, (_, refl, refl))))
   process-root (input (at n g) f) b e h p = (_, (_, (_, (_, refl, refl))))
-  process-root (input (monadic k g) f) b e h p = absurd p
-  process-root (input (dyadic k g i) f) b e h p = absurd p
-  process-root (output (literal z) f) b e h p = absurd p
+  process-root (input (monadic k g) f) b e h p = absurd (p .0 .0)
+  process-root (input (dyadic k g i) f) b e h p = absurd (p .0 .0)
+  process-root (output (literal z) f) b e h p = absurd (p .0 .0)
   process-root (output (bare n) f) b e h p = (_, (_, (_, (_, refl, refl))))
   process-root (output (at n g) f) b e h p = (_, (_, (_, (_, refl, refl))))
-  process-root (output (monadic k g) f) b e h p = absurd p
-  process-root (output (dyadic k g i) f) b e h p = absurd p
+  process-root (output (monadic k g) f) b e h p = absurd (p .0 .0)
+  process-root (output (dyadic k g i) f) b e h p = absurd (p .0 .0)
   process-root seq b e h p = (_, (_, (_, (_, refl, refl))))
   process-root par b e h p = (_, (_, (_, (_, refl, refl))))
   process-root ifs b e h p = (_, (_, (_, (_, refl, refl))))
@@ -120,7 +63,7 @@ module _ (names : List (List ℕ)) where
   process-root (allowed f) b e h p = absurd (Option·none-ne-some e h)
 
   -- a declaration before the process, or the process
-  head-root : (x : OutlineLine) (ps qs : Trees) (e : Expect) → expectedBeneath heads x ≡ some e → Proper x → (isDeclaration x ≡ true → Root (treesForm names qs heads)) → Root (treesForm names (also (node x ps) qs) heads)
+  head-root : (x : OutlineLine) (ps qs : Trees) (e : Expect) → expectedBeneath heads x ≡ some e → RangedLine x → (isDeclaration x ≡ true → Root (treesForm names qs heads)) → Root (treesForm names (also (node x ps) qs) heads)
   unfolding treeForm treesForm expectedBeneath expectedAfter
   head-root x ps qs e h p later = go (isDeclaration x) refl h
     where
@@ -129,7 +72,7 @@ module _ (names : List (List ℕ)) where
       go true q h = later q
       go false q h = process-root x _ e h p
 
-  text-root : {e : Expect} {l : ℕ} {ls : List Lined} {ps : Trees} → Block e l ls ps → e ≡ heads → ((y : Lined) → List·Memᴰ y ls → ProperLine y) → Root (treesForm names ps heads)
+  text-root : {e : Expect} {l : ℕ} {ls : List Lined} {ps : Trees} → Block e l ls ps → e ≡ heads → ((y : Lined) → List·Memᴰ y ls → InRangeLine y) → Root (treesForm names ps heads)
   unfolding mayEnd expectedAfter
   text-root (end {e} h) q p = absurd (false≢true (sym (ap mayEnd q) ∙ h))
   text-root (more {e} {b} {l} {x} {ls} {ms} {ps} {qs} g c d) q p =
@@ -138,7 +81,7 @@ module _ (names : List (List ℕ)) where
 
 -- The declarations ------------------------------------------------------------------------------------------------------------------
 
-four : (d : Declaration) → length (declarationRow d) ≡ 4
+pub four : (d : Declaration) → length (declarationRow d) ≡ 4
 four (variable z n) = refl
 four (channel z n) = refl
 four (source n) = refl
@@ -150,7 +93,7 @@ rows-sized [] = refl
 rows-sized (d ∷ ds) = let e = length-append (declarationRow d) (flatten (map declarationRow ds)) in let f = four d in let g = rows-sized ds in omega arith
 
 -- what stands after the row of a declaration
-past : (d : Declaration) (rest : List ℤ) (m : ℕ) → getD (declarationRow d ++ rest) (suc (suc (suc (suc m)))) (pos 0) ≡ getD rest m (pos 0)
+pub past : (d : Declaration) (rest : List ℤ) (m : ℕ) → getD (declarationRow d ++ rest) (suc (suc (suc (suc m)))) (pos 0) ≡ getD rest m (pos 0)
 past (variable z n) rest m = refl
 past (channel z n) rest m = refl
 past (source n) rest m = refl
@@ -180,7 +123,7 @@ module _ (text : List ℕ) (ps : Trees) (g : OfGrammar text ps) where
   abbrev found : List Lined
   found = cut .0
 
-  there : textLines text ≡ found
+  pub there : textLines text ≡ found
   unfolding textLines
   there = rw (lines-are (cut .1))
 
@@ -188,7 +131,7 @@ module _ (text : List ℕ) (ps : Trees) (g : OfGrammar text ps) where
   grown-there = sym (lines-complete found ps (cut .2) .1)
 
   -- a text's rows are its declarations' and those of its process
-  rows-there : (ds : List Declaration) → ds ≡ declarations (textLines text) → textRows text ≡ flatten (map declarationRow ds) ++ rowsFrom (length ds) (treesForm (map nameOf ds) ps heads)
+  pub rows-there : (ds : List Declaration) → ds ≡ declarations (textLines text) → textRows text ≡ flatten (map declarationRow ds) ++ rowsFrom (length ds) (treesForm (map nameOf ds) ps heads)
   unfolding textRows linesRows
   rows-there ds e = rw (e, there, grown-there)
 
@@ -197,7 +140,7 @@ module _ (text : List ℕ) (ps : Trees) (g : OfGrammar text ps) where
 
   read : (ds : List Declaration) → Read ds (treesForm (map nameOf ds) ps heads) (flatten (map declarationRow ds) ++ rowsFrom (length ds) (treesForm (map nameOf ds) ps heads))
   read ds =
-      let (k, (a, (b, (c, e, u)))) = text-root (map nameOf ds) (cut .2) refl (all-proper (cut .1)) in
+      let (k, (a, (b, (c, e, u)))) = text-root (map nameOf ds) (cut .2) refl (lines-range (cut .1)) in
       let s : Shaped (row k a b c) = subst Shaped e (trees-whole (map nameOf ds) ps heads .1) in
       let D = flatten (map declarationRow ds) in
       subst (λ (f : Form). Read ds f (D ++ rowsFrom (length ds) f)) (sym e) (
