@@ -78,7 +78,7 @@ misnamed-first ls n (nowhere u h) = omega arith
 misnamed-first ls n (other-sort u f h) = omega arith
 misnamed-first ls n (not-one u f b h) = omega arith
 
-text-place : (text : List ℕ) {number place : ℕ} → RefusedText text number place → TextRefusal text number place
+pub text-place : (text : List ℕ) {number place : ℕ} → RefusedText text number place → TextRefusal text number place
 unfolding textLines
 text-place text (by-grammar f) = wrong-line (grammar-place text f)
 text-place text (by-names {n} g (b, m, l)) = misnamed-line (misnamed-first (textLines text) n m) (let w = lines-within (lines text) in omega (arith, b, w))
@@ -95,7 +95,7 @@ rows-length text =
     let c = length-append (flatten (map declarationRow ds)) (rowsFrom (length ds) f) in
     (length ds + formSize f, omega (arith, a, b, c))
 
-rows-whole : (text : List ℕ) → textFault text ≡ none → WholeRows (textRows text)
+pub rows-whole : (text : List ℕ) → textFault text ≡ none → WholeRows (textRows text)
 rows-whole text e = let (k, l) = rows-length text in (omega (arith, l), text-exactly text .0 .0 e .few-rows)
 
 -- of a text that is read, 4 is found at a declaration only, and 5 nowhere

@@ -74,19 +74,19 @@ parts-told a b k l small little e = go (decLt k l) (decLt l k)
     go (no h) (no g) = let same : k ≡ l = omega arith in (omega arith, same)
 
 -- the numbers of refusals are small
-few-numbers : {n m : ℕ} → (n ≤ m) ⊎ (n ≡ 14) → m ≤ 11 → n ≤ 14
+pub few-numbers : {n m : ℕ} → (n ≤ m) ⊎ (n ≡ 14) → m ≤ 11 → n ≤ 14
 few-numbers (inl l) h = omega arith
 few-numbers (inr e) h = omega arith
 
 pub answers-told : AnswersTold
 answers-told (Refused n p) (Refused m q) h k e =
-    let small = few-numbers (h .1) (omega arith) in let little = few-numbers (k .1) (omega arith) in
+    let small = h .1 in let little = k .1 in
     ap₂ Refused (omega arith) (omega arith)
 answers-told (Refused n p) (Ran o k m) h u e =
-    let low = h .0 in let small = few-numbers (h .1) (omega arith) in let a = outcome-some o in let b = outcome-small o in
+    let low = h .0 in let small = h .1 in let a = outcome-some o in let b = outcome-small o in
     absurd (omega arith)
 answers-told (Ran o k m) (Refused n p) u h e =
-    let low = h .0 in let small = few-numbers (h .1) (omega arith) in let a = outcome-some o in let b = outcome-small o in
+    let low = h .0 in let small = h .1 in let a = outcome-some o in let b = outcome-small o in
     absurd (omega arith)
 answers-told (Ran o k m) (Ran p l n) (few, _) (less, _) e =
     let (rest, total) = upper-told 1099511627776 (256 * outcomeNumber o + 65536 * k) (256 * outcomeNumber p + 65536 * l) m n (omega (arith, outcome-small o)) (omega (arith, outcome-small p)) e in
@@ -98,13 +98,13 @@ verdicts-told Accepted Accepted h k e = refl
 verdicts-told Accepted (Rejected n p) h k e = let low = k .0 in absurd (omega arith)
 verdicts-told (Rejected n p) Accepted h k e = let low = h .0 in absurd (omega arith)
 verdicts-told (Rejected n p) (Rejected m q) h k e =
-    let small = few-numbers (h .1) (omega arith) in let little = few-numbers (k .1) (omega arith) in
+    let small = h .1 in let little = k .1 in
     ap₂ Rejected (omega arith) (omega arith)
 
 -- a verdict stands below bit 32
 place-small : (v : Verdict) → PossibleVerdict v → PlaceWithin v → verdictNumber v < 4294967296
 place-small Accepted h k = omega arith
-place-small (Rejected n p) h k = let small = few-numbers (h .1) (omega arith) in omega arith
+place-small (Rejected n p) h k = let small = h .1 in omega arith
 
 pub checked-small : (c : Checked) → PossibleChecked c → verdictNumber (c .verdict) < 4294967296
 checked-small c h = place-small (c .verdict) (h .0) (h .1)
@@ -116,13 +116,13 @@ checks-told c d h k e =
     λ i. record { verdict = same i; pairs = pairs i }
 
 -- a run takes no more steps than its budget, and no more are ready than there are rows
-possible-run : (t : Task) (b : Buffers) (r : Reply) (o : Outcome) (k n : ℕ) → RanAs t b r o k n → (k ≤ 65536) × (n ≤ 1024)
+pub possible-run : (t : Task) (b : Buffers) (r : Reply) (o : Outcome) (k n : ℕ) → RanAs t b r o k n → (k ≤ 65536) × (n ≤ 1024)
 possible-run t b r o k n a = (omega (arith, a .steps-within, a .budget-allowed), omega (arith, a .total-within, rows-limit (t .rows) (a .table-accepted)))
 
 -- an answer that is a refusal only if that is a call's, and a run only if that is possible
 possible-answer : (rows : List ℤ) (a : Answer) → ((number place : ℕ) → a ≡ Refused number place → CallRefusal rows number place)
     → ((o : Outcome) (k n : ℕ) → a ≡ Ran o k n → (k ≤ 65536) × (n ≤ 1024)) → PossibleAnswer a
-possible-answer rows (Refused n p) h g = let (low, high, _) = numbers-known rows n p (h n p refl) in (low, high)
+possible-answer rows (Refused n p) h g = let (low, high, _) = numbers-known rows n p (h n p refl) in (low, few-numbers high (omega arith))
 possible-answer rows (Ran o k n) h g = g o k n refl
 
 pub calls-possible : CallsPossible
@@ -136,7 +136,7 @@ possible-traced : (l : TraceLists) (a q : Answer) → (listsTooShort l ≡ false
 possible-traced l a q long short h = go (listsTooShort l) refl
   where
     go : (t : Bool) → listsTooShort l ≡ t → PossibleAnswer a
-    go true e = subst PossibleAnswer (sym (short e)) (omega arith, inl (omega arith))
+    go true e = subst PossibleAnswer (sym (short e)) (omega arith, omega arith)
     go false e = subst PossibleAnswer (sym (long e)) h
 
 pub traced-possible : TracedPossible
@@ -152,7 +152,7 @@ traced-possible = (
 
 possible-verdict : (rows : List ℤ) (o : Option Refusal) → ((number place : ℕ) → o ≡ some (number, place) → TableRefusal rows number place) → PossibleVerdict (verdictOf o)
 possible-verdict rows none h = tt
-possible-verdict rows (some f) h = let (low, high, _) = table-known (h (f .0) (f .1) refl) in (low, high)
+possible-verdict rows (some f) h = let (low, high, _) = table-known (h (f .0) (f .1) refl) in (low, few-numbers high (omega arith))
 
 pub checks-possible : ChecksPossible
 checks-possible = (
@@ -162,7 +162,7 @@ checks-possible = (
 
 possible-checked : (rows : List ℤ) (o : Option Refusal) → ((number place : ℕ) → o ≡ some (number, place) → TableRefusal rows number place) → PossibleVerdict (verdictOf o) × PlaceWithin (verdictOf o)
 possible-checked rows none h = (tt, tt)
-possible-checked rows (some f) h = let (low, high, place) = table-known (h (f .0) (f .1) refl) in ((low, high), place)
+possible-checked rows (some f) h = let (low, high, place) = table-known (h (f .0) (f .1) refl) in ((low, few-numbers high (omega arith)), place)
 
 pub counted-possible : CountedPossible
 counted-possible = (

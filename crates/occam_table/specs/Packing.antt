@@ -8,6 +8,8 @@ use Rattle.meaning.specs.declared.Answer.the-variants.{Refused, Ran}
 use Rattle.meaning.specs.declared.Verdict.{Verdict}
 use Rattle.meaning.specs.declared.Verdict.the-variants.{Accepted, Rejected}
 use Rattle.meaning.specs.declared.Checked.{Checked}
+use Rattle.read_text.specs.declared.TextRead.{TextRead}
+use Rattle.read_text.specs.declared.TextRead.the-variants as read
 
 -- an outcome's number
 abbrev pub outcomeNumber : Outcome → ℕ
@@ -24,6 +26,11 @@ verdictNumber (Rejected n p) = n + 65536 * p
 -- a verdict and, by 2 to the 32, the count of pairs compared
 abbrev pub checkedNumber : Checked → ℕ
 checkedNumber c = verdictNumber (c .verdict) + 4294967296 * c .pairs
+
+-- what reading a text comes to: 0 with the count of rows, or a refusal's number with its place
+abbrev pub readNumber : TextRead → ℕ
+readNumber (read.Rows n) = 65536 * n
+readNumber (read.Refused n p) = n + 65536 * p
 
 -- an answer: a refusal's number with its place, or an outcome with its steps and, by 2 to the 40, the ready steps
 abbrev pub answerNumber : Answer → ℕ

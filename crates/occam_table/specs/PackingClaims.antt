@@ -1,6 +1,5 @@
 -- One number, one answer, as types: what a C caller may conclude from the number of an exported function.
 use mathlib.Core.Path.{_≡_}
-use mathlib.Core.Logic.{_⊎_}
 use mathlib.Core.List.{List}
 use Prim.Native.Nat.{ℕ, _≤_}
 use lib.IntN.{ℤ}
@@ -12,17 +11,26 @@ use Rattle.meaning.specs.declared.Answer.the-variants.{Refused, Ran}
 use Rattle.meaning.specs.declared.Verdict.{Verdict}
 use Rattle.meaning.specs.declared.Verdict.the-variants.{Accepted, Rejected}
 use Rattle.meaning.specs.declared.Checked.{Checked}
-use Rattle.occam_table.specs.Packing.{verdictNumber, checkedNumber, answerNumber}
+use Rattle.grammar.specs.TextCalls.{checkText, replyToText}
+use Rattle.read_text.specs.Reading.{textRead}
+use Rattle.read_text.specs.declared.TextRead.{TextRead}
+use Rattle.read_text.specs.declared.TextRead.the-variants as read
+use Rattle.occam_table.specs.Packing.{verdictNumber, checkedNumber, readNumber, answerNumber}
 
--- the answers that can be given: a run of 65,536 steps at most with 1,024 ready at most, or one of the numbered refusals, 1 to 11 and 14
+-- the answers that can be given: a run of 65,536 steps at most with 1,024 ready at most, or one of the numbered refusals, 1 to 14
 abbrev pub PossibleAnswer : Answer → Type 0
-PossibleAnswer (Refused number place) = (1 ≤ number) × ((number ≤ 11) ⊎ (number ≡ 14))
+PossibleAnswer (Refused number place) = (1 ≤ number) × (number ≤ 14)
 PossibleAnswer (Ran outcome steps total) = (steps ≤ 65536) × (total ≤ 1024)
 
--- the verdicts that can be given: accepted, or one of the refusals 2 to 9 and 14
+-- the verdicts that can be given: accepted, or one of the refusals 2 to 14
 abbrev pub PossibleVerdict : Verdict → Type 0
 PossibleVerdict Accepted = Unit {0}
-PossibleVerdict (Rejected number place) = (2 ≤ number) × ((number ≤ 9) ⊎ (number ≡ 14))
+PossibleVerdict (Rejected number place) = (2 ≤ number) × (number ≤ 14)
+
+-- what reading a text can come to: 1,024 rows at most, or one of the refusals
+abbrev pub PossibleRead : TextRead → Type 0
+PossibleRead (read.Rows n) = n ≤ 1024
+PossibleRead (read.Refused number place) = (1 ≤ number) × (number ≤ 14)
 
 -- with a count: the place of a refusal is at most 1,026
 abbrev pub PlaceWithin : Verdict → Type 0
@@ -42,6 +50,9 @@ VerdictsTold = (v w : Verdict) → PossibleVerdict v → PossibleVerdict w → v
 abbrev pub ChecksTold : Type 0
 ChecksTold = (c d : Checked) → PossibleChecked c → PossibleChecked d → checkedNumber c ≡ checkedNumber d → c ≡ d
 
+abbrev pub ReadsTold : Type 0
+ReadsTold = (r s : TextRead) → PossibleRead r → PossibleRead s → readNumber r ≡ readNumber s → r ≡ s
+
 -- every call, traced or not, and every check, counted or not, gives such a one
 abbrev pub CallsPossible : Type 0
 CallsPossible = ((t : Task) (b : Buffers) → PossibleAnswer (reply t b .answer))
@@ -56,3 +67,9 @@ ChecksPossible = ((rows : List ℤ) → PossibleVerdict (verdictOf (check rows))
 
 abbrev pub CountedPossible : Type 0
 CountedPossible = ((rows : List ℤ) → PossibleChecked (checkCounted rows)) × ((table : List ℕ) → PossibleChecked (checkBytesCounted table))
+
+-- and so does every call on a text, its verdict, and its reading
+abbrev pub TextsPossible : Type 0
+TextsPossible = ((text : List ℕ) → PossibleVerdict (verdictOf (checkText text)))
+    × ((text sheet choices : List ℕ) (budget : ℕ) (b : Buffers) → PossibleAnswer (replyToText text sheet choices budget b .answer))
+    × ((text : List ℕ) (rows : List ℤ) → PossibleRead (textRead text rows .0))

@@ -1,11 +1,12 @@
 // Answers as one number.
 ghost use mathlib.Core.Path.{_≡_};
-ghost use Rattle.occam_table.specs.Packing.{outcomeNumber, verdictNumber, checkedNumber, answerNumber};
-ghost use Rattle.occam_table.specs.PackingClaims.{PossibleChecked, PossibleAnswer};
+ghost use Rattle.occam_table.specs.Packing.{outcomeNumber, verdictNumber, checkedNumber, readNumber, answerNumber};
+ghost use Rattle.occam_table.specs.PackingClaims.{PossibleChecked, PossibleRead, PossibleAnswer};
 use meaning::Answer;
 use meaning::Checked;
 use meaning::Outcome;
 use meaning::Verdict;
+use read_text::TextRead;
 
 // A verdict's number: 0, or the refusal's with its place.
 pub fn verdict_number(v: Verdict) -> u64
@@ -24,6 +25,17 @@ pub fn checked_number(c: Checked) -> u64
 {
     let verdict = c.verdict;
     verdict_number(verdict) + 4294967296 * (c.pairs as u64)
+}
+
+// What reading a text comes to: the count of rows, or the refusal's number with its place.
+pub fn read_number(r: TextRead) -> u64
+    requires { ⌜ PossibleRead r ⌝ }
+    ensures { λ n. ⌜ n ≡ readNumber r ⌝ }
+{
+    match r {
+        TextRead::Rows(count) => 65536 * (count as u64),
+        TextRead::Refused(number, place) => number as u64 + 65536 * (place as u64),
+    }
 }
 
 // An outcome's number.

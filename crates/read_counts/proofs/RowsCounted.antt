@@ -175,7 +175,7 @@ rows-parted (e ∷ es) (lined l x ∷ ls) h = let i = rows-parted es ls (omega a
 line-spelt : {t : List ℕ} {y : Lined} → IsLine t y → SpeltLine y
 line-spelt (is-line {ts = ts} p s) = (ts, s)
 
-all-spelt : {bs : List (List ℕ)} {ls : List Lined} → Spelt IsTextLine textLine bs ls → AllSpelt ls
+pub all-spelt : {bs : List (List ℕ)} {ls : List Lined} → Spelt IsTextLine textLine bs ls → AllSpelt ls
 all-spelt done y m = absurd (List·Memᴰ·not-nil m)
 all-spelt (next {y = z} p s) y m = ⊎-elim (λ e. subst SpeltLine (sym e) (line-spelt (p .3))) (λ r. all-spelt s y r) (List·Memᴰ·cases-cons m)
 

@@ -56,7 +56,7 @@ kinds-counted text fine = text-taken text fine .1
 
 pub outline-held : OutlineHeld
 unfolding outlined
-outline-held text lent fine long =
+outline-held text lent fine =
     let ls = textLines text in
     record {
       of-grammar = fine;

@@ -2,7 +2,7 @@
 use mathlib.Core.Path.{_≡_}
 use mathlib.Core.List.{List, [], _∷_, _++_}
 use mathlib.Core.Option.{Option, none, some}
-use Prim.Native.Nat.{ℕ, _≤_}
+use Prim.Native.Nat.{ℕ}
 use lib.ListN.{length, drop}
 use Rattle.meaning.specs.Basics.{ifElse}
 use Rattle.meaning.specs.Lines.{lines}
@@ -49,7 +49,7 @@ outlined text lent = (placeOf (grammarFault text), past (kindsRead text) lent)
 
 -- the kinds of a text of the grammar are held
 abbrev pub OutlineHeld : Type 0
-OutlineHeld = (text lent : List ℕ) → grammarFault text ≡ none → 32768 ≤ length lent → Outlined text (outlined text lent .1)
+OutlineHeld = (text lent : List ℕ) → grammarFault text ≡ none → Outlined text (outlined text lent .1)
 
 -- there is one for each line
 abbrev pub KindsCounted : Type 0

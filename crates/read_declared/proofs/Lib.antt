@@ -1,0 +1,9 @@
+pub mod NameParts
+pub mod FirstSteps
+pub mod HeaderLaws
+pub mod OrderLaws
+pub mod KindLaws
+pub mod LineSteps
+pub mod ListSteps
+pub mod GatherSteps
+pub mod RowSteps

@@ -1,0 +1,4 @@
+pub mod Overlay
+pub mod TokenRows
+pub mod Free
+pub mod Expressions

@@ -1,0 +1,9 @@
+pub mod SetsLaws
+pub mod LineForms
+pub mod LineLaid
+pub mod LinePut
+pub mod BlockForms
+pub mod BlockLaid
+pub mod Levels
+pub mod TextLines
+pub mod BlockRoom

@@ -1,0 +1,3 @@
+pub mod Standing
+pub mod Layout
+pub mod Room

@@ -1,0 +1,4 @@
+pub mod Roles
+pub mod Follows
+pub mod Marks
+pub mod PartTokens

@@ -1,0 +1,3 @@
+pub mod OverlaySteps
+pub mod FormSteps
+pub mod MarkSteps

@@ -1,0 +1,22 @@
+-- Its row. Assumes nothing.
+use mathlib.Core.Path.{refl}
+use mir.Syntax.{w32}
+use mir.ValLaws.{toZ-ofZ}
+use borrow.Author.Needs.{needs}
+use Rattle.read_parts.proofs.write_word.Statement.{statement}
+use Rattle.read_parts.proofs.write_word.Tie as tie
+
+write-four-requires : tie.Need-write-four-requires
+write-four-requires c κs = search needs
+
+add-result : tie.Need-add-result
+add-result c = search needs
+
+same-length : tie.Need-same-length
+same-length c = search needs
+
+returns : tie.Need-returns
+returns c = (refl, rw (toZ-ofZ w32 (c .before .before .before .args .kind) (c .before .before .before .fits .kind), toZ-ofZ w32 (c .before .before .before .args .a) (c .before .before .before .fits .a)) at (c .before .write-four .ensures))
+
+pub write-word-spec : {M : Type 1} → statement M
+write-word-spec = tie.close (tie.spec write-four-requires add-result same-length returns)

@@ -1,0 +1,4 @@
+pub mod OnwardLaws
+pub mod WriteSteps
+pub mod WholeText
+pub mod LineWritten

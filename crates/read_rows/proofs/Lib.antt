@@ -1,0 +1,4 @@
+pub mod LineTold
+pub mod StandSteps
+pub mod LineCases
+pub mod ListCases

@@ -1,0 +1,4 @@
+pub mod SumSteps
+pub mod LeftLines
+pub mod LineSteps
+pub mod TextMeasured

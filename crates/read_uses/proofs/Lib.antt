@@ -1,0 +1,5 @@
+pub mod UseLaws
+pub mod MisuseLaws
+pub mod UseSteps
+pub mod TokenSteps
+pub mod NameSteps
