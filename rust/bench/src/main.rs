@@ -1,7 +1,8 @@
 //! Times of the proved code beside those of the separate program, on this machine.
 //!
 //! `cargo run --offline --release -p bench` prints one table, `bench pairs` its lines about the count of
-//! pairs compared (request 03), `bench largest` its last lines: the largest sheets. The other words are
+//! pairs compared (request 03), `bench texts` those about the reading of the largest texts (request 02),
+//! `bench largest` its last lines: the largest sheets. The other words are
 //! for counts of instructions (`rust/bench/instructions`): `bench once SHEET SIDE BUDGET` makes one
 //! call on a sheet that `bench sheets` lists, `bench grown PART NUMBER SIDE BUDGET` one on a sheet with
 //! so many of a part that `bench growth` lists, and `bench calls NUMBER SIDE` so many on a table of one
@@ -12,7 +13,9 @@ mod sheets;
 mod tree;
 
 use occam_table::{calls, Buffers};
-use reference::{answer_bytes, check_bytes, check_bytes_counted, Answer, BUFFER_LENGTHS};
+use reference::{
+    answer_bytes, check_bytes, check_bytes_counted, read_text, Answer, BUFFER_LENGTHS,
+};
 use sheets::Sheet;
 use std::hint::black_box;
 use std::time::Instant;
@@ -27,8 +30,8 @@ const CHECKS: u32 = 20;
 
 /// The headings of the columns, in two lines.
 const HEADINGS: [&str; 2] = [
-    "                                                 proved             separate          ratio      net ns a step",
-    "sheet                      rows  bytes  steps    least   median     least   median   least median   proved separate",
+    "                                                     proved             separate          ratio      net ns a step",
+    "sheet                          rows  bytes  steps    least   median     least   median   least median   proved separate",
 ];
 
 /// One of the two programs.
@@ -47,6 +50,10 @@ fn main() {
             print_headings();
             print_pairs();
         }
+        ["texts"] => {
+            print_headings();
+            print_texts();
+        }
         ["largest"] => print_largest(),
         ["sheets"] => print_sheets(),
         ["growth"] => print_growth(),
@@ -63,7 +70,7 @@ fn main() {
         }
         _ => {
             eprintln!(
-                "usage: bench | bench pairs | bench largest | bench sheets | bench growth | bench once SHEET SIDE BUDGET | \
+                "usage: bench | bench pairs | bench texts | bench largest | bench sheets | bench growth | bench once SHEET SIDE BUDGET | \
                  bench grown PART NUMBER SIDE BUDGET | bench calls NUMBER SIDE"
             );
             std::process::exit(2);
@@ -114,6 +121,18 @@ fn check_counted(side: Side, sheet: &Sheet) -> usize {
     }
 }
 
+/// Reads a text; tells the count of rows, or 0 if it is refused.
+fn read(side: Side, text: &[u8], rows: &mut [i32]) -> usize {
+    let text = black_box(text);
+    match side {
+        Side::Proved => match calls::read_text(text, rows) {
+            packed if packed as u8 == 0 => (packed >> 16) as usize,
+            _ => 0,
+        },
+        Side::Separate => black_box(read_text(text)).map_or(0, |rows| rows.len()),
+    }
+}
+
 /// The least and the middle of some times, in microseconds.
 struct Times {
     least: f64,
@@ -147,6 +166,7 @@ fn print_times() {
         println!("{}", line(&sheet, 0, &checked));
     }
     print_pairs();
+    print_texts();
     for sheet in sheets::runs() {
         print_runs(&sheet, ROUNDS);
     }
@@ -162,6 +182,21 @@ fn print_pairs() {
         let counted = |side| assert_eq!(check_counted(side, &sheet), pairs);
         let checked = times(counted, CHECKS, ROUNDS);
         println!("{}", line(&sheet, pairs as u64, &checked));
+    }
+}
+
+/// Prints the times of reading the largest texts; the column of rows has those of the table, 0 if
+/// the text is refused.
+fn print_texts() {
+    let mut rows = vec![0; 4 * occam_table::ROWS];
+    for (name, text) in sheets::texts() {
+        let count = read(Side::Separate, text.as_bytes(), &mut rows);
+        let reading = |side| assert_eq!(read(side, text.as_bytes(), &mut rows), count);
+        let taken = times(reading, CHECKS, ROUNDS);
+        println!(
+            "{}",
+            columns(&format!("read: {name}"), count, text.len(), 0, &taken)
+        );
     }
 }
 
@@ -209,12 +244,21 @@ fn print_runs(sheet: &Sheet, turns: usize) {
 }
 
 /// One line of the table: a sheet, its steps, times and ratios.
-fn line(sheet: &Sheet, steps: u64, [proved, separate]: &[Times; 2]) -> String {
+fn line(sheet: &Sheet, steps: u64, times: &[Times; 2]) -> String {
     let rows = sheet.table.iter().filter(|&&byte| byte == b'\n').count() - 1;
+    columns(sheet.name, rows, sheet.table.len(), steps, times)
+}
+
+/// The columns of one line.
+fn columns(
+    name: &str,
+    rows: usize,
+    bytes: usize,
+    steps: u64,
+    [proved, separate]: &[Times; 2],
+) -> String {
     format!(
-        "{:26} {rows:4} {:6} {steps:6} {:8.1} {:8.1}  {:8.1} {:8.1}  {:6.2} {:6.2}",
-        sheet.name,
-        sheet.table.len(),
+        "{name:30} {rows:4} {bytes:6} {steps:6} {:8.1} {:8.1}  {:8.1} {:8.1}  {:6.2} {:6.2}",
         proved.least,
         proved.median,
         separate.least,

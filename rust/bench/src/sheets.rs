@@ -3,6 +3,7 @@
 use crate::tree::{
     bytes, dyadic, raised, repeat, table, Expression, Name, Process, DIVIDE, LESS, PLUS, REMAINDER,
 };
+use reference::generate::occam::largest::{largest_read, largest_refused, Named};
 use Expression::{At, Cell, Literal};
 use Process::{Assign, AssignAt, If, Input, Output, Par, Seq, Skip, While};
 
@@ -46,6 +47,11 @@ pub fn pairs() -> Vec<Sheet> {
         sheet("pairs: 508 nested PARs", &[], &nested(507, skips(4), false)),
         sheet("pairs: 255 nested of two", &[], &nested(255, Skip, true)),
     ]
+}
+
+/// The largest texts, whose reading is timed.
+pub fn texts() -> Vec<Named> {
+    [largest_read(), largest_refused()].concat()
 }
 
 /// Eight processes in a row: a source, six relays and a sink, 1,500 values.

@@ -6,6 +6,7 @@ pub mod inputs;
 mod lending;
 mod packed;
 pub mod random;
+mod texts;
 mod traces;
 
 pub use beginnings::{compare_beginnings, Ahead};
@@ -16,11 +17,13 @@ use packed::{packed_answer, packed_answer_at};
 use reference::table::rows_of_bytes;
 use reference::{answer_bytes, answer_rows, traced_bytes};
 use reference::{Answer, Ran, BUFFER_LENGTHS, TRACE_LENGTH};
+pub use texts::compare_text;
 pub use traces::compare_traces;
 
 /// What one comparison is given.
 #[derive(Clone, Debug)]
 pub struct Given {
+    /// A table's bytes, or a text.
     pub table: Vec<u8>,
     pub sheet: Vec<u8>,
     pub choices: Vec<u16>,
@@ -179,8 +182,19 @@ fn compare_binding(given: &Given, machine: &mut Machine) -> Result<(), String> {
         ..
     } = given;
     let answer = answer_bytes(table, sheet, choices, u64::from(*budget), BUFFER_LENGTHS);
+    compare_run_or_refusal(machine, answer, |machine| {
+        machine.run_table(table, sheet, choices, *budget)
+    })
+}
+
+/// Compares a run of the binding, or its refusal, with an answer.
+fn compare_run_or_refusal(
+    machine: &mut Machine,
+    answer: Answer,
+    run: impl FnOnce(&mut Machine) -> Result<Run<'_>, occam_table::Refusal>,
+) -> Result<(), String> {
     let before = machine.buffers().clone();
-    match (machine.run_table(table, sheet, choices, *budget), answer) {
+    match (run(machine), answer) {
         (Ok(run), Answer::Ran(ran)) => compare_run(&run, &ran),
         (Err(proved), Answer::Refused(separate)) => {
             let told = (separate.number, separate.place);

@@ -1,11 +1,12 @@
-//! A fuzz target: reads the sheet runner's input (a table, a line `=`, a sheet) from standard
-//! input, and aborts where the proved library and the separate program differ.
+//! A fuzz target: reads the sheet runner's input (a table or a text, a line `=`, a sheet) from
+//! standard input, takes its first part as a table and as a text, and aborts where the proved library
+//! and the separate program differ.
 //!
 //! It runs with no choices, and with choices that follow from the input's bytes. The budget is
 //! small, so that a loop that never ends costs little.
 
 use fuzz::random::Random;
-use fuzz::{compare, Given};
+use fuzz::{compare, compare_text, Given};
 use occam_table::Machine;
 use reference::printing::split_input;
 use std::io::Read;
@@ -25,9 +26,11 @@ fn main() {
     let mut machine = Machine::new();
     for choices in [Vec::new(), choices_of(&input)] {
         let given = Given::new(table, sheet, choices, BUDGET);
-        if let Err(difference) = compare(&given, &mut machine) {
-            eprintln!("{difference}");
-            std::process::abort();
+        for compare in [compare, compare_text] {
+            if let Err(difference) = compare(&given, &mut machine) {
+                eprintln!("{difference}");
+                std::process::abort();
+            }
         }
     }
 }

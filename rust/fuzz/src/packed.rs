@@ -3,7 +3,7 @@
 use reference::{Answer, Checked, Outcome, Refusal, Traced};
 
 /// A refusal: its number, and 65,536 times its place.
-fn packed_refusal(refusal: &Refusal) -> u64 {
+pub fn packed_refusal(refusal: &Refusal) -> u64 {
     u64::from(refusal.number) + 65_536 * u64::from(refusal.place)
 }
 

@@ -40,9 +40,19 @@ impl Random {
 
     /// Changes, adds or takes out a byte, mostly one that tables and sheets are made of.
     pub fn damage(&mut self, bytes: &mut Vec<u8>) {
+        self.damage_with(bytes, b"0123456789-,\n");
+    }
+
+    /// The same with a byte that texts are made of.
+    pub fn damage_text(&mut self, bytes: &mut Vec<u8>) {
+        self.damage_with(bytes, b"  \n\n()[]:=<>+-*/?!&012789abnx_NTRSEQ");
+    }
+
+    /// Changes, adds or takes out a byte, mostly one of these.
+    fn damage_with(&mut self, bytes: &mut Vec<u8>, mostly: &[u8]) {
         let byte = match self.below(8) {
             0 => self.next() as u8,
-            _ => self.pick(b"0123456789-,\n"),
+            _ => self.pick(mostly),
         };
         let place = self.below(bytes.len() + 1);
         match self.below(3) {

@@ -1,13 +1,14 @@
-//! Tables at the limits, deep and wide: the library answers in a thread with a stack of 1 MiB (`occam_table::STACK`, half of
+//! Tables and texts at the limits, deep and wide: the library answers in a thread with a stack of 1 MiB (`occam_table::STACK`, half of
 //! what a thread has by default), and as the separate program does.
 //!
 //! `cargo test --offline --release -p fuzz --test limits -- --ignored --nocapture` finds out the least stack of each.
 
 mod tables;
 
-use fuzz::{compare, Given};
+use fuzz::{compare, compare_text, Given};
 use occam_table::{calls, check_rows_counted, check_table_counted};
 use occam_table::{Buffers, Checked, Machine, Refusal, STACK};
+use reference::generate::occam::largest::{largest_read, largest_refused, Named};
 use std::process::{Command, Stdio};
 use std::thread;
 use tables::{
@@ -216,6 +217,37 @@ fn pairs_of_255_nested_pars_with_two_members() {
 fn pairs_of_the_largest_of_everything() {
     // 8 inputs, 8 outputs, 231 assignments and a SKIP: 248 members
     assert_eq!(counted(largest()), accepted(3 * 30_628));
+}
+
+/// Reads, checks and runs each of these texts within the stack of a call; then the comparison, with room
+/// for the separate program.
+fn answer_texts(texts: Vec<Named>) {
+    for (name, text) in texts {
+        let given = Given::new(text.as_bytes(), b"\n", vec![3, 1, 4], 500);
+        let answers = within(stack(), move || {
+            let text = text.as_bytes();
+            let mut rows = vec![0; 4_096];
+            let lent = &mut Buffers::default();
+            let read = calls::read_text(text, &mut rows);
+            let ran = calls::run_text(text, b"\n", &[3, 1, 4], 500, lent.lend());
+            [read, calls::check_text(text), ran]
+        });
+        println!("{name}: {answers:?}");
+        within(65_536, move || {
+            let compared = compare_text(&given, &mut Machine::new());
+            compared.map(|_| ()).expect("equal answers")
+        });
+    }
+}
+
+#[test]
+fn the_largest_texts_that_are_read() {
+    answer_texts(largest_read());
+}
+
+#[test]
+fn the_largest_texts_that_are_refused() {
+    answer_texts(largest_refused());
 }
 
 /// The names of the tests above.

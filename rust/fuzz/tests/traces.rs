@@ -5,7 +5,7 @@ mod stored;
 
 use fuzz::inputs::{versions, VERSIONS};
 use fuzz::{compare_traces, Given};
-use occam_table::Machine;
+use occam_table::{read_text, Machine};
 use reference::printing::split_input;
 use reference::TRACE_LENGTH;
 use std::fmt::Write;
@@ -47,8 +47,15 @@ fn printed(case: &Path, machine: &mut Machine) -> String {
     });
     let input = fs::read(case).expect("bytes");
     let (table, sheet) = split_input(&input);
+    let traced = match words.iter().any(|word| word == "--text") {
+        true => {
+            let rows = read_text(table).expect("read");
+            machine.run_rows_traced(rows.as_flattened(), sheet, &choices, budget)
+        }
+        false => machine.run_table_traced(table, sheet, &choices, budget),
+    };
     let mut text = String::new();
-    match machine.run_table_traced(table, sheet, &choices, budget) {
+    match traced {
         Ok(traced) => {
             for (number, step) in (1..).zip(traced.steps()) {
                 writeln!(text, "step,{number},{},{}", step.ready, step.row).expect("written");

@@ -2,13 +2,13 @@
 
 use std::fmt;
 
-/// One of the numbered refusals of document 01, or 14 of document 02, with its place.
+/// One of the numbered refusals of document 01, or 12 to 14 of document 02, with its place.
 ///
-/// The place is a line of the table (2), a line of the sheet (10), a row (4 to 9 and 14), the
-/// count of rows (3, and 5 if there is no root), or 0.
+/// The place is a line of the table (2), a line of the sheet (10), a line of the text (12, 13), a
+/// row (4 to 9 and 14), the count of rows (3, and 5 if there is no root), or 0.
 #[derive(Clone, Copy, Debug, PartialEq, Eq, Hash)]
 pub struct Refusal {
-    /// The refusal's number: 1 to 11, or 14.
+    /// The refusal's number: 1 to 14.
     pub number: u8,
     /// The line or row at fault.
     pub place: u32,
@@ -23,7 +23,8 @@ impl fmt::Display for Refusal {
 
 impl std::error::Error for Refusal {}
 
-/// The verdict on a table: accepted, or the first of refusals 2 to 6, 14, and 7 to 9.
+/// The verdict on a table: accepted, or the first of refusals 2 to 6, 14, and 7 to 9. Of a text 12,
+/// 13 and 3 come first, and 2 and 5 cannot be.
 pub type Verdict = Result<(), Refusal>;
 
 /// The verdict on a table, and beside it the count of pairs compared (request 03 of document 02).
@@ -165,6 +166,14 @@ pub(crate) fn checked(packed: u64) -> Checked {
     }
 }
 
+/// How many rows a packed reading of a text tells, or its refusal.
+pub(crate) fn rows_read(packed: u64) -> Result<usize, Refusal> {
+    match refusal(packed) {
+        Some(refusal) => Err(refusal),
+        None => Ok(middle(packed) as usize),
+    }
+}
+
 /// What a packed answer tells of a run.
 #[derive(Clone, Copy, Debug, PartialEq, Eq)]
 pub(crate) struct Told {
@@ -193,7 +202,7 @@ fn refusal(packed: u64) -> Option<Refusal> {
     (number != 0).then_some(Refusal { number, place })
 }
 
-/// The 24 bits of a packed answer from bit 16 on: a refusal's place, or the steps.
+/// The 24 bits of a packed answer from bit 16 on: a refusal's place, the steps, or the rows read.
 fn middle(packed: u64) -> u32 {
     (packed >> 16) as u32 & 0xFF_FFFF
 }
@@ -222,6 +231,8 @@ mod tests {
         assert_eq!(verdict(0), Ok(()));
         assert_eq!(verdict(4 + 65_536 * 12), Err(refused));
         assert_eq!(answer(4 + 65_536 * 12), Err(refused));
+        assert_eq!(rows_read(65_536 * 1_024), Ok(1_024));
+        assert_eq!(rows_read(4 + 65_536 * 12), Err(refused));
         let of = |verdict, pairs| Checked { verdict, pairs };
         assert_eq!(checked(390_915 << 32), of(Ok(()), 390_915));
         let clash = 4 + 65_536 * 12 + (7 << 32);

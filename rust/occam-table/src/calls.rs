@@ -10,7 +10,7 @@
 use crate::buffers::{Lent, LentTrace};
 
 mod exported {
-    /// Declares an exported run: a table or rows, the sheet, the choices and the budget, the seven
+    /// Declares an exported run: a table, a text or rows, the sheet, the choices and the budget, the seven
     /// lent buffers, then the further lists of a traced one.
     macro_rules! declare_run {
         ($name:ident($table:ty $(, $list:ty)*)) => {
@@ -50,6 +50,14 @@ mod exported {
         declare_run!(occam_run_table(u8));
         declare_run!(occam_run_rows_traced(i32, u16, u16));
         declare_run!(occam_run_table_traced(u8, u16, u16));
+        pub fn occam_read_text(
+            text: *const u8,
+            text_length: usize,
+            rows: *mut i32,
+            rows_length: usize,
+        ) -> u64;
+        pub fn occam_check_text(text: *const u8, text_length: usize) -> u64;
+        declare_run!(occam_run_text(u8));
         pub fn occam_read_rows(
             table: *const u8,
             table_length: usize,
@@ -178,6 +186,24 @@ pub fn run_table_traced(
 pub fn read_rows(table: &[u8], rows: &mut [i32]) -> u64 {
     // SAFETY: both pointers come from slices, with their lengths; `rows` is borrowed alone.
     unsafe { exported::occam_read_rows(table.as_ptr(), table.len(), rows.as_mut_ptr(), rows.len()) }
+}
+
+/// The packed reading of a text: its rows in `rows` and 65,536 times their count, or a refusal,
+/// which writes nothing; `rows` shorter than 4,096 is refusal 1.
+pub fn read_text(text: &[u8], rows: &mut [i32]) -> u64 {
+    // SAFETY: both pointers come from slices, with their lengths; `rows` is borrowed alone.
+    unsafe { exported::occam_read_text(text.as_ptr(), text.len(), rows.as_mut_ptr(), rows.len()) }
+}
+
+/// The packed verdict on a text.
+pub fn check_text(text: &[u8]) -> u64 {
+    // SAFETY: the pointer comes from a slice, with its length; nothing is written.
+    unsafe { exported::occam_check_text(text.as_ptr(), text.len()) }
+}
+
+/// The packed answer to a text; a run leaves its state in what is lent.
+pub fn run_text(text: &[u8], sheet: &[u8], choices: &[u16], budget: u32, lent: Lent) -> u64 {
+    call_run!(occam_run_text(text, (sheet, choices, budget), lent))
 }
 
 /// Where the strip of an output channel begins, and 65,536 times its capacity; `channel`

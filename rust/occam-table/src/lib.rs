@@ -30,6 +30,21 @@
 //! # Ok::<(), occam_table::Refusal>(())
 //! ```
 //!
+//! # A text
+//!
+//! The same, typed as occam. [`read_text`] gives the rows of a text.
+//!
+//! ```
+//! use occam_table::{check_text, Machine, BUDGET};
+//!
+//! let text = b"HOSTIN lime:\nHOSTOUT 4 panel:\nINT x:\nSEQ\n  lime ? x\n  panel ! x + 5\n";
+//! check_text(text)?;
+//! let mut machine = Machine::new();
+//! let run = machine.run_text(text, b"0\n120\n", &[], BUDGET)?;
+//! assert_eq!(run.list(0), [Some(125)]);
+//! # Ok::<(), occam_table::Refusal>(())
+//! ```
+//!
 //! # A refusal
 //!
 //! ```
@@ -44,7 +59,7 @@
 //! # Memory
 //!
 //! A call of the library uses no heap. It answers within [`STACK`] bytes of stack, the deepest
-//! tables included.
+//! tables and texts included.
 
 mod answers;
 mod buffers;
@@ -56,6 +71,7 @@ pub mod calls;
 mod machine;
 mod run;
 mod sizes;
+mod texts;
 mod traced;
 
 pub use answers::{Checked, Outcome, Reason, Refusal, RowState, Verdict};
@@ -64,6 +80,7 @@ pub use buffers::{BUDGET, CAPACITIES, CELLS, HOST_CHANNELS, ROWS, TRACE};
 pub use machine::{check_rows, check_rows_counted, check_table, check_table_counted};
 pub use machine::{read_rows, strip, Machine, Strip};
 pub use run::{Run, Snapshot};
+pub use texts::{check_text, read_text};
 pub use traced::{Step, Traced};
 
 /// What to do where the proved library is missing.

@@ -190,6 +190,32 @@ impl Machine {
         self.held.run_of_table(packed, table)
     }
 
+    /// Runs an occam text on a sheet's bytes. The names of the sheet's first line are the rows of
+    /// the channels, as for a table: a text's declarations are its first rows, in the order of their
+    /// lines.
+    ///
+    /// ```
+    /// use occam_table::{Machine, Outcome, BUDGET};
+    ///
+    /// let text = b"HOSTIN lime:\nHOSTOUT 4 panel:\nINT x:\nSEQ\n  lime ? x\n  panel ! x + 5\n";
+    /// let mut machine = Machine::new();
+    /// let run = machine.run_text(text, b"0\n120\n", &[], BUDGET)?;
+    /// assert_eq!((run.outcome, run.steps), (Outcome::Ended, 2));
+    /// assert_eq!(run.list(0), [Some(125)]);
+    /// # Ok::<(), occam_table::Refusal>(())
+    /// ```
+    pub fn run_text(
+        &mut self,
+        text: &[u8],
+        sheet: &[u8],
+        choices: &[u16],
+        budget: u32,
+    ) -> Result<Run<'_>, Refusal> {
+        let lent = self.held.buffers.lend();
+        let packed = calls::run_text(text, sheet, choices, budget, lent);
+        self.held.run_of_text(packed, text)
+    }
+
     /// Runs rows lent as numbers, four to each, on a sheet's bytes.
     pub fn run_rows(
         &mut self,
@@ -245,6 +271,14 @@ impl Held {
         let told = answers::answer(packed)?;
         let written = calls::read_rows(table, &mut self.rows) as usize;
         let sizes = note_strips(&self.rows[..written], &mut self.strips);
+        Ok(Run::new(told, &self.buffers, sizes, &self.strips))
+    }
+
+    /// The run of a packed answer to a text, or its refusal.
+    fn run_of_text(&mut self, packed: u64, text: &[u8]) -> Result<Run<'_>, Refusal> {
+        let told = answers::answer(packed)?;
+        let count = answers::rows_read(calls::read_text(text, &mut self.rows))?;
+        let sizes = note_strips(&self.rows[..4 * count], &mut self.strips);
         Ok(Run::new(told, &self.buffers, sizes, &self.strips))
     }
 

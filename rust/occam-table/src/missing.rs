@@ -27,5 +27,8 @@ missing! {
     run_rows_traced(&[i32], &[u8], &[u16], u32, Lent, LentTrace) -> u64;
     run_table_traced(&[u8], &[u8], &[u16], u32, Lent, LentTrace) -> u64;
     read_rows(&[u8], &mut [i32]) -> u64;
+    read_text(&[u8], &mut [i32]) -> u64;
+    check_text(&[u8]) -> u64;
+    run_text(&[u8], &[u8], &[u16], u32, Lent) -> u64;
     strip(&[i32], usize) -> u64;
 }

@@ -4,16 +4,20 @@ use std::fs::{self, File};
 use std::path::{Path, PathBuf};
 use std::process::{Command, Output};
 
-/// The words that neither `run` nor `ready` has: these cases are for the separate program.
-const OTHER_WORDS: [&str; 5] = ["--lengths", "--numbers", "--check", "--full", "--trace"];
+/// The words that neither `run` nor `ready` has: these cases are for other commands, or for the
+/// separate program.
+const OTHER_WORDS: [&str; 7] = [
+    "--lengths",
+    "--numbers",
+    "--check",
+    "--full",
+    "--trace",
+    "--explore",
+    "--read",
+];
 
-/// The words of cases that are of a text (request 02), which the library does not read yet.
-const TEXT_WORDS: [&str; 2] = ["--text", "--read"];
-
-/// Whether a case with these words is of a text.
-fn is_of_a_text(words: &[String]) -> bool {
-    words.iter().any(|word| TEXT_WORDS.contains(&word.as_str()))
-}
+/// The word of cases that run or check a text.
+const TEXT: &str = "--text";
 
 /// The table up to the first line `=`, and the readings after it.
 fn parted(input: &[u8]) -> (&[u8], &[u8]) {
@@ -37,7 +41,7 @@ fn words(case: &Path) -> Vec<String> {
 fn flags_of_check(case: &Path) -> Option<Vec<String>> {
     let words = words(case);
     let (first, flags) = words.split_first()?;
-    let known = first == "--check" && flags.iter().all(|flag| flag == "--pairs");
+    let known = first == "--check" && flags.iter().all(|flag| flag == "--pairs" || flag == TEXT);
     known.then(|| flags.to_vec())
 }
 
@@ -93,9 +97,6 @@ fn stored_cases_print_what_is_stored() {
     for file in fs::read_dir(cases).expect("the folder is there") {
         let case = file.expect("a file").path();
         let words = words(&case);
-        if is_of_a_text(&words) {
-            continue;
-        }
         let (command, words) = match words.iter().position(|word| word == "--ready") {
             Some(at) => ("ready", [&words[..at], &words[at + 1..]].concat()),
             None => ("run", words),
@@ -108,7 +109,8 @@ fn stored_cases_print_what_is_stored() {
         }
         let stored = fs::read_to_string(case.with_extension("out")).expect("stored");
         let name = case.display();
-        if command == "run" {
+        // of a text only the plain lines are those of the sheet runner
+        if command == "run" && !words.iter().any(|word| word == TEXT) {
             assert_eq!(printed(&case, &folder, &words), stored, "{name}");
         }
         assert_eq!(printed_plain(command, &case, &words), stored, "{name}");
@@ -139,4 +141,31 @@ fn stored_verdicts_are_those_of_check() {
     }
     fs::remove_dir_all(&folder).expect("it is there");
     assert!(count > 100, "{count} verdicts");
+}
+
+#[test]
+fn stored_readings_are_those_of_read() {
+    let cases = Path::new(env!("CARGO_MANIFEST_DIR")).join("../../cases");
+    let folder = own_folder("readings");
+    let mut count = 0;
+    for file in fs::read_dir(cases).expect("the folder is there") {
+        let case = file.expect("a file").path();
+        let is_case = case.extension().is_some_and(|extension| extension == "in");
+        if !is_case || words(&case) != ["--read"] {
+            continue;
+        }
+        let input = fs::read(&case).expect("bytes");
+        let text = folder.join("text.in");
+        fs::write(&text, parted(&input).0).expect("written");
+        let stored = fs::read_to_string(case.with_extension("out")).expect("stored");
+        assert_eq!(
+            printed_plain("read", &text, &[]),
+            stored,
+            "{}",
+            case.display()
+        );
+        count += 1;
+    }
+    fs::remove_dir_all(&folder).expect("it is there");
+    assert!(count > 200, "{count} readings");
 }

@@ -6,6 +6,9 @@
 //! empty otherwise. The time of a check is stored as `...`. `OCCAM_STORE=1` writes the files anew:
 //! read them before they are kept.
 
+use reference::generate::occam::text_input;
+use reference::generate::random::Random;
+use reference::printing::split_input;
 use std::fs::{self, File};
 use std::path::{Path, PathBuf};
 use std::process::{Command, Stdio};
@@ -91,15 +94,15 @@ fn every_refusal_that_a_small_file_can_provoke_is_stored() {
     let files = fs::read_dir(folder()).expect("the folder is there");
     let texts = files.map(|entry| fs::read_to_string(entry.expect("an entry").path()));
     let told: Vec<u32> = texts.filter_map(|text| refusal_told(&text.ok()?)).collect();
-    for number in [2, 4, 5, 6, 7, 8, 9, 10, 11, 14] {
+    for number in [2, 4, 5, 6, 7, 8, 9, 10, 11, 12, 13, 14] {
         assert!(told.contains(&number), "{number}");
     }
 }
 
 /// Writes a file for one test, and tells its name.
-fn write(name: &str, text: &str) -> String {
+fn write(name: &str, text: impl AsRef<[u8]>) -> String {
     let path = std::env::temp_dir().join(format!("occam-table-{}-{name}", std::process::id()));
-    fs::write(&path, text).expect("written");
+    fs::write(&path, text.as_ref()).expect("written");
     path.display().to_string()
 }
 
@@ -132,7 +135,8 @@ fn large_files() {
     );
     assert!(text.contains("line 1026: 21,0,0,0"), "{text}");
 
-    let (status, text) = told("check", &[write("long.csv", &"7".repeat(32_769))]);
+    let long = format!("kind,a,b,c\n{}", "7".repeat(32_758));
+    let (status, text) = told("check", &[write("long.csv", &long)]);
     assert_eq!(status, Some(1));
     assert!(text.starts_with("refused: number 2, place 0\n"), "{text}");
     assert!(text.contains("has 32769 bytes; at most 32768"), "{text}");
@@ -147,4 +151,84 @@ fn large_files() {
     let files = [write("reads2.csv", table), write("many.sheet.csv", &many)];
     let (status, text) = told("run", &files);
     assert_eq!((status, text.as_str()), (Some(1), "refused,10,130,0\n"));
+}
+
+#[test]
+fn every_byte() {
+    let bytes: Vec<u8> = (0..=255).collect();
+    let (status, text) = told("check", &[write("bytes.occam", bytes)]);
+    assert_eq!(status, Some(1));
+    assert!(
+        text.starts_with("refused: number 12, line 1 of the text\n"),
+        "{text}"
+    );
+    assert!(text.contains("column 1: \"\\0\" stands there"), "{text}");
+}
+
+#[test]
+fn large_texts() {
+    let long = format!("INT x:\n{}", "7".repeat(32_762));
+    let (status, text) = told("check", &[write("long.occam", &long)]);
+    assert_eq!(status, Some(1));
+    assert!(text.starts_with("refused: number 12, place 0\n"), "{text}");
+    assert!(text.contains("has 32769 bytes; at most 32768"), "{text}");
+    assert!(text.contains("help: shorten the text"), "{text}");
+
+    let rows = format!("SEQ\n{}", "  SKIP\n".repeat(512));
+    let (status, text) = told("check", &[write("rows.occam", &rows)]);
+    assert_eq!(status, Some(1));
+    assert!(
+        text.starts_with("refused: number 3, after 1024 rows\n"),
+        "{text}"
+    );
+    assert!(text.contains("has 513 lines"), "{text}");
+
+    // The deepest brackets: the search for what is wrong takes no more stack than others.
+    let deep = format!("INT x:\nx := {}x\n", "(".repeat(32_000));
+    let (status, text) = told("check", &[write("deep.occam", &deep)]);
+    assert_eq!(status, Some(1));
+    assert!(text.contains("a round bracket is not closed"), "{text}");
+    assert!(text.lines().all(|line| line.len() < 200), "{text}");
+    let deep = format!(
+        "INT x:\nx := {0}x{1}\n",
+        "(".repeat(16_000),
+        ")".repeat(16_000)
+    );
+    let (status, text) = told("check", &[write("closed.occam", &deep)]);
+    assert_eq!((status, text.as_str()), (Some(0), "accepted\n"));
+}
+
+/// The status and standard error of a command on a file; whatever the file holds, it is no panic.
+fn ends_well(command: &[&str], file: &str) {
+    let output = Command::new(env!("CARGO_BIN_EXE_occam-table"))
+        .args(command)
+        .arg(file)
+        .output()
+        .expect("the program starts");
+    let error = String::from_utf8_lossy(&output.stderr);
+    let status = output.status.code();
+    assert!(matches!(status, Some(0 | 1)), "{status:?}: {error}");
+    assert!(!error.contains("panicked"), "{error}");
+}
+
+#[test]
+fn damaged_texts_end_in_no_backtrace() {
+    for seed in 0..100 {
+        let (input, _) = text_input(seed, seed % 5 != 0);
+        let mut text = split_input(&input).0.to_vec();
+        let random = &mut Random::new(seed);
+        for _ in 0..random.below(4) {
+            let byte = random.below(256) as u8;
+            text.insert(random.below(text.len() + 1), byte);
+        }
+        let path = std::env::temp_dir();
+        let path = path.join(format!("occam-table-{}-damaged", std::process::id()));
+        fs::write(&path, &text).expect("written");
+        let file = path.display().to_string();
+        ends_well(&["check"], &file);
+        ends_well(&["read"], &file);
+        ends_well(&["run", "--text", "--table", "--full", &file], &file);
+        ends_well(&["steps", "--text", "--budget", "20", &file], &file);
+        fs::remove_file(&path).expect("it is there");
+    }
 }

@@ -1,4 +1,5 @@
-//! The example sheets: stored output, the proved library and the separate program agree.
+//! The example sheets, as tables and as texts: stored output, the proved library and the separate
+//! program agree.
 
 use std::fs;
 use std::path::{Path, PathBuf};
@@ -19,11 +20,11 @@ fn names() -> Vec<String> {
     names.collect()
 }
 
-/// What the command line prints for an example.
-fn command(name: &str) -> String {
+/// What the command line prints for an example, its table or its text.
+fn command(name: &str, ending: &str) -> String {
     let output = Command::new(env!("CARGO_BIN_EXE_occam-table"))
-        .arg("run")
-        .arg(folder().join(format!("{name}.csv")))
+        .args(["run", "--plain"])
+        .arg(folder().join(format!("{name}.{ending}")))
         .arg(folder().join(format!("{name}.readings.csv")))
         .output()
         .expect("the program starts");
@@ -48,7 +49,8 @@ fn examples_print_what_is_stored() {
     for name in names {
         let stored = fs::read_to_string(folder().join(format!("{name}.out"))).expect("stored");
         assert_eq!(separate(&name), stored, "{name}, separate program");
-        assert_eq!(command(&name), stored, "{name}, proved library");
+        assert_eq!(command(&name, "csv"), stored, "{name}, proved library");
+        assert_eq!(command(&name, "occam"), stored, "{name}, its text");
     }
 }
 
@@ -68,7 +70,7 @@ fn every_table_has_readings_and_output() {
             continue;
         };
         tables += 1;
-        for beside in ["readings.csv", "out"] {
+        for beside in ["readings.csv", "out", "occam"] {
             assert!(
                 folder().join(format!("{name}.{beside}")).is_file(),
                 "{name}"
@@ -76,4 +78,22 @@ fn every_table_has_readings_and_output() {
         }
     }
     assert_eq!(tables, names().len());
+}
+
+/// The rows of an example's table, in top-down numbers.
+fn rows_of_table(name: &str) -> Vec<reference::table::Row> {
+    let table = fs::read(folder().join(format!("{name}.csv"))).expect("it is there");
+    let rows = reference::table::rows_of_bytes(&table).expect("rows");
+    reference::generate::occam::top_down(&rows)
+}
+
+#[test]
+fn every_text_is_read_to_its_table() {
+    for name in names() {
+        let text = fs::read(folder().join(format!("{name}.occam"))).expect("it is there");
+        let read = occam_table::read_text(&text).expect("read");
+        let table = rows_of_table(&name);
+        let rows = table.iter().map(|row| [row.kind, row.a, row.b, row.c]);
+        assert_eq!(read, rows.collect::<Vec<_>>(), "{name}");
+    }
 }

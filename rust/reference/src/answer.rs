@@ -107,6 +107,58 @@ impl<'a> Asked<'a> {
     }
 }
 
+/// What a call is given: the rows of a table, in one of three forms.
+#[derive(Clone, Copy, Debug)]
+pub enum Source<'a> {
+    /// A table's bytes.
+    Bytes(&'a [u8]),
+    /// Rows lent as numbers, four to each.
+    Numbers(&'a [i32]),
+    /// An occam text (request 02).
+    Text(&'a [u8]),
+}
+
+impl Source<'_> {
+    /// The rows, or the refusal of the form: 2, 3 of bytes, 3 of numbers, 12, 13, 3 of a text.
+    fn rows(self) -> Result<Vec<Row>, Refusal> {
+        match self {
+            Source::Bytes(table) => rows_of_bytes(table),
+            Source::Numbers(numbers) => rows_of_numbers(numbers),
+            Source::Text(text) => read_text(text),
+        }
+    }
+
+    /// The answer to a sheet, choices and a budget, with lent buffers of these lengths.
+    pub fn answer(self, sheet: &[u8], choices: &[u16], budget: u64, lengths: [usize; 7]) -> Answer {
+        let asked = Asked::new(sheet, choices, budget, lengths);
+        answer(self, asked, |_| {})
+    }
+
+    /// The answer with each step; `lists` are the lengths of the two further lists.
+    pub fn traced(
+        self,
+        sheet: &[u8],
+        choices: &[u16],
+        budget: u64,
+        lengths: [usize; 7],
+        lists: [usize; 2],
+    ) -> Traced {
+        let asked = Asked::new(sheet, choices, budget, lengths).with_lists(lists);
+        let mut steps = Vec::new();
+        let answer = answer(self, asked, |taken| steps.push(taken));
+        Traced { answer, steps }
+    }
+
+    /// The verdict, and the count of pairs compared.
+    pub fn checked(self) -> Checked {
+        let mut pairs = 0;
+        let verdict = self
+            .rows()
+            .and_then(|rows| Program::check_counting(rows, &mut pairs));
+        Checked { verdict, pairs }
+    }
+}
+
 /// The answer to a table of bytes.
 pub fn answer_bytes(
     table: &[u8],
@@ -115,8 +167,7 @@ pub fn answer_bytes(
     budget: u64,
     lengths: [usize; 7],
 ) -> Answer {
-    let asked = Asked::new(sheet, choices, budget, lengths);
-    answer(|| rows_of_bytes(table), asked, |_| {})
+    Source::Bytes(table).answer(sheet, choices, budget, lengths)
 }
 
 /// The answer to rows lent as numbers, four to each.
@@ -127,20 +178,7 @@ pub fn answer_rows(
     budget: u64,
     lengths: [usize; 7],
 ) -> Answer {
-    let asked = Asked::new(sheet, choices, budget, lengths);
-    answer(|| rows_of_numbers(rows), asked, |_| {})
-}
-
-/// The answer to a text.
-pub fn answer_text(
-    text: &[u8],
-    sheet: &[u8],
-    choices: &[u16],
-    budget: u64,
-    lengths: [usize; 7],
-) -> Answer {
-    let asked = Asked::new(sheet, choices, budget, lengths);
-    answer(|| read_text(text), asked, |_| {})
+    Source::Numbers(rows).answer(sheet, choices, budget, lengths)
 }
 
 /// The answer to a table of bytes with each step; `lists` are the lengths of the two further lists.
@@ -152,8 +190,7 @@ pub fn traced_bytes(
     lengths: [usize; 7],
     lists: [usize; 2],
 ) -> Traced {
-    let asked = Asked::new(sheet, choices, budget, lengths).with_lists(lists);
-    traced(|| rows_of_bytes(table), asked)
+    Source::Bytes(table).traced(sheet, choices, budget, lengths, lists)
 }
 
 /// The answer to rows lent as numbers with each step; `lists` as for bytes.
@@ -165,21 +202,7 @@ pub fn traced_rows(
     lengths: [usize; 7],
     lists: [usize; 2],
 ) -> Traced {
-    let asked = Asked::new(sheet, choices, budget, lengths).with_lists(lists);
-    traced(|| rows_of_numbers(rows), asked)
-}
-
-/// The answer to a text with each step; `lists` as for bytes.
-pub fn traced_text(
-    text: &[u8],
-    sheet: &[u8],
-    choices: &[u16],
-    budget: u64,
-    lengths: [usize; 7],
-    lists: [usize; 2],
-) -> Traced {
-    let asked = Asked::new(sheet, choices, budget, lengths).with_lists(lists);
-    traced(|| read_text(text), asked)
+    Source::Numbers(rows).traced(sheet, choices, budget, lengths, lists)
 }
 
 /// The verdict on a table of bytes: the program, or the first of refusals 2 to 9 and 14.
@@ -194,24 +217,12 @@ pub fn check_rows(rows: &[i32]) -> Result<Program, Refusal> {
 
 /// The verdict on a table of bytes, and the count of pairs compared.
 pub fn check_bytes_counted(table: &[u8]) -> Checked {
-    checked(rows_of_bytes(table))
+    Source::Bytes(table).checked()
 }
 
 /// The verdict on rows lent as numbers, and the count of pairs compared.
 pub fn check_rows_counted(rows: &[i32]) -> Checked {
-    checked(rows_of_numbers(rows))
-}
-
-/// The verdict on a text, and the count of pairs compared.
-pub fn check_text_counted(text: &[u8]) -> Checked {
-    checked(read_text(text))
-}
-
-/// The verdict on rows that were read or refused, and the count of pairs compared.
-fn checked(rows: Result<Vec<Row>, Refusal>) -> Checked {
-    let mut pairs = 0;
-    let verdict = rows.and_then(|rows| Program::check_counting(rows, &mut pairs));
-    Checked { verdict, pairs }
+    Source::Numbers(rows).checked()
 }
 
 /// Whether the seven lent buffers are as long as their limits.
@@ -225,35 +236,20 @@ fn have_trace_room(lists: [usize; 2]) -> bool {
     lists.iter().all(|&lent| lent >= TRACE_LENGTH)
 }
 
-/// The answer, with each step of the run.
-fn traced(read: impl FnOnce() -> Result<Vec<Row>, Refusal>, asked: Asked) -> Traced {
-    let mut steps = Vec::new();
-    let answer = answer(read, asked, |taken| steps.push(taken));
-    Traced { answer, steps }
-}
-
 /// The first refusal in the paper's order, or the result of the run, whose steps are told.
-fn answer(
-    read: impl FnOnce() -> Result<Vec<Row>, Refusal>,
-    asked: Asked,
-    tell: impl FnMut(Taken),
-) -> Answer {
-    match result(read, asked, tell) {
+fn answer(source: Source, asked: Asked, tell: impl FnMut(Taken)) -> Answer {
+    match result(source, asked, tell) {
         Ok(ran) => Answer::Ran(Box::new(ran)),
         Err(refusal) => Answer::Refused(refusal),
     }
 }
 
 /// The stages in the order of the refusals: buffers, table, readings, budget, then the run.
-fn result(
-    read: impl FnOnce() -> Result<Vec<Row>, Refusal>,
-    asked: Asked,
-    tell: impl FnMut(Taken),
-) -> Result<Ran, Refusal> {
+fn result(source: Source, asked: Asked, tell: impl FnMut(Taken)) -> Result<Ran, Refusal> {
     if !asked.room {
         return Err(Refusal::new(1, 0));
     }
-    let program = Program::check(read()?)?;
+    let program = Program::check(source.rows()?)?;
     let readings = readings_of_bytes(asked.sheet, &program.layout.readings)?;
     if asked.budget > BUDGET_LIMIT {
         return Err(Refusal::new(11, 0));

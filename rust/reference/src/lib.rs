@@ -33,8 +33,7 @@ pub mod explore;
 pub mod generate;
 pub mod join;
 
-pub use answer::{answer_bytes, answer_rows, Answer, Ran};
-pub use answer::{answer_text, check_text_counted, traced_text};
+pub use answer::{answer_bytes, answer_rows, Answer, Ran, Source};
 pub use answer::{check_bytes, check_bytes_counted, check_rows, check_rows_counted, Checked};
 pub use answer::{traced_bytes, traced_rows, Traced};
 pub use answer::{BUDGET_LIMIT, BUFFER_LENGTHS, TRACE_LENGTH};

@@ -1,14 +1,11 @@
 //! The sheet runner of "A run on paper", with flags for comparing programs.
 
-use reference::answer::{answer_bytes, answer_rows, answer_text};
-use reference::answer::{check_bytes_counted, check_rows_counted, check_text_counted};
-use reference::answer::{traced_bytes, traced_rows, traced_text, Traced, TRACE_LENGTH};
 use reference::explore::explore;
 use reference::number::read_number;
 use reference::printing::{printed, printed_ready, printed_trace, split_input};
 use reference::printing::{printed_pairs, printed_rows, printed_verdict};
 use reference::text::{read_text_into, ROW_NUMBERS};
-use reference::{Answer, Checked, BUDGET_LIMIT, BUFFER_LENGTHS};
+use reference::{Source, BUDGET_LIMIT, BUFFER_LENGTHS, TRACE_LENGTH};
 use std::io::{self, Read, Write};
 use std::process::ExitCode;
 use std::str::FromStr;
@@ -186,72 +183,45 @@ fn numbers<N: FromStr>(flag: &str, text: &str) -> Result<Vec<N>, String> {
 /// The text that answers a request on this input.
 fn respond(request: &Request, input: &[u8]) -> Result<String, String> {
     let (table, sheet) = split_input(input);
-    let (choices, budget) = (&request.choices, request.budget);
-    let (lengths, lists) = (request.lengths, request.lists);
     if request.read {
         return Ok(printed_rows(&read_text_into(table, request.room)));
     }
     if request.numbers {
-        let rows = lent_numbers(table)?;
-        let calls = Calls {
-            check: || check_rows_counted(&rows),
-            answer: || answer_rows(&rows, sheet, choices, budget, lengths),
-            traced: || traced_rows(&rows, sheet, choices, budget, lengths, lists),
-        };
-        Ok(calls.respond(request, sheet))
-    } else if request.text {
-        let calls = Calls {
-            check: || check_text_counted(table),
-            answer: || answer_text(table, sheet, choices, budget, lengths),
-            traced: || traced_text(table, sheet, choices, budget, lengths, lists),
-        };
-        Ok(calls.respond(request, sheet))
-    } else {
-        let calls = Calls {
-            check: || check_bytes_counted(table),
-            answer: || answer_bytes(table, sheet, choices, budget, lengths),
-            traced: || traced_bytes(table, sheet, choices, budget, lengths, lists),
-        };
-        Ok(calls.respond(request, sheet))
+        let numbers = lent_numbers(table)?;
+        return Ok(answered(request, Source::Numbers(&numbers), sheet));
     }
+    let source = match request.text {
+        true => Source::Text(table),
+        false => Source::Bytes(table),
+    };
+    Ok(answered(request, source, sheet))
 }
 
-/// The calls on one table and what is asked of it; one of them is made.
-struct Calls<C, A, T> {
-    check: C,
-    answer: A,
-    traced: T,
-}
-
-impl<C, A, T> Calls<C, A, T>
-where
-    C: FnOnce() -> Checked,
-    A: FnOnce() -> Answer,
-    T: FnOnce() -> Traced,
-{
-    /// The text of the verdict, of all orders, of the trace, or of the answer.
-    fn respond(self, request: &Request, sheet: &[u8]) -> String {
-        if request.check {
-            let checked = (self.check)();
-            return match request.pairs {
-                true => printed_pairs(&checked),
-                false => printed_verdict(&checked),
-            };
-        }
-        if let Some(most_points) = request.explore {
-            let verdict = (self.check)().verdict;
-            return match verdict.and_then(|program| explore(&program, sheet, most_points)) {
-                Ok(finding) => format!("{finding}\n"),
-                Err(refusal) => format!("{refusal}\n"),
-            };
-        }
-        if request.trace {
-            return printed_trace(&(self.traced)());
-        }
-        match request.ready {
-            true => printed_ready(&(self.answer)()),
-            false => printed(&(self.answer)(), request.full),
-        }
+/// The text of the verdict, of all orders, of the trace, or of the answer.
+fn answered(request: &Request, source: Source, sheet: &[u8]) -> String {
+    let (choices, budget) = (&request.choices, request.budget);
+    let (lengths, lists) = (request.lengths, request.lists);
+    if request.check {
+        let checked = source.checked();
+        return match request.pairs {
+            true => printed_pairs(&checked),
+            false => printed_verdict(&checked),
+        };
+    }
+    if let Some(most_points) = request.explore {
+        let verdict = source.checked().verdict;
+        return match verdict.and_then(|program| explore(&program, sheet, most_points)) {
+            Ok(finding) => format!("{finding}\n"),
+            Err(refusal) => format!("{refusal}\n"),
+        };
+    }
+    if request.trace {
+        return printed_trace(&source.traced(sheet, choices, budget, lengths, lists));
+    }
+    let answer = source.answer(sheet, choices, budget, lengths);
+    match request.ready {
+        true => printed_ready(&answer),
+        false => printed(&answer, request.full),
     }
 }
 

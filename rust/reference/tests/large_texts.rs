@@ -1,5 +1,6 @@
 //! The largest texts: each is answered in little time and with a stack of 1 MiB.
 
+use reference::generate::occam::largest::{blocks, declarations, filled, levels, nested, turns};
 use reference::text::TEXT_BYTES;
 use reference::{read_text, Refusal};
 use std::thread;
@@ -9,46 +10,6 @@ use std::time::{Duration, Instant};
 const MOST_TIME: Duration = Duration::from_millis(500);
 /// Stack of the thread that reads.
 const STACK: usize = 1 << 20;
-
-/// As many copies of a line as fit between a beginning and an end.
-fn filled(begin: &str, line: &str, end: &str) -> String {
-    let room = TEXT_BYTES - begin.len() - end.len();
-    format!("{begin}{}{end}", line.repeat(room / line.len()))
-}
-
-/// An expression that opens something so often round a middle, and closes it as often.
-fn nested(open: &str, middle: &str, close: &str, count: usize) -> String {
-    let (opened, closed) = (open.repeat(count), close.repeat(count));
-    format!("INT x:\nx:={opened}{middle}{closed}\n")
-}
-
-/// Declarations of different names, three letters each.
-fn declarations(count: usize) -> String {
-    let letter = |number: usize| char::from(b'a' + (number % 26) as u8);
-    let line = |n: usize| format!("INT {}{}{}:\n", letter(n / 676), letter(n / 26), letter(n));
-    (0..count).map(line).collect()
-}
-
-/// Lines one level deeper each, as many as fit.
-fn levels(line: &str, end: &str) -> String {
-    let mut text = String::new();
-    for level in 0.. {
-        let more = format!("{}{line}\n", "  ".repeat(level));
-        let last = format!("{}{end}\n", "  ".repeat(level + 1));
-        if text.len() + more.len() + last.len() > TEXT_BYTES {
-            text += &format!("{}{end}\n", "  ".repeat(level));
-            break;
-        }
-        text += &more;
-    }
-    text
-}
-
-/// A block in the process of the one before it, so often, each with a name of its own.
-fn blocks(count: usize) -> String {
-    let declared = declarations(count).replace("INT", "  INT");
-    format!("SEQ\n{declared}  SKIP\n")
-}
 
 /// Reads a text with a small stack: the count of rows or the refusal. Fails if it takes long.
 fn answer(text: String) -> Result<usize, Refusal> {
@@ -119,10 +80,6 @@ fn deep_levels() {
     let depth = deep.lines().count() - 1;
     assert_eq!(answer(deep), Ok(2 * depth + 1));
     // IF and its choice by turns are the shortest lines: 180 levels fit, of which 179 are a text.
-    let turns = |count: usize| -> String {
-        let line = |level: usize| "  ".repeat(level) + ["IF\n", "1\n"][level % 2];
-        (0..count).map(line).collect()
-    };
     assert_eq!(answer(turns(179)), Ok(90 + 2 * 89));
     assert_eq!(answer(turns(180)), Err(Refusal::new(12, 181)));
     assert!(turns(181).len() > TEXT_BYTES);

@@ -1,7 +1,7 @@
 //! The examples of docs/TEXT.md: each text has the answer that the page tells.
 
 use reference::printing::printed_rows;
-use reference::{check_text_counted, read_text};
+use reference::{read_text, Source};
 use std::fs;
 use std::path::Path;
 
@@ -15,7 +15,8 @@ fn page() -> String {
 fn the_example_is_accepted() {
     let page = page();
     let example = page.split("```\n").nth(1).expect("an example");
-    assert!(check_text_counted(example.as_bytes()).verdict.is_ok());
+    let checked = Source::Text(example.as_bytes()).checked();
+    assert!(checked.verdict.is_ok());
 }
 
 /// What stands between backquotes in a cell.

@@ -80,7 +80,7 @@ fn cells(program: &Program, run: &Run) -> String {
     for variable in program.variables() {
         for (number, cell) in program.part(variable).enumerate() {
             let value = value_or_empty(run.cell(cell));
-            columns.add(&[variable.to_string(), number.to_string(), value]);
+            columns.add(&[program.name(variable), number.to_string(), value]);
         }
     }
     columns.text()
@@ -92,7 +92,7 @@ fn outputs(program: &Program, run: &Run) -> String {
     for (channel, list) in program.output_channels().zip(run.lists()) {
         for (position, message) in list.into_iter().enumerate() {
             let value = value_or_empty(message);
-            columns.add(&[channel.to_string(), position.to_string(), value]);
+            columns.add(&[program.name(channel), position.to_string(), value]);
         }
     }
     columns.text()
@@ -103,11 +103,8 @@ fn stops(program: &Program, run: &Run) -> String {
     let mut text = String::new();
     for (row, state) in run.states().enumerate() {
         if let RowState::Stopped(reason) = state {
-            let kind = program.rows[row].kind;
-            let name = kind_name(kind);
-            text += &format!("row {row} ({name}) is stopped, reason {}: {reason}\n", {
-                reason.number()
-            });
+            let who = program.place_and_kind(row);
+            text += &format!("{who} is stopped, reason {}: {reason}\n", reason.number());
         }
     }
     match text.is_empty() {
@@ -118,7 +115,11 @@ fn stops(program: &Program, run: &Run) -> String {
 
 /// Each row that is not idle.
 fn states(program: &Program, run: &Run) -> String {
-    let mut columns = Columns::new(&["row", "kind", "state"]);
+    let headings = match program.origin {
+        Some(_) => ["line", "text", "state"],
+        None => ["row", "kind", "state"],
+    };
+    let mut columns = Columns::new(&headings);
     for (row, state) in run.states().enumerate() {
         let word = match state {
             RowState::Idle => continue,
@@ -126,8 +127,11 @@ fn states(program: &Program, run: &Run) -> String {
             RowState::Ended => "ended",
             RowState::Stopped(_) => "stopped",
         };
-        let name = kind_name(program.rows[row].kind);
-        columns.add(&[row.to_string(), name.to_string(), word.to_string()]);
+        let (place, what) = match &program.origin {
+            Some(origin) => (origin.line(row), origin.source(row)),
+            None => (row, kind_name(program.rows[row].kind).to_string()),
+        };
+        columns.add(&[place.to_string(), what, word.to_string()]);
     }
     columns.text()
 }
@@ -136,7 +140,7 @@ fn states(program: &Program, run: &Run) -> String {
 fn places(program: &Program, run: &Run) -> String {
     let mut columns = Columns::new(&["channel", "readings taken"]);
     for (channel, place) in program.reading_channels().zip(run.places()) {
-        columns.add(&[channel.to_string(), place.to_string()]);
+        columns.add(&[program.name(channel), place.to_string()]);
     }
     columns.text()
 }

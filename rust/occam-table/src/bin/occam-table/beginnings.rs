@@ -63,7 +63,8 @@ impl Beginnings {
         };
         let mut text = format!("{first}\n");
         for (row, channel) in program.output_channels().zip(&self.channels) {
-            text += &format!("  channel {row} to the host: {}\n", channel.words());
+            let name = program.sort_and_name(row);
+            text += &format!("  {name} to the host: {}\n", channel.words());
         }
         text
     }

@@ -15,11 +15,8 @@ pub struct Meaning {
     pub help: &'static str,
 }
 
-/// The numbers of the refusals: those of document 01, and that of blocks.
-const NUMBERS: [u8; 12] = [1, 2, 3, 4, 5, 6, 7, 8, 9, 10, 11, 14];
-
-/// The meanings of the refusals, in the order of their numbers.
-const MEANINGS: [Meaning; 12] = [
+/// The meanings of the refusals, in the order of their numbers, from 1 on.
+const MEANINGS: [Meaning; 14] = [
     Meaning {
         summary: "a lent buffer is too short",
         place: "0",
@@ -40,12 +37,13 @@ const MEANINGS: [Meaning; 12] = [
         summary: "there are more than 1024 rows",
         place: "1024; for rows lent as numbers the count of whole rows, at most 1024",
         advice: "Line 1026 of the table is one too many. Rows lent as numbers are also refused\n\
-                 if they are not four numbers each.",
+                 if they are not four numbers each. The rows of a text are those of the table that\n\
+                 it makes.",
         help: "take rows out until there are at most 1024",
     },
     Meaning {
         summary: "a row has a wrong kind, number, name or unused field",
-        place: "the lowest row at fault, counted from 0 (row r is line r + 2)",
+        place: "the lowest row at fault, counted from 0 (row r is line r + 2 of a table)",
         advice: "The kind is unknown; or a variable or channel comes after another kind; or an\n\
                  operator, size, role or capacity is out of range; or a name is not the row of a\n\
                  declaration of the sort and role wanted; or operator 2, GIVEN, has an operand\n\
@@ -114,6 +112,31 @@ const MEANINGS: [Meaning; 12] = [
         help: "ask for at most 65536 steps with --budget",
     },
     Meaning {
+        summary: "the text is not of the grammar",
+        place: "the first line that no further lines could mend, counted from 1; one more than\n\
+                there are lines if something is missing at the end; 0 if the text has more than\n\
+                32768 bytes",
+        advice: "Declarations come first, one a line, then one process. What belongs to a line\n\
+                 stands beneath it, two spaces deeper; the process of a block stands after its\n\
+                 INT line, at the same level. No line is blank, there are no comments, no tabs,\n\
+                 no spaces at the end of a line, and every line, the last too, ends with a line\n\
+                 feed. An expression has one operator; others need brackets, but for chains of\n\
+                 AND alone or OR alone. Directly before a digit a minus belongs to the number:\n\
+                 x -5 is no subtraction, x - 5 is. There is no TRUE and no FALSE: write 1 and 0.\n\
+                 The language is in docs/TEXT.md.",
+        help: "mend that line or one before it",
+    },
+    Meaning {
+        summary: "a name of the text is not in order",
+        place: "the lowest line at fault, counted from 1",
+        advice: "The name is declared nowhere; or it is declared for the second time, a name\n\
+                 being declared once in the whole text, blocks included; or it is used as what\n\
+                 it is not (a variable as a channel, a HOSTIN for output); or it stands bare,\n\
+                 though its size is not one: then write it with a subscript. Capitals count. The\n\
+                 form of the whole text is right, or it would be refusal 12.",
+        help: "declare the name once at the text's beginning, and use it as what it is declared",
+    },
+    Meaning {
         summary: "a block is the root or a second one, or a name stands outside its block",
         place: "the lowest row at fault",
         advice: "A block, kind 35, is a process: when it starts, all cells of its variable are\n\
@@ -126,10 +149,10 @@ const MEANINGS: [Meaning; 12] = [
 
 /// The meaning of a refusal; the library tells only these numbers.
 pub fn meaning(number: u8) -> &'static Meaning {
-    let at = NUMBERS.iter().position(|&other| other == number);
-    let at =
-        at.unwrap_or_else(|| panic!("the library told a refusal {number}, which no paper has"));
-    &MEANINGS[at]
+    let meaning = usize::from(number)
+        .checked_sub(1)
+        .and_then(|at| MEANINGS.get(at));
+    meaning.unwrap_or_else(|| panic!("the library told a refusal {number}, which no paper has"))
 }
 
 /// The command: one number, or all of them in one line each.
@@ -140,9 +163,12 @@ pub fn command(words: &[String]) -> Result<Report, String> {
     }
     let word = arguments.only("NUMBER")?;
     match word.parse() {
-        Ok(number) if NUMBERS.contains(&number) => Ok(Report::accepted(one(number))),
+        Ok(number) if (1..=MEANINGS.len()).contains(&usize::from(number)) => {
+            Ok(Report::accepted(one(number)))
+        }
         _ => Err(format!(
-            "there is no refusal {word:?}; they are numbered 1 to 11 and 14"
+            "there is no refusal {word:?}; they are numbered 1 to {}",
+            MEANINGS.len()
         )),
     }
 }
@@ -151,8 +177,8 @@ pub fn command(words: &[String]) -> Result<Report, String> {
 fn all() -> String {
     let lines = MEANINGS
         .iter()
-        .zip(NUMBERS)
-        .map(|(meaning, number)| format!("{number:2}  {}\n", meaning.summary));
+        .zip(1..)
+        .map(|(meaning, number): (_, u8)| format!("{number:2}  {}\n", meaning.summary));
     lines.collect()
 }
 

@@ -1,13 +1,14 @@
-//! Tables and sheets: from files, or from standard input, for which `-` stands.
+//! Tables, texts and sheets: from files, or from standard input, for which `-` stands.
 
 use crate::arguments::Arguments;
+use crate::code::Code;
 use std::io::Read;
 use std::path::Path;
 
 /// The word for standard input.
 const STANDARD_INPUT: &str = "-";
 
-/// Bytes of a table or a sheet, and a name for words about them.
+/// Bytes of a table, a text or a sheet, and a name for words about them.
 pub struct Source {
     pub bytes: Vec<u8>,
     pub name: String,
@@ -32,31 +33,35 @@ pub fn read(word: &str) -> Result<Source, String> {
     }
 }
 
-/// A table and a sheet of readings, and a name for both.
-pub struct TableAndSheet {
-    pub table: Vec<u8>,
+/// The flag by which a file is a text, whatever it looks like.
+pub const TEXT: &str = "--text";
+
+/// A table or a text and a sheet of readings, and a name for both.
+pub struct CodeAndSheet {
+    pub code: Code,
     pub sheet: Vec<u8>,
     pub names: String,
 }
 
-/// The table and the sheet of a command line. A `-` for both, once or twice, is the sheet
-/// runner's input: a table, a line `=`, and readings.
-pub fn table_and_sheet(arguments: &Arguments) -> Result<TableAndSheet, String> {
+/// The table or text and the sheet of a command line. A `-` for both, once or twice, is the sheet
+/// runner's input: a table or a text, a line `=`, and readings.
+pub fn code_and_sheet(arguments: &Arguments) -> Result<CodeAndSheet, String> {
+    let is_text = arguments.has(TEXT);
     match arguments.words()[..] {
         [STANDARD_INPUT] | [STANDARD_INPUT, STANDARD_INPUT] => {
             let input = read(STANDARD_INPUT)?;
-            let (table, sheet) = parted(&input.bytes);
-            Ok(TableAndSheet {
-                table: table.to_vec(),
+            let (code, sheet) = parted(&input.bytes);
+            Ok(CodeAndSheet {
+                code: Code::new(code.to_vec(), is_text),
                 sheet: sheet.to_vec(),
                 names: input.name,
             })
         }
-        [table, sheet] => {
-            let (table, sheet) = (read(table)?, read(sheet)?);
-            Ok(TableAndSheet {
-                names: format!("{} and {}", table.name, sheet.name),
-                table: table.bytes,
+        [code, sheet] => {
+            let (code, sheet) = (read(code)?, read(sheet)?);
+            Ok(CodeAndSheet {
+                names: format!("{} and {}", code.name, sheet.name),
+                code: Code::new(code.bytes, is_text),
                 sheet: sheet.bytes,
             })
         }
@@ -64,7 +69,7 @@ pub fn table_and_sheet(arguments: &Arguments) -> Result<TableAndSheet, String> {
     }
 }
 
-/// The table up to the first line `=`, and the readings after it; without that line no readings.
+/// The table or text up to the first line `=`, and the readings after it; without that line no readings.
 fn parted(input: &[u8]) -> (&[u8], &[u8]) {
     let mut start = 0;
     for line in input.split_inclusive(|&byte| byte == b'\n') {

@@ -1,4 +1,4 @@
-//! The command line over the proved library: check, run, ready, steps, orders, explain.
+//! The command line over the proved library: check, read, run, ready, steps, orders, explain.
 //!
 //! Answers come from the library only; the words around them are presentation.
 
@@ -6,21 +6,25 @@ mod aligned;
 mod arguments;
 mod beginnings;
 mod check;
+mod code;
 mod explain;
 mod faults;
 mod help;
 mod input;
 mod kinds;
 mod orders;
+mod origin;
 mod pairs;
 mod program;
 mod random;
+mod read;
 mod ready;
 mod report;
 mod results;
 mod run;
 mod sheet_lines;
 mod steps;
+mod text;
 mod values;
 
 use report::Report;
@@ -48,10 +52,11 @@ fn respond(words: &[String]) -> Result<Report, String> {
     }
     match command.as_str() {
         "explain" => explain::command(rest),
-        "check" | "run" | "ready" | "steps" | "orders" if !occam_table::is_linked() => {
+        "check" | "read" | "run" | "ready" | "steps" | "orders" if !occam_table::is_linked() => {
             Err(occam_table::MISSING.to_string())
         }
         "check" => check::command(rest),
+        "read" => read::command(rest),
         "run" => run::command(rest),
         "ready" => ready::command(rest),
         "steps" => steps::command(rest),

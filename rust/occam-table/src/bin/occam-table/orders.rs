@@ -2,6 +2,7 @@
 
 use crate::arguments::Arguments;
 use crate::beginnings::Beginnings;
+use crate::input::TEXT;
 use crate::kinds::ALT;
 use crate::random::Random;
 use crate::report::Report;
@@ -45,7 +46,7 @@ impl Tally {
 /// The command.
 pub fn command(words: &[String]) -> Result<Report, String> {
     let valued = ["--trials", "--seed", "--budget"];
-    let arguments = Arguments::part("orders", words, &valued, &[])?;
+    let arguments = Arguments::part("orders", words, &valued, &[TEXT])?;
     let asked = Asked::read(&arguments, BUDGET)?;
     let trials = arguments.number("--trials")?.unwrap_or(1_000);
     let seed = arguments.number("--seed")?.unwrap_or(1);

@@ -2,25 +2,25 @@
 
 use crate::kinds::PAR;
 use crate::program::Program;
-use occam_table::{read_rows, Checked, Refusal};
+use occam_table::{Checked, Refusal};
 use std::time::Duration;
 
 /// What the pairs of each sort are compared for, in the order of the search.
 const SORTS: [&str; 3] = ["cells", "inputs", "outputs"];
 
 /// Two lines: the count with where the search ended, and the time that the check took.
-pub fn words(checked: &Checked, table: &[u8], time: Duration) -> String {
+pub fn words(checked: &Checked, program: &Program, time: Duration) -> String {
     format!(
         "pairs of components compared: {}{}\ntime of the check: {}\n",
         checked.pairs,
-        end_words(checked, table),
+        end_words(checked, program),
         time_words(time)
     )
 }
 
 /// Where the search for a clash ended.
-fn end_words(checked: &Checked, table: &[u8]) -> String {
-    let sorts = || by_sort(checked.pairs, pair_count(table));
+fn end_words(checked: &Checked, program: &Program) -> String {
+    let sorts = || by_sort(checked.pairs, pair_count(program));
     match checked.verdict {
         Ok(()) if checked.pairs == 0 => "; no PAR has two members".to_string(),
         Ok(()) => format!(" ({}); none clashes", sorts()),
@@ -45,8 +45,7 @@ fn by_sort(pairs: u32, all: u32) -> String {
 }
 
 /// How many pairs of components the PARs of a table have together.
-fn pair_count(table: &[u8]) -> u32 {
-    let program = Program::new(&read_rows(table).unwrap_or_default());
+fn pair_count(program: &Program) -> u32 {
     let pars = (0..program.rows.len()).filter(|&row| program.rows[row].kind == PAR);
     let pairs = pars.map(|par| {
         let members = program.list(par).len() as u32;

@@ -1,6 +1,8 @@
 //! The rows of a table, for words about them: declarations, references, what is beneath a row.
 
 use crate::kinds::{kind_name, kind_of, Field, CHANNEL, FROM_HOST, TO_HOST, VARIABLE};
+use crate::kinds::{GUARD, OPTION};
+use crate::origin::Origin;
 use std::fmt;
 use std::ops::Range;
 
@@ -46,6 +48,8 @@ pub struct Program {
     pub rows: Vec<Row>,
     /// How many declarations come first; the root is the row after them.
     pub declarations: usize,
+    /// Where the rows came from, if they were read from a text.
+    pub origin: Option<Origin>,
 }
 
 impl Program {
@@ -58,7 +62,82 @@ impl Program {
         let rows: Vec<Row> = rows.iter().map(row).collect();
         let is_declaration = |row: &&Row| matches!(row.kind, VARIABLE | CHANNEL);
         let declarations = rows.iter().take_while(is_declaration).count();
-        Program { rows, declarations }
+        Program {
+            rows,
+            declarations,
+            origin: None,
+        }
+    }
+
+    /// The program of rows as the library read them from a text.
+    pub fn of_text(rows: &[[i32; 4]], text: &[u8]) -> Program {
+        let program = Program::new(rows);
+        let origin = Some(Origin::new(&program, text));
+        Program { origin, ..program }
+    }
+
+    /// The same program, named by rows also if it is of a text.
+    pub fn by_rows(self) -> Program {
+        Program {
+            origin: None,
+            ..self
+        }
+    }
+
+    /// Where a row stands: its number, or its line of a text.
+    pub fn place(&self, row: usize) -> String {
+        match &self.origin {
+            Some(origin) => format!("line {}", origin.line(row)),
+            None => format!("row {row}"),
+        }
+    }
+
+    /// Where a row stands, and its kind or, of a text, its line as written.
+    pub fn place_and_kind(&self, row: usize) -> String {
+        let what = match &self.origin {
+            Some(origin) => origin.source(row),
+            None => kind_name(self.rows[row].kind).to_string(),
+        };
+        format!("{} ({what})", self.place(row))
+    }
+
+    /// Where a row stands, and the row or line as written.
+    pub fn shown(&self, row: usize) -> String {
+        let what = match &self.origin {
+            Some(origin) => origin.source(row),
+            None => self.rows[row].to_string(),
+        };
+        format!("{}: {what}", self.place(row))
+    }
+
+    /// The name of a declaration: its row, or the name that a text gives it.
+    pub fn name(&self, declaration: usize) -> String {
+        match &self.origin {
+            Some(origin) => origin.name(declaration).to_string(),
+            None => declaration.to_string(),
+        }
+    }
+
+    /// A declaration with its sort.
+    pub fn sort_and_name(&self, declaration: usize) -> String {
+        let sort = match self.rows[declaration].kind {
+            VARIABLE => "variable",
+            _ => "channel",
+        };
+        format!("{sort} {}", self.name(declaration))
+    }
+
+    /// A cell or an element, or the whole declaration if the number is not known.
+    pub fn part_words(&self, declaration: usize, number: Option<usize>) -> String {
+        let whole = self.sort_and_name(declaration);
+        let row = &self.rows[declaration];
+        match (number, &self.origin) {
+            (Some(_), Some(_)) if row.a() == 1 => whole,
+            (Some(number), Some(_)) => format!("{whole}[{number}]"),
+            (Some(number), None) if row.kind == VARIABLE => format!("{whole} cell {number}"),
+            (Some(number), None) => format!("{whole} element {number}"),
+            (None, _) => whole,
+        }
     }
 
     /// The row of this number, if there is one.
@@ -130,6 +209,16 @@ impl Program {
         }
         found.sort_unstable();
         found
+    }
+
+    /// Whether a row is the input or SKIP of a guard.
+    pub fn is_guarded(&self, row: usize) -> bool {
+        let is_guard_of = |other: &Row| match other.kind {
+            OPTION => usize::try_from(other.c()) == Ok(row),
+            GUARD => usize::try_from(other.b()) == Ok(row),
+            _ => false,
+        };
+        self.rows.iter().any(is_guard_of)
     }
 
     /// The members, choices or options of a row, in order.

@@ -1,6 +1,7 @@
 //! `ready`: how many steps are ready after a run.
 
 use crate::arguments::Arguments;
+use crate::input::TEXT;
 use crate::report::Report;
 use crate::run::Asked;
 use occam_table::{Machine, Outcome, Run, BUDGET};
@@ -8,7 +9,7 @@ use occam_table::{Machine, Outcome, Run, BUDGET};
 /// The command.
 pub fn command(words: &[String]) -> Result<Report, String> {
     let valued = ["--budget", "--choices"];
-    let arguments = Arguments::part("ready", words, &valued, &["--plain"])?;
+    let arguments = Arguments::part("ready", words, &valued, &["--plain", TEXT])?;
     let asked = Asked::read(&arguments, BUDGET)?;
     let mut machine = Machine::new();
     let ran = asked.run_with(&mut machine, &asked.choices, asked.budget);

@@ -2,7 +2,8 @@
 
 use crate::explain::meaning;
 use crate::faults::{details, help_about_blocks, Given};
-use occam_table::{read_rows, Refusal};
+use crate::text;
+use occam_table::Refusal;
 
 /// What a command prints on standard output and beside it, and its exit status.
 #[derive(Debug, PartialEq, Eq)]
@@ -62,7 +63,7 @@ fn help_words(refusal: Refusal, given: &Given) -> &'static str {
     match (refusal.number, refusal.place) {
         (2, 0) => "shorten the table to at most 32768 bytes",
         (2, 1) => "begin the table with the line kind,a,b,c and a line feed",
-        (2, place) if line_of(given.table, place) == Some(b"=") => {
+        (2, place) if line_of(&given.code.bytes, place) == Some(b"=") => {
             "leave out the line `=` and the readings after it: a table alone is wanted here"
         }
         (5, place) if place as usize == row_count(given) => {
@@ -78,6 +79,9 @@ fn help_words(refusal: Refusal, given: &Given) -> &'static str {
              without such a channel it is one empty line"
         }
         (10, 130) => "leave out what comes after 128 lines of readings",
+        (12, place) => text::help_about_the_grammar(&given.code.bytes, place as usize),
+        (4, _) if given.code.is_text => "put a number in range into that declaration",
+        (3, _) if given.code.is_text => "make the text shorter until it makes at most 1024 rows",
         (14, place) => help_about_blocks(place as usize, given),
         (number, _) => meaning(number).help,
     }
@@ -97,12 +101,20 @@ fn place_words(refusal: Refusal, given: &Given) -> String {
         10 if place > 0 => format!(", line {place} of the sheet"),
         3 => format!(", after {place} rows"),
         5 if place as usize == row_count(given) => format!(", after {place} rows"),
+        12 | 13 if place > 0 => format!(", line {place} of the text"),
+        4..=9 | 14 if given.code.is_text => line_and_row(place, given),
         4..=9 | 14 => format!(", row {place}"),
         _ => format!(", place {place}"),
     }
 }
 
+/// The line of a text that made a row, and the row.
+fn line_and_row(row: u32, given: &Given) -> String {
+    let line = given.code.program().place(row as usize);
+    format!(", {line} of the text (row {row} of its table)")
+}
+
 /// How many rows the table has.
 fn row_count(given: &Given) -> usize {
-    read_rows(given.table).map_or(0, |rows| rows.len())
+    given.code.program().rows.len()
 }

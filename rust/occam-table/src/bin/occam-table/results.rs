@@ -87,7 +87,8 @@ fn difference(program: &Program, first: &Snapshot, other: &Snapshot) -> String {
             let (was, is) = (first.cells[cell], other.cells[cell]);
             if was != is {
                 let [was, is] = [was, is].map(value_words);
-                text += &format!("  variable {variable} cell {number}: {is}, not {was}\n");
+                let cell = program.part_words(variable, Some(number));
+                text += &format!("  {cell}: {is}, not {was}\n");
             }
         }
     }
@@ -95,21 +96,36 @@ fn difference(program: &Program, first: &Snapshot, other: &Snapshot) -> String {
         let (was, is) = (&first.lists[at], &other.lists[at]);
         if was != is {
             let [was, is] = [was, is].map(|list| list_words(list));
-            text += &format!("  channel {channel} to the host: {is}, not {was}\n");
+            let name = program.sort_and_name(channel);
+            text += &format!("  {name} to the host: {is}, not {was}\n");
         }
     }
     for (at, channel) in program.reading_channels().enumerate() {
         let (was, is) = (first.places[at], other.places[at]);
         if was != is {
-            text += &format!("  channel {channel} from the host: {is} taken, not {was}\n");
+            let name = program.sort_and_name(channel);
+            text += &format!("  {name} from the host: {is} taken, not {was}\n");
         }
     }
     let rows = (0..first.states.len()).filter(|&row| first.states[row] != other.states[row]);
-    let rows: Vec<String> = rows.map(|row| row.to_string()).collect();
-    if !rows.is_empty() {
-        text += &format!("  row states: other ones in {}\n", rows.join(", "));
+    text + &other_states(program, rows.collect())
+}
+
+/// Words about rows with other states, or about their lines of a text.
+fn other_states(program: &Program, rows: Vec<usize>) -> String {
+    let (what, mut places) = match &program.origin {
+        Some(origin) => (
+            "states: other ones in line",
+            rows.iter().map(|&row| origin.line(row)).collect(),
+        ),
+        None => ("row states: other ones in", rows),
+    };
+    places.dedup();
+    let places: Vec<String> = places.iter().map(usize::to_string).collect();
+    match places[..] {
+        [] => String::new(),
+        _ => format!("  {what} {}\n", places.join(", ")),
     }
-    text
 }
 
 /// A cell's value.

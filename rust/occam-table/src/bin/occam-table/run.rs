@@ -1,17 +1,18 @@
-//! `run`: a run of a table on a sheet, as the sheet runner prints it or aligned to be read.
+//! `run`: a run of a table or a text on a sheet, as the sheet runner prints it or aligned to be read.
 
 use crate::aligned;
 use crate::arguments::Arguments;
+use crate::code::Code;
 use crate::faults::Given;
-use crate::input;
+use crate::input::{self, TEXT};
 use crate::program::Program;
 use crate::report::{refusal_words, Report};
 use crate::sheet_lines;
-use occam_table::{read_rows, Machine, Refusal, Run, BUDGET};
+use occam_table::{Machine, Refusal, Run, BUDGET};
 
-/// A table, a sheet, choices and a budget from the command line.
+/// A table or a text, a sheet, choices and a budget from the command line.
 pub struct Asked {
-    pub table: Vec<u8>,
+    pub code: Code,
     pub sheet: Vec<u8>,
     pub names: String,
     pub choices: Vec<u16>,
@@ -23,9 +24,9 @@ impl Asked {
     pub fn read(arguments: &Arguments, budget: u32) -> Result<Asked, String> {
         let choices = arguments.numbers("--choices")?;
         let budget = arguments.number("--budget")?.unwrap_or(u64::from(budget));
-        let input = input::table_and_sheet(arguments)?;
+        let input = input::code_and_sheet(arguments)?;
         Ok(Asked {
-            table: input.table,
+            code: input.code,
             sheet: input.sheet,
             names: input.names,
             choices,
@@ -41,18 +42,18 @@ impl Asked {
         budget: u64,
     ) -> Result<Run<'m>, Refusal> {
         let budget = u32::try_from(budget).unwrap_or(u32::MAX);
-        machine.run_table(&self.table, &self.sheet, choices, budget)
+        self.code.run(machine, &self.sheet, choices, budget)
     }
 
     /// The rows, for words about them.
     pub fn program(&self) -> Program {
-        Program::new(&read_rows(&self.table).unwrap_or_default())
+        self.code.program()
     }
 
     /// What was given, for words about a refusal.
     pub fn given(&self) -> Given<'_> {
         Given {
-            table: &self.table,
+            code: &self.code,
             sheet: &self.sheet,
             budget: self.budget,
         }
@@ -67,7 +68,7 @@ impl Asked {
 /// The command.
 pub fn command(words: &[String]) -> Result<Report, String> {
     let valued = ["--budget", "--choices"];
-    let alone = ["--full", "--table", "--plain"];
+    let alone = ["--full", "--table", "--plain", TEXT];
     let arguments = Arguments::part("run", words, &valued, &alone)?;
     arguments.apart("--plain", "--table")?;
     let asked = Asked::read(&arguments, BUDGET)?;
@@ -82,6 +83,8 @@ pub fn command(words: &[String]) -> Result<Report, String> {
     let program = asked.program();
     Ok(Report::accepted(if table {
         aligned::page(&program, &run, full)
+    } else if arguments.has("--plain") {
+        sheet_lines::page(&program.by_rows(), &run, full)
     } else {
         sheet_lines::page(&program, &run, full)
     }))

@@ -1,5 +1,6 @@
 //! Texts of tables (request 02): in many spacings and bracketings, and damaged at a known line.
 
+pub mod largest;
 mod lines;
 mod names;
 mod spelling;

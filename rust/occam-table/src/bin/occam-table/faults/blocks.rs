@@ -15,18 +15,25 @@ pub fn at_fault(program: &Program, index: usize) -> Vec<String> {
     let Some(block) = block_of(program, row.a()) else {
         return words;
     };
-    let (name, its_block) = (row.a(), format!("row {block}: {}", program.rows[block]));
+    let (name, its_block) = (
+        program.sort_and_name(row.a() as usize),
+        program.shown(block),
+    );
     match row.kind {
         BLOCK if block != index => words.push(format!(
-            "it is a second block of variable {name}; expected only that of {its_block}"
+            "it is a second block of {name}; expected only that of {its_block}"
         )),
         ELEMENT | ASSIGNMENT if !program.beneath(block).contains(&index) => words.push(format!(
-            "it names variable {name} outside its block; expected it beneath {its_block}"
+            "it names {name} outside its block; expected it beneath {its_block}"
         )),
         _ => {}
     }
     words
 }
+
+/// What to do about a line of a text at fault.
+pub const HELP_OF_A_TEXT: &str =
+    "use the name only in the process after its INT line, or declare it at the text's beginning";
 
 /// What to do about a row at fault.
 pub fn help(program: &Program, index: usize) -> &'static str {

@@ -55,12 +55,20 @@ fn fits(program: &Program, field: Field, number: i32) -> bool {
     }
 }
 
+/// The name of a field; of a text, which has no fields, what it is.
+fn field_name(program: &Program, at: usize, field: Field) -> String {
+    match (&program.origin, field.word()) {
+        (Some(_), "capacity") => "the capacity".to_string(),
+        (Some(_), word) => format!("the number of {word}"),
+        (None, word) => format!("field {} ({word})", FIELD_NAMES[at]),
+    }
+}
+
 /// Words about a wrong field: what stands there, what was expected, what is named.
 fn wrong_field(program: &Program, at: usize, field: Field, number: i32) -> String {
     let mut words = format!(
-        "field {} ({}) is {number}; expected {}",
-        FIELD_NAMES[at],
-        field.word(),
+        "{} is {number}; expected {}",
+        field_name(program, at, field),
         field.expected()
     );
     if matches!(field, Field::Variable | Field::Channel(..)) {

@@ -1,5 +1,7 @@
 //! Refusals 2, 3 and 10: a line of the table or of the sheet.
 
+use crate::program::Program;
+
 const TABLE_BYTES: usize = 32_768;
 const SHEET_BYTES: usize = 16_384;
 const VALUE_LINES: usize = 128;
@@ -44,22 +46,17 @@ pub fn too_many_rows(table: &[u8]) -> Vec<String> {
     words
 }
 
-/// Words about a faulty line of a sheet for the channels of these rows.
-pub fn of_sheet(sheet: &[u8], number: usize, channels: &[usize]) -> Vec<String> {
+/// Words about a faulty line of a sheet for the channels of a program.
+pub fn of_sheet(sheet: &[u8], number: usize, program: &Program) -> Vec<String> {
     if number == 0 {
         return vec![format!(
             "the sheet has {} bytes; at most {SHEET_BYTES} are allowed",
             sheet.len()
         )];
     }
+    let channels: Vec<usize> = program.reading_channels().collect();
     let names: Vec<String> = channels.iter().map(usize::to_string).collect();
-    let first = match channels {
-        [] => "an empty line, since the table has no channel from the host".to_string(),
-        _ => format!(
-            "the line {}, the channels from the host in row order",
-            names.join(",")
-        ),
-    };
+    let first = first_line_words(program, &channels, &names.join(","));
     let Some(line) = line(sheet, number) else {
         return vec![format!("line {number} is missing; expected {first}")];
     };
@@ -88,8 +85,28 @@ pub fn of_sheet(sheet: &[u8], number: usize, channels: &[usize]) -> Vec<String> 
     words
 }
 
+/// What the first line of a sheet should be. A channel of a text is its declaration's row: as many as
+/// there are declarations before it.
+fn first_line_words(program: &Program, channels: &[usize], names: &str) -> String {
+    if channels.is_empty() {
+        return "an empty line, since the table has no channel from the host".to_string();
+    }
+    let which = channels.iter().map(|&channel| match program.origin {
+        Some(_) => format!("{channel} for {}", program.name(channel)),
+        None => channel.to_string(),
+    });
+    let order = match program.origin {
+        Some(_) => format!(
+            "rows of the channels from the host: {}",
+            which.collect::<Vec<_>>().join(", ")
+        ),
+        None => "channels from the host in row order".to_string(),
+    };
+    format!("the line {names}, the {order}")
+}
+
 /// A line with its line feed, counted from 1.
-fn line(bytes: &[u8], number: usize) -> Option<&[u8]> {
+pub fn line(bytes: &[u8], number: usize) -> Option<&[u8]> {
     bytes.split_inclusive(|&byte| byte == b'\n').nth(number - 1)
 }
 
@@ -100,13 +117,13 @@ fn without_ending(line: &[u8]) -> &[u8] {
 }
 
 /// The line as written, shortened.
-fn shown(number: usize, line: &[u8]) -> String {
+pub fn shown(number: usize, line: &[u8]) -> String {
     let line = line.strip_suffix(b"\n").unwrap_or(line);
     format!("line {number}: {}", readable(line))
 }
 
 /// Bytes to read on a terminal: odd ones escaped, shortened; "(empty)" for none.
-fn readable(bytes: &[u8]) -> String {
+pub fn readable(bytes: &[u8]) -> String {
     if bytes.is_empty() {
         return "(empty)".to_string();
     }
@@ -131,7 +148,7 @@ fn quoted(field: &[u8]) -> String {
 }
 
 /// Words about a line that does not end as it should.
-fn ending(line: &[u8]) -> Option<String> {
+pub fn ending(line: &[u8]) -> Option<String> {
     if line.ends_with(b"\r\n") {
         return Some(
             "a carriage return stands before the line feed; expected a line feed alone".to_string(),
@@ -159,7 +176,7 @@ fn faulty_fields(text: &[u8], names: &[impl AsRef<str>], may_be_empty: bool) -> 
 }
 
 /// Why a field is no number of the table's form; none if it is one.
-fn number_fault(field: &[u8]) -> Option<&'static str> {
+pub fn number_fault(field: &[u8]) -> Option<&'static str> {
     let digits = field.strip_prefix(b"-").unwrap_or(field);
     let why = match digits {
         [] if field.is_empty() => "expected a number",

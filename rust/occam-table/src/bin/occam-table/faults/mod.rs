@@ -4,16 +4,18 @@
 mod blocks;
 mod fields;
 mod limits;
-mod lines;
+pub mod lines;
 mod references;
 mod usage;
 
+use crate::code::Code;
 use crate::program::Program;
-use occam_table::{read_rows, Refusal};
+use crate::text;
+use occam_table::Refusal;
 
 /// What a refused call was given.
 pub struct Given<'a> {
-    pub table: &'a [u8],
+    pub code: &'a Code,
     pub sheet: &'a [u8],
     pub budget: u64,
 }
@@ -21,55 +23,57 @@ pub struct Given<'a> {
 /// Words about the place of a refusal; none where nothing was found.
 pub fn details(refusal: Refusal, given: &Given) -> Vec<String> {
     let place = refusal.place as usize;
+    let bytes = &given.code.bytes;
     match refusal.number {
-        2 => lines::of_table(given.table, place),
-        3 => lines::too_many_rows(given.table),
-        10 => lines::of_sheet(given.sheet, place, &channels(given.table)),
+        2 => lines::of_table(bytes, place),
+        3 if given.code.is_text => text::too_many_rows(bytes),
+        3 => lines::too_many_rows(bytes),
+        10 => lines::of_sheet(given.sheet, place, &given.code.program()),
+        12 => text::of_the_grammar(bytes, place),
+        13 => text::of_names(bytes, place),
         11 => vec![format!(
             "the budget is {}; at most 65536 steps are allowed",
             given.budget
         )],
-        _ => of_rows(refusal.number, place, given.table),
+        _ => of_rows(refusal.number, place, &given.code.program()),
     }
 }
 
 /// What to do about a refusal 14 at its place.
 pub fn help_about_blocks(place: usize, given: &Given) -> &'static str {
-    let rows = read_rows(given.table).unwrap_or_default();
-    blocks::help(&Program::new(&rows), place)
-}
-
-/// The rows of the channels from the host.
-fn channels(table: &[u8]) -> Vec<usize> {
-    let rows = read_rows(table).unwrap_or_default();
-    Program::new(&rows).reading_channels().collect()
+    match given.code.is_text {
+        true => blocks::HELP_OF_A_TEXT,
+        false => blocks::help(&given.code.program(), place),
+    }
 }
 
 /// Words about a refusal of rows.
-fn of_rows(number: u8, place: usize, table: &[u8]) -> Vec<String> {
-    let rows = read_rows(table).unwrap_or_default();
-    let program = Program::new(&rows);
+fn of_rows(number: u8, place: usize, program: &Program) -> Vec<String> {
     if number == 5 && place == program.rows.len() {
-        return references::no_root(&program);
+        return references::no_root(program);
     }
     let Some(row) = program.rows.get(place) else {
         return Vec::new();
     };
     let found = match number {
-        4 => fields::at_fault(&program, place),
-        5 => references::at_fault(&program, place),
-        6 => limits::passed(&program, place),
-        7..=9 => usage::clash(&program, place, number),
-        14 => blocks::at_fault(&program, place),
+        4 => fields::at_fault(program, place),
+        5 => references::at_fault(program, place),
+        6 => limits::passed(program, place),
+        7..=9 => usage::clash(program, place, number),
+        14 => blocks::at_fault(program, place),
         _ => Vec::new(),
     };
-    let shown = format!("row {place}, line {}: {row}", place + 2);
+    let shown = match program.origin {
+        Some(_) => program.shown(place),
+        None => format!("row {place}, line {}: {row}", place + 2),
+    };
     std::iter::once(shown).chain(found).collect()
 }
 
 #[cfg(test)]
 mod tests {
     use super::{details, Given};
+    use crate::code::Code;
     use occam_table::{Machine, Refusal};
     use reference::generate::{generate, Aim};
 
@@ -80,7 +84,7 @@ mod tests {
         let mut machine = Machine::new();
         let refusal = machine.run_table(&table, &sheet, &choices, lent).err()?;
         let given = Given {
-            table: &table,
+            code: &Code::new(table, false),
             sheet: &sheet,
             budget,
         };

@@ -61,26 +61,28 @@ pub fn clash(program: &Program, par: usize, number: u8) -> Vec<String> {
 fn words(program: &Program, members: [usize; 2], one: &Access, other: &Access) -> Vec<String> {
     let position = one.positions.start.max(other.positions.start);
     let number = position - program.part(one.declaration).start;
-    let declaration = one.declaration;
+    let name = program.sort_and_name(one.declaration);
     let what = match one.deed {
-        Deed::Changes | Deed::Uses => format!("cell {number} of variable {declaration}"),
-        Deed::Inputs | Deed::Outputs => format!("element {number} of channel {declaration}"),
+        _ if program.origin.is_some() => program.part_words(one.declaration, Some(number)),
+        Deed::Changes | Deed::Uses => format!("cell {number} of {name}"),
+        Deed::Inputs | Deed::Outputs => format!("element {number} of {name}"),
     };
     let deed = |access: &Access| {
-        let row = &program.rows[access.row];
         let whole = match access.whole {
             true => "; its subscript has no constant value, so every number of the name counts",
             false => "",
         };
-        format!("is {} by row {}: {row}{whole}", access.word(), access.row)
-    };
-    vec![
         format!(
-            "the members in row {} and row {} both have {what}",
-            members[0], members[1]
-        ),
-        format!("in the member of row {} it {}", members[0], deed(one)),
-        format!("in the member of row {} it {}", members[1], deed(other)),
+            "is {} by {}{whole}",
+            access.word(),
+            program.shown(access.row)
+        )
+    };
+    let [first, second] = members.map(|member| program.place(member));
+    vec![
+        format!("the members in {first} and {second} both have {what}"),
+        format!("in the member of {first} it {}", deed(one)),
+        format!("in the member of {second} it {}", deed(other)),
     ]
 }
 

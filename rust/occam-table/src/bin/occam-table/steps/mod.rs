@@ -7,6 +7,7 @@ mod waiting;
 mod words;
 
 use crate::arguments::Arguments;
+use crate::input::TEXT;
 use crate::program::Program;
 use crate::ready::ready_words;
 use crate::report::Report;
@@ -18,7 +19,7 @@ const BUDGET: u32 = 1_000;
 
 /// The command.
 pub fn command(words: &[String]) -> Result<Report, String> {
-    let arguments = Arguments::part("steps", words, &["--budget", "--choices"], &[])?;
+    let arguments = Arguments::part("steps", words, &["--budget", "--choices"], &[TEXT])?;
     let asked = Asked::read(&arguments, BUDGET)?;
     Ok(match story(&asked) {
         Ok(text) => Report::accepted(text),
@@ -39,7 +40,7 @@ fn story(asked: &Asked) -> Result<String, Refusal> {
         let next = state_after(asked, &mut machine, number)?;
         let moved = moves::between(&program, &state, &next);
         let unset = moves::unset_by_blocks(&program, &state, &next);
-        let told = words::of_move(&program, &moved) + &words::of_unset(&unset);
+        let told = words::of_move(&program, &moved) + &words::of_unset(&program, &unset);
         text += &format!("step {number}: {told}\n");
         state = next;
     }

@@ -2,6 +2,7 @@
 
 use super::moves::{between, Move, Taker};
 use super::story;
+use crate::code::Code;
 use crate::program::Program;
 use crate::run::Asked;
 use occam_table::{read_rows, Machine, Outcome};
@@ -66,7 +67,7 @@ fn the_row_that_moved() {
 fn told(seed: u64) -> (Outcome, u32, String) {
     let (table, sheet, choices, _) = generate(seed, true, Some(Aim::Accepted)).parts();
     let asked = Asked {
-        table,
+        code: Code::new(table, false),
         sheet,
         names: String::new(),
         choices,

@@ -70,7 +70,8 @@ impl Rest<'_> {
                 .position(|row| row == channel);
             let taken = number.map_or(0, |number| self.state.places[number]);
             return format!(
-                "a reading on channel {channel}; the sheet has no more ({taken} taken)"
+                "a reading on {}; the sheet has no more ({taken} taken)",
+                self.program.sort_and_name(channel)
             );
         }
         format!(
@@ -87,7 +88,8 @@ impl Rest<'_> {
         if self.program.rows[channel].b() == TO_HOST {
             let capacity = self.program.rows[channel].c();
             return format!(
-                "write to the host on channel {channel}; its capacity of {capacity} is used up"
+                "write to the host on {}; its capacity of {capacity} is used up",
+                self.program.sort_and_name(channel)
             );
         }
         format!(
@@ -106,7 +108,7 @@ impl Rest<'_> {
         }
         let each: Vec<String> = rows
             .iter()
-            .map(|&row| format!("row {row} {}", self.state_words(row)))
+            .map(|&row| format!("{} {}", self.program.place(row), self.state_words(row)))
             .collect();
         let would = format!("nobody is ready to {verb} there");
         format!("{would}: {}", each.join(", "))
@@ -126,7 +128,8 @@ impl Rest<'_> {
     /// The state of a row at the other side; a guard's input follows its ALT.
     fn state_words(&self, row: usize) -> String {
         if let Some(alt) = self.alt_guarded_by(row) {
-            return format!("guards row {alt} (ALT), which {}", self.process_words(alt));
+            let place = self.program.place(alt);
+            return format!("guards {place} (ALT), which {}", self.process_words(alt));
         }
         self.process_words(row).to_string()
     }
@@ -160,9 +163,17 @@ impl Rest<'_> {
         }
         let each: Vec<String> = options
             .iter()
-            .map(|&option| format!("option {option} {}", self.option_words(option)))
+            .map(|&option| format!("{} {}", self.option_name(option), self.option_words(option)))
             .collect();
         format!("can take no option: {}", each.join("; "))
+    }
+
+    /// The name of an option: its row, or its line of a text.
+    fn option_name(&self, option: usize) -> String {
+        match self.program.origin {
+            Some(_) => format!("that in {}", self.program.place(option)),
+            None => format!("option {option}"),
+        }
     }
 
     /// Why an option can't be taken.

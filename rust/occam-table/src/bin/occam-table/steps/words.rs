@@ -1,7 +1,6 @@
 //! Words for a step.
 
 use super::moves::{Move, Named, Taker};
-use crate::kinds::{kind_name, VARIABLE};
 use crate::program::Program;
 
 /// The words for a step.
@@ -42,15 +41,17 @@ pub fn of_move(program: &Program, step: &Move) -> String {
             channel,
             value,
         } => format!(
-            "{} wrote {} to the host on channel {channel}",
+            "{} wrote {} to the host on {}",
             row_words(program, *row),
-            message_words(*value)
+            message_words(*value),
+            program.sort_and_name(*channel)
         ),
         Move::Tested { row, held } => tested_words(program, *row, *held),
         Move::Chose { row, choice } => match choice {
             Some(choice) => format!(
-                "{} chose the choice in row {choice} and started {}",
+                "{} chose the choice in {} and started {}",
                 row_words(program, *row),
+                program.place(*choice),
                 process_words(program, *choice)
             ),
             None => format!("{} chose", row_words(program, *row)),
@@ -65,31 +66,23 @@ pub fn of_move(program: &Program, step: &Move) -> String {
 }
 
 /// The words for variables whose values are gone because their blocks started.
-pub fn of_unset(variables: &[usize]) -> String {
+pub fn of_unset(program: &Program, variables: &[usize]) -> String {
     let each = variables.iter();
-    each.map(|variable| format!("; variable {variable} is unset, since its block started"))
-        .collect()
+    each.map(|&variable| {
+        let name = program.sort_and_name(variable);
+        format!("; {name} is unset, since its block started")
+    })
+    .collect()
 }
 
-/// A row and the name of its kind.
+/// A row and the name of its kind, or a line of a text.
 pub fn row_words(program: &Program, row: usize) -> String {
-    format!("row {row} ({})", kind_name(program.rows[row].kind))
+    program.place_and_kind(row)
 }
 
 /// A cell or an element.
 pub fn named_words(program: &Program, named: Named) -> String {
-    let Named {
-        declaration,
-        number,
-    } = named;
-    let (what, part) = match program.rows[declaration].kind {
-        VARIABLE => ("variable", "cell"),
-        _ => ("channel", "element"),
-    };
-    match number {
-        Some(number) => format!("{what} {declaration} {part} {number}"),
-        None => format!("{what} {declaration}"),
-    }
+    program.part_words(named.declaration, named.number)
 }
 
 /// A value; none if it is not known.
@@ -150,8 +143,8 @@ fn read_words(
             format!("took {} and ", options_words(program, options)),
         ),
     };
-    let who = row_words(program, who);
-    format!("{who} {option}read {what} from the host on channel {channel}{into}")
+    let (who, channel) = (row_words(program, who), program.sort_and_name(channel));
+    format!("{who} {option}read {what} from the host on {channel}{into}")
 }
 
 /// A WHILE test.
@@ -170,11 +163,12 @@ fn tested_words(program: &Program, row: usize, held: bool) -> String {
 
 /// The option taken, or those that it may have been.
 fn options_words(program: &Program, options: &[usize]) -> String {
-    let each = options.iter().map(|option| format!("row {option}"));
+    let each = options.iter().map(|&option| program.place(option));
     let rows: Vec<String> = each.collect();
     match options {
         [option] => format!(
-            "the option in row {option} and started {}",
+            "the option in {} and started {}",
+            program.place(*option),
             process_words(program, *option)
         ),
         [] => "an option".to_string(),
