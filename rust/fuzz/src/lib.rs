@@ -8,6 +8,7 @@ mod packed;
 pub mod random;
 mod texts;
 mod traces;
+pub mod trials;
 
 pub use beginnings::{compare_beginnings, Ahead};
 use checks::{compare_checks_of_bytes, compare_checks_of_rows};
@@ -15,8 +16,7 @@ use lending::Lending;
 use occam_table::{calls, strip, Buffers, Machine, RowState, Run, Strip};
 use packed::{packed_answer, packed_answer_at};
 use reference::table::rows_of_bytes;
-use reference::{answer_bytes, answer_rows, traced_bytes};
-use reference::{Answer, Ran, BUFFER_LENGTHS, TRACE_LENGTH};
+use reference::{answer_bytes, Answer, Ran, Source, BUFFER_LENGTHS, TRACE_LENGTH};
 pub use texts::compare_text;
 pub use traces::compare_traces;
 
@@ -71,14 +71,8 @@ pub fn compare_totals(given: &Given, most: u32) -> Result<u64, String> {
         ..
     } = given;
     let lists = [TRACE_LENGTH; 2];
-    let traced = traced_bytes(
-        table,
-        sheet,
-        choices,
-        u64::from(most),
-        BUFFER_LENGTHS,
-        lists,
-    );
+    let traced =
+        Source::Bytes(table).traced(sheet, choices, u64::from(most), BUFFER_LENGTHS, lists);
     let mut buffers = Buffers::default();
     let mut greatest = 0;
     let each = match traced.answer {
@@ -131,7 +125,7 @@ fn compare_numbers(given: &Given, numbers: &[i32]) -> Result<(), String> {
         ..
     } = given;
     compare_checks_of_rows(numbers)?;
-    let answer = answer_rows(numbers, sheet, choices, u64::from(*budget), *lengths);
+    let answer = Source::Numbers(numbers).answer(sheet, choices, u64::from(*budget), *lengths);
     let mut lent = Lending::new(*lengths);
     let packed = calls::run_rows(numbers, sheet, choices, *budget, lent.lend());
     same("answer to rows", packed, packed_answer(&answer))?;

@@ -5,7 +5,7 @@ use crate::packed::packed_answer;
 use crate::{same, Given};
 use occam_table::{calls, LentTrace, Machine};
 use reference::table::rows_of_bytes;
-use reference::{traced_bytes, traced_rows, Answer, Traced, BUFFER_LENGTHS, TRACE_LENGTH};
+use reference::{Answer, Source, Traced, BUFFER_LENGTHS, TRACE_LENGTH};
 
 /// A number that no run leaves in the lists.
 const UNTOUCHED: u16 = 7_777;
@@ -26,17 +26,17 @@ pub fn compare_traces(
         numbers,
     } = given;
     let long = u64::from(*budget);
-    let traced = traced_bytes(table, sheet, choices, long, *lengths, lists);
+    let traced = Source::Bytes(table).traced(sheet, choices, long, *lengths, lists);
     compare_call("bytes", *lengths, lists, &traced, |lent, trace| {
         calls::run_table_traced(table, sheet, choices, *budget, lent.lend(), trace)
     })?;
     let rows = numbers.clone().unwrap_or_else(|| numbers_of(table));
-    let of_rows = traced_rows(&rows, sheet, choices, long, *lengths, lists);
+    let of_rows = Source::Numbers(&rows).traced(sheet, choices, long, *lengths, lists);
     compare_call("rows", *lengths, lists, &of_rows, |lent, trace| {
         calls::run_rows_traced(&rows, sheet, choices, *budget, lent.lend(), trace)
     })?;
     let whole = [TRACE_LENGTH; 2];
-    let traced = traced_bytes(table, sheet, choices, long, BUFFER_LENGTHS, whole);
+    let traced = Source::Bytes(table).traced(sheet, choices, long, BUFFER_LENGTHS, whole);
     compare_binding(given, &traced, machine)?;
     Ok(traced.steps.len())
 }

@@ -170,49 +170,9 @@ pub fn answer_bytes(
     Source::Bytes(table).answer(sheet, choices, budget, lengths)
 }
 
-/// The answer to rows lent as numbers, four to each.
-pub fn answer_rows(
-    rows: &[i32],
-    sheet: &[u8],
-    choices: &[u16],
-    budget: u64,
-    lengths: [usize; 7],
-) -> Answer {
-    Source::Numbers(rows).answer(sheet, choices, budget, lengths)
-}
-
-/// The answer to a table of bytes with each step; `lists` are the lengths of the two further lists.
-pub fn traced_bytes(
-    table: &[u8],
-    sheet: &[u8],
-    choices: &[u16],
-    budget: u64,
-    lengths: [usize; 7],
-    lists: [usize; 2],
-) -> Traced {
-    Source::Bytes(table).traced(sheet, choices, budget, lengths, lists)
-}
-
-/// The answer to rows lent as numbers with each step; `lists` as for bytes.
-pub fn traced_rows(
-    rows: &[i32],
-    sheet: &[u8],
-    choices: &[u16],
-    budget: u64,
-    lengths: [usize; 7],
-    lists: [usize; 2],
-) -> Traced {
-    Source::Numbers(rows).traced(sheet, choices, budget, lengths, lists)
-}
-
 /// The verdict on a table of bytes: the program, or the first of refusals 2 to 9 and 14.
 pub fn check_bytes(table: &[u8]) -> Result<Program, Refusal> {
     check_bytes_counted(table).verdict
-}
-
-/// The verdict on rows lent as numbers: the program, or the first of refusals 3 to 9 and 14.
-pub fn check_rows(rows: &[i32]) -> Result<Program, Refusal> {
-    check_rows_counted(rows).verdict
 }
 
 /// The verdict on a table of bytes, and the count of pairs compared.

@@ -33,9 +33,8 @@ pub mod explore;
 pub mod generate;
 pub mod join;
 
-pub use answer::{answer_bytes, answer_rows, Answer, Ran, Source};
-pub use answer::{check_bytes, check_bytes_counted, check_rows, check_rows_counted, Checked};
-pub use answer::{traced_bytes, traced_rows, Traced};
+pub use answer::{answer_bytes, Answer, Ran, Source, Traced};
+pub use answer::{check_bytes, check_bytes_counted, check_rows_counted, Checked};
 pub use answer::{BUDGET_LIMIT, BUFFER_LENGTHS, TRACE_LENGTH};
 pub use refusal::Refusal;
 pub use run::{Outcome, Taken};

@@ -2,7 +2,7 @@
 
 mod common;
 use common::{ran, refusal_of, table};
-use reference::{traced_bytes, traced_rows, Outcome, Traced, BUFFER_LENGTHS, TRACE_LENGTH};
+use reference::{Outcome, Source, Traced, BUFFER_LENGTHS, TRACE_LENGTH};
 
 /// The totals of these rows with budgets of 0, 1, 2 and so on, as many as there are wanted ones.
 fn totals<const N: usize>(rows: &str, sheet: &str) -> [usize; N] {
@@ -19,7 +19,7 @@ fn trace(rows: &str, sheet: &str, choices: &[u16], budget: u64) -> Vec<(usize, u
 fn traced(rows: &str, sheet: &str, choices: &[u16], budget: u64) -> Traced {
     let (table, lists) = (table(rows), [TRACE_LENGTH; 2]);
     let sheet = sheet.as_bytes();
-    traced_bytes(&table, sheet, choices, budget, BUFFER_LENGTHS, lists)
+    Source::Bytes(&table).traced(sheet, choices, budget, BUFFER_LENGTHS, lists)
 }
 
 /// A PAR of v[0] := 1, v[1] := 2 and v[2] := 3, in rows 5, 8 and 11.
@@ -163,7 +163,7 @@ fn a_trace_tells_the_count_and_the_row_of_each_step() {
 #[test]
 fn a_traced_call_is_refused_as_others_are() {
     let refused = |lists, rows: &str, budget| {
-        let traced = traced_bytes(&table(rows), b"\n", &[], budget, BUFFER_LENGTHS, lists);
+        let traced = Source::Bytes(&table(rows)).traced(b"\n", &[], budget, BUFFER_LENGTHS, lists);
         assert!(traced.steps.is_empty());
         refusal_of(&traced.answer)
     };
@@ -174,6 +174,6 @@ fn a_traced_call_is_refused_as_others_are() {
     assert_eq!(refused([room, room], "21,0,0,0", 65_537), (11, 0));
     let mut lengths = BUFFER_LENGTHS;
     lengths[5] -= 1;
-    let traced = traced_rows(&[21, 0, 0, 0], b"\n", &[], 0, lengths, [room; 2]);
+    let traced = Source::Numbers(&[21, 0, 0, 0]).traced(b"\n", &[], 0, lengths, [room; 2]);
     assert_eq!(refusal_of(&traced.answer), (1, 0));
 }

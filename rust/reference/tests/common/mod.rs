@@ -7,7 +7,7 @@ pub mod joins;
 pub mod slow_text;
 
 use reference::printing::printed;
-use reference::{answer_bytes, answer_rows, Answer, Ran, BUDGET_LIMIT, BUFFER_LENGTHS};
+use reference::{answer_bytes, Answer, Ran, Source, BUDGET_LIMIT, BUFFER_LENGTHS};
 use std::collections::BTreeMap;
 use std::fs;
 use std::path::{Path, PathBuf};
@@ -101,13 +101,7 @@ pub fn refused_bytes(table: &[u8], sheet: &[u8]) -> (u8, u32) {
 
 /// The refusal of rows lent as numbers.
 pub fn refused_numbers(numbers: &[i32]) -> (u8, u32) {
-    refusal_of(&answer_rows(
-        numbers,
-        b"\n",
-        &[],
-        BUDGET_LIMIT,
-        BUFFER_LENGTHS,
-    ))
+    refusal_of(&Source::Numbers(numbers).answer(b"\n", &[], BUDGET_LIMIT, BUFFER_LENGTHS))
 }
 
 /// The result of these rows with a sheet, choices and a budget.

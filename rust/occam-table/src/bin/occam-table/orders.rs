@@ -101,10 +101,10 @@ fn words_of(asked: &Asked, trials: u64, tally: &Tally) -> String {
 fn why_words(has_alt: bool, tally: &Tally) -> &'static str {
     let compared = tally.spent > 0 && !tally.beginnings.are_none();
     match (has_alt, tally.differs()) {
-        (true, true) => "the table has an ALT, so the order may matter\n",
-        (false, true) => "the table has no ALT: this must not happen, please report it\n",
-        (true, false) if compared => "the table has an ALT, so other orders may differ\n",
-        (false, false) if compared => "it is proved that they agree, since the table has no ALT\n",
+        (true, true) => "there is an ALT, so the order may matter\n",
+        (false, true) => "there is no ALT: this must not happen, please report it\n",
+        (true, false) if compared => "there is an ALT, so other orders may differ\n",
+        (false, false) if compared => "it is proved that they agree, since there is no ALT\n",
         _ => "",
     }
 }
