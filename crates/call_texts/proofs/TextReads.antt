@@ -32,8 +32,8 @@ module _ (text : List ℕ) (old : List ℤ) (long : 4096 ≤ length old) (r : Te
   by-fault = is ∙ rw (le-ltb (length old) 4096 long)
 
   -- refused as the text is
-  pub text-refused : (number place : ℕ) → r ≡ read.Refused number place → textFault text ≡ some (number, place)
-  text-refused number place e = go (textFault text) refl by-fault
+  pub fault-told : (number place : ℕ) → r ≡ read.Refused number place → textFault text ≡ some (number, place)
+  fault-told number place e = go (textFault text) refl by-fault
     where
       go : (o : Option Refusal) → textFault text ≡ o → (r, rows) ≡ readUnless o (textRows text) old → textFault text ≡ some (number, place)
       go none q w = let a = ap (λ (x : TextRead × List ℤ). x .0) w in absurd (let z : _≡_ {A = ℕ} 0 1 = cc in omega arith)

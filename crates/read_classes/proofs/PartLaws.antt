@@ -1,27 +1,21 @@
--- Chunks parted at the first mark: by the chunks before it, and as their tokens.
+-- Tokens parted at the first mark: by its place, and as the grammar parts them.
 use mathlib.Core.Path.{_≡_, refl, ap, _∙_}
 use mathlib.Core.Bool.{Bool, true, false}
-use mathlib.Core.List.{List, [], _∷_, _++_, map}
+use mathlib.Core.List.{List, [], _∷_, map}
 use mathlib.Core.Option.{Option, some}
+use Prim.Native.Nat.{suc, _≤_}
+use native.Mathlib.Omega.{arith as orders}
+use lib.ListN.{length}
+use lib.Dec.{leb}
 use Rattle.meaning.specs.Basics.{ifElse}
 use Rattle.grammar.specs.Grammar.{both, either, Mark, a-skip, a-stop, a-seq, a-par, an-if, an-alt, a-while, becomes, asks, tells, ampersand, an-int, a-chan, a-hostin, a-hostout, colon, unused, Token, name, number, minus, not-word, given, arith, joins, round-open, round-close, square-open, square-close, mark}
 use Rattle.grammar.specs.Lines.{tokenMark, Cut, uncut, parted, before, cutAt, cutAtMark}
 use Rattle.read_tokens.specs.Sorts as sorts
-use Rattle.read_classes.specs.Parts.{sortOf, isMark, partingOf, putBefore, partAtMark, chunksParted, PartedAsTokens}
+use Rattle.read_classes.specs.Parts.{sortOf, isMark, markAt, partingOf, putBefore, partAtMark, chunksParted, partedThere, PartedAsTokens, MarkWithin, PartedAt}
 
--- Chunks ------------------------------------------------------------------------------------------------------------------------
+-- Places ------------------------------------------------------------------------------------------------------------------------
 
--- no chunk is a mark
-abbrev pub Unmarked : List (Option Token) → Type 0
-Unmarked [] = Unit {0}
-Unmarked (o ∷ os) = (isMark o ≡ false) × Unmarked os
-
--- one more that is none
-pub unmarked-more : (os : List (Option Token)) (o : Option Token) → Unmarked os → isMark o ≡ false → Unmarked (os ++ (o ∷ []))
-unmarked-more [] o h e = (e, tt)
-unmarked-more (p ∷ os) o h e = (h .0, unmarked-more os o (h .1) e)
-
--- a chunk that is no mark stands before
+-- what is no mark stands before
 passed : (o : Option Token) (os : List (Option Token)) → isMark o ≡ false → partAtMark (o ∷ os) ≡ putBefore o (partAtMark os)
 unfolding partAtMark
 passed o os e = ap (λ (b : Bool). ifElse b (partingOf (sortOf o) [] os) (putBefore o (partAtMark os))) e
@@ -31,16 +25,24 @@ parts : (o : Option Token) (os : List (Option Token)) → isMark o ≡ true → 
 unfolding partAtMark
 parts o os e = ap (λ (b : Bool). ifElse b (partingOf (sortOf o) [] os) (putBefore o (partAtMark os))) e
 
--- after chunks that are no marks
-pub parted-there : (us : List (Option Token)) (o : Option Token) (os : List (Option Token)) → Unmarked us → isMark o ≡ true → partAtMark (us ++ (o ∷ os)) ≡ partingOf (sortOf o) us os
-parted-there [] o os h e = parts o os e
-parted-there (u ∷ us) o os h e = passed u (us ++ (o ∷ os)) (h .0) ∙ ap (putBefore u) (parted-there us o os (h .1) e)
+pub parted-at : PartedAt
+unfolding partAtMark markAt
+parted-at [] = refl
+parted-at (o ∷ os) = go (isMark o) (parted-at os)
+  where
+    go : (b : Bool) → partAtMark os ≡ partedThere os (markAt (map sortOf os))
+        → ifElse b (partingOf (sortOf o) [] os) (putBefore o (partAtMark os)) ≡ partedThere (o ∷ os) (ifElse b 0 (suc (markAt (map sortOf os))))
+    go true e = refl
+    go false e = ap (putBefore o) e
 
--- without a mark
-pub never-parted : (us : List (Option Token)) → Unmarked us → partAtMark us ≡ partingOf sorts.noToken us []
-unfolding partAtMark
-never-parted [] h = refl
-never-parted (u ∷ us) h = passed u us (h .0) ∙ ap (putBefore u) (never-parted us (h .1))
+pub mark-within : MarkWithin
+unfolding markAt
+mark-within [] = omega orders
+mark-within (s ∷ ss) = go (leb sorts.skip s) (mark-within ss)
+  where
+    go : (b : Bool) → markAt ss ≤ length ss → ifElse b 0 (suc (markAt ss)) ≤ suc (length ss)
+    go true h = omega orders
+    go false h = omega orders
 
 -- Tokens ------------------------------------------------------------------------------------------------------------------------
 
@@ -70,7 +72,7 @@ unfolding before
 before-told t (uncut ts) = refl
 before-told t (parted ts m us) = refl
 
--- and so its chunk
+-- and so with the grammar
 module _ (t : Token) (ts : List Token) (e : partAtMark (map some ts) ≡ chunksParted (cutAtMark ts)) where
   token-passed : isMark (some t) ≡ false → partAtMark (some t ∷ map some ts) ≡ chunksParted (before t (cutAtMark ts))
   token-passed h = passed (some t) (map some ts) h ∙ ap (putBefore (some t)) e ∙ before-told t (cutAtMark ts)

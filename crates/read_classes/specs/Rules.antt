@@ -1,42 +1,55 @@
 -- What stands before and after the first mark of a line, and the line's class, by the mark's sort.
-use mathlib.Core.Bool.{Bool, false, _&&_, _||_}
+use mathlib.Core.Bool.{Bool, true, false, _&&_, _||_}
 use mathlib.Core.List.{List, [], _∷_}
-use mathlib.Core.Option.{Option, none}
-use Prim.Native.Nat.{ℕ}
-use lib.ListN.{length, getD}
+use mathlib.Core.Option.{none}
+use Prim.Native.Nat.{ℕ, suc}
+use lib.ListN.{length, getD, take, drop}
 use lib.Dec.{eqb, ltb}
 use Rattle.meaning.specs.Basics.{ifElse}
-use Rattle.grammar.specs.Grammar.{Token}
+use Rattle.meaning.specs.Lines.{same}
 use Rattle.grammar.specs.Shapes.{initial, element}
 use Rattle.grammar.specs.Classes.{Class, variable-line, other-declaration, leaf, input-line, member-lines, choice-lines, option-lines, while-line, test-line, guard-line}
 use Rattle.read_tokens.specs.Sorts as sorts
 use Rattle.read_shapes.specs.Phrases.{phraseIn}
 use Rattle.read_classes.specs.ClassNumbers.{numberOf, classNumber}
-use Rattle.read_classes.specs.Parts.{isEmpty, sortsAre, Parting, partAtMark}
+use Rattle.read_classes.specs.Parts.{markAt}
+
+-- what is said of a first mark's sort, the sorts before it and those after it
+abbrev pub atMark : {A : Type 0} → (ℕ → List ℕ → List ℕ → A) → List ℕ → A
+atMark f ss = f (getD ss (markAt ss) 0) (take (markAt ss) ss) (drop (suc (markAt ss)) ss)
+
+-- whether there is no token
+abbrev pub isEmpty : List ℕ → Bool
+isEmpty [] = true
+isEmpty (s ∷ ss) = false
 
 -- `[ number ]`, or nothing
-abbrev pub sizeIn : List (Option Token) → Bool
-sizeIn os = isEmpty os || sortsAre (sorts.squareOpen ∷ sorts.number ∷ sorts.squareClose ∷ []) os
+abbrev pub sizeIn : List ℕ → Bool
+sizeIn ss = isEmpty ss || same ss (sorts.squareOpen ∷ sorts.number ∷ sorts.squareClose ∷ [])
 
 -- a name and a colon
-abbrev pub namedIn : List (Option Token) → Bool
-namedIn os = sortsAre (sorts.name ∷ sorts.colon ∷ []) os
+abbrev pub namedIn : List ℕ → Bool
+namedIn ss = same ss (sorts.name ∷ sorts.colon ∷ [])
 
 -- a number, a name and a colon
-abbrev pub numberedIn : List (Option Token) → Bool
-numberedIn os = sortsAre (sorts.number ∷ sorts.name ∷ sorts.colon ∷ []) os
+abbrev pub numberedIn : List ℕ → Bool
+numberedIn ss = same ss (sorts.number ∷ sorts.name ∷ sorts.colon ∷ [])
 
 -- nothing before and after
-abbrev pub aloneIn : List (Option Token) → List (Option Token) → Bool
+abbrev pub aloneIn : List ℕ → List ℕ → Bool
 aloneIn bs cs = isEmpty bs && isEmpty cs
 
 -- an element before and after
-abbrev pub exchangeIn : List (Option Token) → List (Option Token) → Bool
+abbrev pub exchangeIn : List ℕ → List ℕ → Bool
 exchangeIn bs cs = phraseIn element bs && phraseIn element cs
 
--- what a guard waits for: SKIP, or an input
-abbrev pub eventIn : Parting → Bool
-eventIn p = ifElse (eqb (p .sort) sorts.skip) (aloneIn (p .before) (p .after)) (ifElse (eqb (p .sort) sorts.asks) (exchangeIn (p .before) (p .after)) false)
+-- SKIP by itself, or an input
+abbrev pub eventByMark : ℕ → List ℕ → List ℕ → Bool
+eventByMark s bs cs = ifElse (eqb s sorts.skip) (aloneIn bs cs) (ifElse (eqb s sorts.asks) (exchangeIn bs cs) false)
+
+-- what a guard waits for
+abbrev pub eventIn : List ℕ → Bool
+eventIn ss = atMark eventByMark ss
 
 -- What a part may be, by number ----------------------------------------------------------------------------------------------------
 
@@ -68,16 +81,16 @@ asksNumbered = 5
 abbrev pub asksEvent : ℕ
 asksEvent = 6
 
--- whether chunks are what is asked for
-unfoldable pub partIs : ℕ → List (Option Token) → Bool
-partIs k os =
-    ifElse (eqb k asksNothing) (isEmpty os)
-    (ifElse (eqb k asksPhrase) (phraseIn initial os)
-    (ifElse (eqb k asksElement) (phraseIn element os)
-    (ifElse (eqb k asksSize) (sizeIn os)
-    (ifElse (eqb k asksName) (namedIn os)
-    (ifElse (eqb k asksNumbered) (numberedIn os)
-    (ifElse (eqb k asksEvent) (eventIn (partAtMark os)) false))))))
+-- whether tokens of some sorts are what is asked for
+unfoldable pub partIs : ℕ → List ℕ → Bool
+partIs k ss =
+    ifElse (eqb k asksNothing) (isEmpty ss)
+    (ifElse (eqb k asksPhrase) (phraseIn initial ss)
+    (ifElse (eqb k asksElement) (phraseIn element ss)
+    (ifElse (eqb k asksSize) (sizeIn ss)
+    (ifElse (eqb k asksName) (namedIn ss)
+    (ifElse (eqb k asksNumbered) (numberedIn ss)
+    (ifElse (eqb k asksEvent) (eventIn ss) false))))))
 
 -- Rules -------------------------------------------------------------------------------------------------------------------------------
 
@@ -127,9 +140,9 @@ abbrev pub ruleAt : List (List ℕ) → ℕ → List ℕ
 ruleAt table s = ifElse (ltb s (length table)) (getD table s []) noRule
 
 -- the class by a rule
-abbrev pub classByRule : List ℕ → List (Option Token) → List (Option Token) → ℕ
+abbrev pub classByRule : List ℕ → List ℕ → List ℕ → ℕ
 classByRule r bs cs = ifElse (partIs (getD r 0 0) bs && partIs (getD r 1 0) cs) (getD r 2 0) (classNumber none)
 
 -- the class by the sort of the first mark
-unfoldable pub classByMark : ℕ → List (Option Token) → List (Option Token) → ℕ
+unfoldable pub classByMark : ℕ → List ℕ → List ℕ → ℕ
 classByMark s bs cs = classByRule (ruleAt rules s) bs cs

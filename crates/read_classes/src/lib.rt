@@ -1,11 +1,9 @@
-// The class of a line, told from its bytes without a tree.
+// The class of a line, told from the sorts of its tokens without a tree.
 ghost use mathlib.Core.Path.{_≡_};
 ghost use Prim.Native.Nat.{_≤_};
 ghost use lib.ListN.{length};
-ghost use Rattle.read_classes.specs.ClassNumbers.{classNumber};
-ghost use Rattle.read_classes.specs.Parts.{chunksOf};
 ghost use Rattle.read_classes.specs.Rules.{ruleAt, classByMark};
-ghost use Rattle.read_classes.specs.LineClasses.{classIn};
+ghost use Rattle.read_classes.specs.LineClasses.{classBySorts};
 
 pub mod classes; // classes.rt: the classes by number
 mod parts; // parts.rt: the parts of a line
@@ -13,13 +11,7 @@ mod parts; // parts.rt: the parts of a line
 use classes::*;
 pub use parts::first_mark;
 use parts::*;
-
-// The first mark of a part: its sort, where the tokens before it end, and where it ends.
-pub struct Marked {
-    pub sort: u8,
-    pub from: usize,
-    pub to: usize,
-}
+use read_tokens::sorts::NO_TOKEN;
 
 // A sort that parts no line.
 const NONE: [u8; 3] = [NOTHING, NOTHING, NO_LINE];
@@ -69,7 +61,7 @@ fn rule_at(rules: &[[u8; 3]], sort: usize) -> [u8; 3]
 // The class of a line, by its first mark and what stands before and after it.
 fn class_by_mark(sort: u8, before: &[u8], after: &[u8]) -> u8
     requires { ⌜ (length (now before) ≤ 32768) × (length (now after) ≤ 32768) ⌝ }
-    ensures { λ r. ⌜ r ≡ classByMark sort (chunksOf (now (before .entry))) (chunksOf (now (after .entry))) ⌝ }
+    ensures { λ r. ⌜ r ≡ classByMark sort (now (before .entry)) (now (after .entry)) ⌝ }
 {
     let rules = RULES;
     let rule = rule_at(&rules, sort as usize);
@@ -82,18 +74,14 @@ fn class_by_mark(sort: u8, before: &[u8], after: &[u8]) -> u8
     rule[2]
 }
 
-// The class of a line, from its bytes after the indentation and without its line feed.
-pub fn class_of(line: &[u8]) -> u8
-    ensures { λ r. ⌜ r ≡ classNumber (classIn (now (line .entry))) ⌝ }
+// The class of a line, from the sorts of its tokens.
+pub fn class_of(sorts: &[u8]) -> u8
+    requires { ⌜ length (now sorts) ≤ 32768 ⌝ }
+    ensures { λ r. ⌜ r ≡ classBySorts (now (sorts .entry)) ⌝ }
 {
-    if 32768 < line.len() {
-        return NO_LINE;
+    let at = parts::first_mark(sorts);
+    if sorts.len() <= at {
+        return class_by_mark(NO_TOKEN, sorts, &[]);
     }
-    if !read_scan::is_spelt(line) {
-        return NO_LINE;
-    }
-    let marked = parts::first_mark(line);
-    let from = marked.from;
-    let to = marked.to;
-    class_by_mark(marked.sort, &line[..from], &line[to..])
+    class_by_mark(sorts[at], &sorts[..at], &sorts[at + 1..])
 }

@@ -1,11 +1,10 @@
-// The parts of a line: where its first mark parts it, and what a part is.
+// The parts of a line: where its first mark parts it, and what a part is, by the sorts of its tokens.
 ghost use mathlib.Core.Path.{_≡_};
 ghost use Prim.Native.Nat.{_≤_};
 ghost use lib.ListN.{length};
-ghost use Rattle.read_scan.specs.Nexts.{listFrom};
-ghost use Rattle.read_classes.specs.Parts.{chunksOf, isEmpty, sortsAre, partAtMark, partingAt};
-ghost use Rattle.read_classes.specs.Rules.{sizeIn, namedIn, numberedIn, aloneIn, exchangeIn, eventIn, partIs};
-use crate::Marked;
+ghost use Rattle.read_classes.specs.Parts.{markAt};
+ghost use Rattle.read_classes.specs.Rules.{isEmpty, sizeIn, namedIn, numberedIn, aloneIn, exchangeIn, eventIn, partIs};
+use read_table::scan;
 use read_tokens::sorts;
 
 // What a part may be: nothing.
@@ -38,105 +37,68 @@ const NAMED_SORTS: [u8; 2] = [sorts::NAME, sorts::COLON];
 // The sorts of a number, a name and a colon.
 const NUMBERED_SORTS: [u8; 3] = [sorts::NUMBER, sorts::NAME, sorts::COLON];
 
-// Whether a part has no token from a place on.
-fn ends_at(part: &[u8], at: usize) -> bool
-    ensures { λ r. ⌜ r ≡ isEmpty (listFrom (now (part .entry)) at) ⌝ }
-{
-    let next = read_scan::next_token(part, at);
-    next.from == next.to
-}
-
-// Whether the tokens of a part have some sorts, one by one.
-fn has_sorts(part: &[u8], expected: &[u8]) -> bool
-    ensures { λ r. ⌜ r ≡ sortsAre (now (expected .entry)) (chunksOf (now (part .entry))) ⌝ }
+// The place of the first mark; the number of tokens if there is none.
+pub fn first_mark(sorts: &[u8]) -> usize
+    ensures { λ r. ⌜ r ≡ markAt (now (sorts .entry)) ⌝ }
 {
     let mut at: usize = 0;
-    let mut seen: usize = 0;
-    while seen < expected.len() {
-        let next = read_scan::next_token(part, at);
-        if next.from == next.to {
-            return false;
+    while at < sorts.len() {
+        if sorts::SKIP <= sorts[at] {
+            return at;
         }
-        if next.sort != expected[seen] {
-            return false;
-        }
-        at = next.to;
-        seen += 1;
+        at += 1;
     }
-    ends_at(part, at)
+    at
 }
 
-// The first mark of a part; sort 0 at its end if there is none.
-pub fn first_mark(part: &[u8]) -> Marked
-    ensures { λ r. ⌜ (r .from ≤ length (now (part .entry))) × (r .to ≤ length (now (part .entry))) × (partingAt (now (part .entry)) r ≡ partAtMark (chunksOf (now (part .entry)))) ⌝ }
+// Whether a part has no token.
+fn is_nothing(part: &[u8]) -> bool
+    ensures { λ r. ⌜ r ≡ isEmpty (now (part .entry)) ⌝ }
 {
-    let mut at: usize = 0;
-    while at < part.len() {
-        let next = read_scan::next_token(part, at);
-        if next.from == next.to {
-            return Marked {
-                sort: sorts::NO_TOKEN,
-                from: at,
-                to: at,
-            };
-        }
-        if sorts::SKIP <= next.sort {
-            return Marked {
-                sort: next.sort,
-                from: at,
-                to: next.to,
-            };
-        }
-        at = next.to;
-    }
-    Marked {
-        sort: sorts::NO_TOKEN,
-        from: at,
-        to: at,
-    }
+    part.len() == 0
 }
 
 // Whether a part is a size or nothing.
 fn is_size(part: &[u8]) -> bool
-    ensures { λ r. ⌜ r ≡ sizeIn (chunksOf (now (part .entry))) ⌝ }
+    ensures { λ r. ⌜ r ≡ sizeIn (now (part .entry)) ⌝ }
 {
-    if ends_at(part, 0) {
+    if is_nothing(part) {
         return true;
     }
     let expected = SIZE_SORTS;
-    has_sorts(part, &expected)
+    scan::same(part, &expected)
 }
 
 // Whether a part is a name and a colon.
 fn is_named(part: &[u8]) -> bool
-    ensures { λ r. ⌜ r ≡ namedIn (chunksOf (now (part .entry))) ⌝ }
+    ensures { λ r. ⌜ r ≡ namedIn (now (part .entry)) ⌝ }
 {
     let expected = NAMED_SORTS;
-    has_sorts(part, &expected)
+    scan::same(part, &expected)
 }
 
 // Whether a part is a number, a name and a colon.
 fn is_numbered(part: &[u8]) -> bool
-    ensures { λ r. ⌜ r ≡ numberedIn (chunksOf (now (part .entry))) ⌝ }
+    ensures { λ r. ⌜ r ≡ numberedIn (now (part .entry)) ⌝ }
 {
     let expected = NUMBERED_SORTS;
-    has_sorts(part, &expected)
+    scan::same(part, &expected)
 }
 
 // Whether there is nothing before and after a mark.
 fn is_alone(before: &[u8], after: &[u8]) -> bool
-    ensures { λ r. ⌜ r ≡ aloneIn (chunksOf (now (before .entry))) (chunksOf (now (after .entry))) ⌝ }
+    ensures { λ r. ⌜ r ≡ aloneIn (now (before .entry)) (now (after .entry)) ⌝ }
 {
-    if !ends_at(before, 0) {
+    if !is_nothing(before) {
         return false;
     }
-    ends_at(after, 0)
+    is_nothing(after)
 }
 
 // Whether there is an element before and after a mark.
 fn is_exchange(before: &[u8], after: &[u8]) -> bool
     requires { ⌜ (length (now before) ≤ 32768) × (length (now after) ≤ 32768) ⌝ }
-    ensures { λ r. ⌜ r ≡ exchangeIn (chunksOf (now (before .entry))) (chunksOf (now (after .entry))) ⌝ }
+    ensures { λ r. ⌜ r ≡ exchangeIn (now (before .entry)) (now (after .entry)) ⌝ }
 {
     if !read_shapes::is_element(before) {
         return false;
@@ -147,14 +109,15 @@ fn is_exchange(before: &[u8], after: &[u8]) -> bool
 // Whether a part is what a guard waits for: SKIP, or an input.
 fn is_event(part: &[u8]) -> bool
     requires { ⌜ length (now part) ≤ 32768 ⌝ }
-    ensures { λ r. ⌜ r ≡ eventIn (partAtMark (chunksOf (now (part .entry)))) ⌝ }
+    ensures { λ r. ⌜ r ≡ eventIn (now (part .entry)) ⌝ }
 {
-    let marked = first_mark(part);
-    let from = marked.from;
-    let to = marked.to;
-    let before = &part[..from];
-    let after = &part[to..];
-    let sort = marked.sort;
+    let at = first_mark(part);
+    if part.len() <= at {
+        return false;
+    }
+    let before = &part[..at];
+    let after = &part[at + 1..];
+    let sort = part[at];
     match sort {
         sorts::SKIP => is_alone(before, after),
         sorts::ASKS => is_exchange(before, after),
@@ -165,10 +128,10 @@ fn is_event(part: &[u8]) -> bool
 // Whether a part is what is asked for.
 pub fn is_part(asked: u8, part: &[u8]) -> bool
     requires { ⌜ length (now part) ≤ 32768 ⌝ }
-    ensures { λ r. ⌜ r ≡ partIs asked (chunksOf (now (part .entry))) ⌝ }
+    ensures { λ r. ⌜ r ≡ partIs asked (now (part .entry)) ⌝ }
 {
     match asked {
-        NOTHING => ends_at(part, 0),
+        NOTHING => is_nothing(part),
         PHRASE => read_shapes::is_phrase(part),
         ELEMENT => read_shapes::is_element(part),
         SIZE => is_size(part),

@@ -1,116 +1,146 @@
--- The rows of a text, line by line.
-use mathlib.Core.Path.{_≡_, sym, ap, subst}
+-- The rows of listed lines, line by line.
+use mathlib.Core.Path.{_≡_, refl, sym, ap, ap₂, _∙_}
 use mathlib.Core.List.{List, [], _∷_}
-use Prim.Native.Nat.{ℕ, zero, suc, _+_, _-_, _*_, _≤_, _<_}
+use Prim.Native.Nat.{ℕ, suc, _+_, _-_, _*_, _≤_, _<_}
 use native.Mathlib.Omega.{arith}
-use lib.ListN.{length, getD, take, drop, length-drop}
-use lib.Seq.{length-take-le}
-use Rattle.meaning.specs.Rows.{rowCount}
-use Rattle.grammar.specs.Outline.{OutlineLine, Lined, lined, Expect, outset}
-use Rattle.grammar.specs.Classes.{classOf}
-use Rattle.grammar.specs.TextRows.{textLines, textRows}
-use Rattle.read_classes.specs.Parts.{chunksOf}
-use Rattle.read_lines.specs.declared.Line.{Line}
-use Rattle.read_lines.specs.LineParts.{lineIn, bodyIn, Inside}
-use Rattle.read_lines.specs.Left.{LinesLeft, LineIs}
-use Rattle.read_lines.proofs.LeftLaws.{start-left, left-step, left-more}
-use Rattle.read_levels.specs.Kinds.{kindNumber, expectations, kindsFrom, kindsOf, Outlined}
-use Rattle.read_counts.specs.OwnRows.{lineRows, sumRows}
+use native.Mathlib.Numerals.{add-one}
+use lib.ListN.{length, getD, drop, set, length-drop}
+use lib.Seq.{sets, length-take-le}
+use Rattle.read_tokens.specs.Held.{part}
+use Rattle.read_levels.specs.Listing.{startOf, sortsOn}
 use Rattle.read_counts.specs.TokenRows.{rowsByKind, declarationRows}
-use Rattle.read_counts.proofs.RowsCounted.{rows-counted, all-expected}
-use Rattle.read_counts.proofs.KindRows.{line-few, declaration-few, kind-rows}
+use Rattle.read_counts.specs.ListedRows.{Spans, ownOn, rowsOn, eachLine, allLines, ownsListed, rowsListed}
+use Rattle.read_counts.proofs.KindRows.{line-few, declaration-few}
 
--- some numbers of a list from a place on: the first of them, and the others
-first-taken : (i : ℕ) (xs : List ℕ) (m k : ℕ) (ks : List ℕ) → take (suc m) (drop i xs) ≡ k ∷ ks → (i < length xs) × (getD xs i 0 ≡ k) × (take m (drop (suc i) xs) ≡ ks)
-first-taken zero [] m k ks e = absurd (omega (arith, ap length e))
-first-taken zero (x ∷ xs) m k ks e = (omega arith, ap (λ (l : List ℕ). getD l 0 0) e, ap (drop 1) e)
-first-taken (suc i) [] m k ks e = absurd (omega (arith, ap length e))
-first-taken (suc i) (x ∷ xs) m k ks e = let (a, b, c) = first-taken i xs m k ks e in (omega (arith, a), b, c)
+-- a line before the last: one more is left than after it
+one-left : (count line : ℕ) → line < count → count - line ≡ suc (count - (line + 1))
+one-left count line h = omega arith
 
--- the rows of the lines before a place: with those of the lines left they are the text's
-pub record Summed (text kinds : List ℕ) (rows at seen : ℕ) : Type 0 where
-  pub expected : List Expect
-  pub lines : List Lined
-  pub left : LinesLeft text at lines
-  pub paired : length expected ≡ length lines
-  pub kept : take (length lines) (drop seen kinds) ≡ kindsFrom expected lines
-  pub total : rows + sumRows lineRows expected lines ≡ rowCount (textRows text)
-  pub few : rows ≤ 3 * at
-  pub short : length text ≤ 32768
+module _ (f : ℕ → ℕ) (count line : ℕ) where
+  -- none is left
+  pub all-none : count ≤ line → allLines f (count - line) line ≡ 0
+  unfolding allLines
+  all-none h = let e : count - line ≡ 0 = omega arith in ap (λ (n : ℕ). allLines f n line) e
 
-module _ (text kinds : List ℕ) where
-  pub summed-nothing : Outlined text kinds → Summed text kinds 0 0 0
-  unfolding kindsOf
-  summed-nothing o =
-      let (short, left) = start-left text (o .of-grammar) in
-      record {
-        expected = expectations outset (textLines text);
-        lines = textLines text;
-        left = left;
-        paired = all-expected text (o .of-grammar);
-        kept = o .held;
-        total = omega (arith, rows-counted text (o .of-grammar));
-        few = omega arith;
-        short = short;
-      }
+  pub each-none : count ≤ line → eachLine f (count - line) line ≡ []
+  unfolding eachLine
+  each-none h = let e : count - line ≡ 0 = omega arith in ap (λ (n : ℕ). eachLine f n line) e
 
-  -- no line is left
-  pub summed-all : (rows at seen : ℕ) → Summed text kinds rows at seen → length text ≤ at → rows ≡ rowCount (textRows text)
-  unfolding sumRows
-  summed-all rows at seen h k = go (h .expected) (h .lines) (h .left) (h .total)
-    where
-      go : (es : List Expect) (ls : List Lined) → LinesLeft text at ls → rows + sumRows lineRows es ls ≡ rowCount (textRows text) → rows ≡ rowCount (textRows text)
-      go [] [] l t = omega (arith, t)
-      go (e ∷ es) [] l t = omega (arith, t)
-      go es (lined i x ∷ ls) l t = absurd (omega (arith, k, left-step text at i x ls l .0))
+  -- one more
+  pub all-next : line < count → allLines f (count - line) line ≡ f line + allLines f (count - (line + 1)) (line + 1)
+  unfolding allLines
+  all-next h = ap (λ (n : ℕ). allLines f n line) (one-left count line h) ∙ ap (λ (i : ℕ). f line + allLines f (count - (line + 1)) i) (sym (add-one line))
 
-  -- a line more
-  pub record Step (rows at seen : ℕ) (n : Line) : Type 0 where
-    pub room : seen < length kinds
-    pub inside : Inside text at n
-    pub brief : length (bodyIn text n) ≡ n .to - n .from
-    pub summed : Summed text kinds (rows + declarationRows (getD kinds seen 0) + rowsByKind (getD kinds seen 0) (chunksOf (bodyIn text n))) (n .next) (seen + 1)
+  pub each-next : line < count → eachLine f (count - line) line ≡ f line ∷ eachLine f (count - (line + 1)) (line + 1)
+  unfolding eachLine
+  each-next h = ap (λ (n : ℕ). eachLine f n line) (one-left count line h) ∙ ap (λ (i : ℕ). f line ∷ eachLine f (count - (line + 1)) i) (sym (add-one line))
 
-  module _ (rows at seen : ℕ) (n : Line) where
-    -- the line at a place, of this kind
-    line-summed : (e : Expect) (l : ℕ) (x : OutlineLine) (es : List Expect) (ls : List Lined) → LineIs text at n l x → LinesLeft text (n .next) ls → length es ≡ length ls
-        → take (suc (length ls)) (drop seen kinds) ≡ kindNumber e (classOf x) ∷ kindsFrom es ls → rows + (lineRows e x + sumRows lineRows es ls) ≡ rowCount (textRows text)
-        → rows ≤ 3 * at → length text ≤ 32768 → Step rows at seen n
-    line-summed e l x es ls is left p kept t few short =
-        let kind = kindNumber e (classOf x) in
-        let body = bodyIn text n in
-        let (a, b, c) = first-taken seen kinds (length ls) kind (kindsFrom es ls) kept in
-        let (u, v) = kind-rows e x body (is .spelt) in
-        let d = ap (λ (k : ℕ). declarationRows k) b in
-        let r = ap (λ (k : ℕ). rowsByKind k (chunksOf body)) b in
-        let i = is .inside in
-        let s : suc seen ≡ seen + 1 = omega arith in
-        let z : length body ≡ n .to - n .from =
-        length-take-le (n .to - n .from) (drop (n .from) text) (omega (arith, length-drop (n .from) text, i .wide, i .ends, i .within)) in
+-- Where the loops stand -------------------------------------------------------------------------------------------------------------
+
+-- how many tokens stand from a place to a place
+pub sorts-length : (sorts : List ℕ) (first end : ℕ) → first ≤ end → end ≤ length sorts → length (part sorts first end) ≡ end - first
+sorts-length sorts first end h k = length-take-le (end - first) (drop first sorts) (omega (arith, length-drop first sorts))
+
+-- the tokens of a line begin at a place
+pub record Stands (count : ℕ) (ends sorts : List ℕ) (line first : ℕ) : Type 0 where
+  pub begins : first ≡ startOf ends line
+  pub within : first ≤ length sorts
+  pub inside : line ≤ count
+
+module _ (count : ℕ) (kinds ends sorts : List ℕ) (spans : Spans count kinds ends sorts) where
+  pub stands-first : Stands count ends sorts 0 0
+  unfolding startOf
+  stands-first = record { begins = refl; within = omega arith; inside = omega arith }
+
+  module _ (line first : ℕ) (h : Stands count ends sorts line first) (more : line < count) where
+    -- the tokens of a line
+    pub record Line : Type 0 where
+      pub kind-there : line < length kinds
+      pub end-there : line < length ends
+      pub wide : first ≤ getD ends line 0
+      pub ends-within : getD ends line 0 ≤ length sorts
+      pub next : Stands count ends sorts (line + 1) (getD ends line 0)
+
+    pub the-line : Line
+    unfolding startOf
+    the-line =
+        let (a, b) = spans .span line more in
+        let e = h .begins in
         record {
-          room = a;
-          inside = i;
-          brief = z;
-          summed = record {
-            expected = es;
-            lines = ls;
-            left = left;
-            paired = p;
-            kept = subst (λ (j : ℕ). take (length ls) (drop j kinds) ≡ kindsFrom es ls) s c;
-            total = omega (arith, t, u, v, d, r);
-            few = omega (arith, few, declaration-few (getD kinds seen 0), line-few (getD kinds seen 0) body, z, i .begins, i .wide, is .feeds);
-            short = short;
-          };
+          kind-there = omega (arith, spans .kinds-long);
+          end-there = omega (arith, spans .ends-long);
+          wide = omega (arith, a, e);
+          ends-within = b;
+          next = record { begins = sym (ap (startOf ends) (add-one line)); within = b; inside = omega arith };
         }
 
-    pub summed-next : Summed text kinds rows at seen → at < length text → n ≡ lineIn text at → Step rows at seen n
-    unfolding sumRows kindsFrom
-    summed-next h k is = go (h .expected) (h .lines) (h .left) (h .paired) (h .kept) (h .total)
-      where
-        go : (es : List Expect) (ls : List Lined) → LinesLeft text at ls → length es ≡ length ls → take (length ls) (drop seen kinds) ≡ kindsFrom es ls
-            → rows + sumRows lineRows es ls ≡ rowCount (textRows text) → Step rows at seen n
-        go es [] l p q t = absurd (left-more text at k l)
-        go [] (y ∷ ls) l p q t = absurd (omega (arith, p))
-        go (e ∷ es) (lined i x ∷ ls) l p q t =
-            let (_, told, rest) = left-step text at i x ls l in
-            line-summed e i x es ls (subst (λ (m : Line). LineIs text at m i x) (sym is) told) (subst (λ (m : Line). LinesLeft text (m .next) ls) (sym is) rest) (omega (arith, p)) q t (h .few) (h .short)
+-- Sums ------------------------------------------------------------------------------------------------------------------------------
+
+-- the rows of the lines before a line
+pub record Summed (count : ℕ) (kinds ends sorts : List ℕ) (rows line first : ℕ) : Type 0 where
+  pub stands : Stands count ends sorts line first
+  pub total : rows + allLines (rowsOn kinds ends sorts) (count - line) line ≡ rowsListed count kinds ends sorts
+  pub few : rows ≤ 2 * line + 2 * first
+
+module _ (count : ℕ) (kinds ends sorts : List ℕ) (spans : Spans count kinds ends sorts) where
+  pub summed-nothing : Summed count kinds ends sorts 0 0 0
+  unfolding rowsListed
+  summed-nothing =
+      let e : count - 0 ≡ count = omega arith in
+      record { stands = stands-first count kinds ends sorts spans; total = omega (arith, ap (λ (n : ℕ). allLines (rowsOn kinds ends sorts) n 0) e); few = omega arith }
+
+  module _ (rows line first : ℕ) (h : Summed count kinds ends sorts rows line first) where
+    -- no line is left
+    pub summed-all : count ≤ line → rows ≡ rowsListed count kinds ends sorts
+    summed-all k = omega (arith, all-none (rowsOn kinds ends sorts) count line k, h .total)
+
+    -- a line more
+    pub summed-next : line < count
+        → Summed count kinds ends sorts (rows + declarationRows (getD kinds line 0) + rowsByKind (getD kinds line 0) (part sorts first (getD ends line 0))) (line + 1) (getD ends line 0)
+    summed-next more =
+        let kind = getD kinds line 0 in
+        let end = getD ends line 0 in
+        let x = the-line count kinds ends sorts spans line first (h .stands) more in
+        let e : part sorts first end ≡ sortsOn ends sorts line = ap (λ (i : ℕ). part sorts i end) (h .stands .begins) in
+        let r : rowsByKind kind (part sorts first end) ≡ ownOn kinds ends sorts line = ap (rowsByKind kind) e in
+        let z = sorts-length sorts first end (x .wide) (x .ends-within) in
+        record {
+          stands = x .next;
+          total = omega (arith, all-next (rowsOn kinds ends sorts) count line more, h .total, r);
+          few = omega (arith, h .few, declaration-few kind, line-few kind (part sorts first end), z, x .wide);
+        }
+
+-- Own rows --------------------------------------------------------------------------------------------------------------------------
+
+-- the rows of each line before a line are noted
+pub record Noted (count : ℕ) (kinds ends sorts owns₀ owns : List ℕ) (line first : ℕ) : Type 0 where
+  pub stands : Stands count ends sorts line first
+  pub noted : sets owns line (eachLine (ownOn kinds ends sorts) (count - line) line) ≡ sets owns₀ 0 (ownsListed count kinds ends sorts)
+
+module _ (count : ℕ) (kinds ends sorts owns₀ : List ℕ) (spans : Spans count kinds ends sorts) where
+  pub noted-nothing : Noted count kinds ends sorts owns₀ owns₀ 0 0
+  unfolding ownsListed
+  noted-nothing =
+      let e : count - 0 ≡ count = omega arith in
+      record { stands = stands-first count kinds ends sorts spans; noted = ap (λ (n : ℕ). sets owns₀ 0 (eachLine (ownOn kinds ends sorts) n 0)) e }
+
+  module _ (owns : List ℕ) (line first : ℕ) (h : Noted count kinds ends sorts owns₀ owns line first) where
+    -- no line is left
+    pub noted-all : count ≤ line → owns ≡ sets owns₀ 0 (ownsListed count kinds ends sorts)
+    noted-all k = sym (ap (sets owns line) (each-none (ownOn kinds ends sorts) count line k)) ∙ h .noted
+
+    -- a line more
+    pub noted-next : line < count
+        → Noted count kinds ends sorts owns₀ (set owns line (rowsByKind (getD kinds line 0) (part sorts first (getD ends line 0)))) (line + 1) (getD ends line 0)
+    noted-next more =
+        let kind = getD kinds line 0 in
+        let end = getD ends line 0 in
+        let f = ownOn kinds ends sorts in
+        let x = the-line count kinds ends sorts spans line first (h .stands) more in
+        let e : part sorts first end ≡ sortsOn ends sorts line = ap (λ (i : ℕ). part sorts i end) (h .stands .begins) in
+        record {
+          stands = x .next;
+          noted = ap₂ (λ (ss : List ℕ) (i : ℕ). sets (set owns line (rowsByKind kind ss)) i (eachLine f (count - (line + 1)) (line + 1))) e (add-one line)
+              ∙ sym (ap (sets owns line) (each-next f count line more))
+              ∙ h .noted;
+        }

@@ -4,3 +4,4 @@ pub mod TokenSums
 pub mod TokenSteps
 pub mod KindRows
 pub mod CountSteps
+pub mod ListedLaws

@@ -2,61 +2,60 @@
 use mathlib.Core.Path.{_≡_, refl, sym, ap, _∙_}
 use mathlib.Core.Bool.{false, false≢true}
 use mathlib.Core.List.{List, [], _∷_, _++_, map, map-append}
-use mathlib.Core.Option.{Option, some}
 use Prim.Native.Nat.{ℕ, suc, _+_}
 use native.Mathlib.Omega.{arith}
 use Rattle.grammar.specs.Grammar.{Link, both, either, Token, name, joins, round-open, round-close, square-open, square-close, mark, becomes, asks, tells, ampersand, a-skip, Syn, Before, minus-before, not-before, Between, minus-between, arith-between, Element, alone, subscripted, element, numeral, bracketed, Phrase, plain, prefixed, asked, paired, chained, last-operand, more}
 use Rattle.grammar.specs.Outline.{OutlineLine, isDeclaration}
 use Rattle.grammar.specs.Lines.{Spells, declares, word, repeats, assigns, inputs, outputs, tests, guards, allows, skips, stops, seqs, pars, chooses, selects}
-use Rattle.read_classes.specs.Parts.{sortOf}
+use Rattle.read_tokens.specs.Held.{tokenSort}
 use Rattle.read_counts.specs.OwnRows.{synRows, partRows}
-use Rattle.read_counts.specs.TokenRows.{sortRows, sortLess, fullRows, lessRows, PhraseRows, LineTokens}
+use Rattle.read_counts.specs.TokenRows.{sortRows, sortLess, fullRows, lessRows, LineTokens}
 
-full-append : (os ps : List (Option Token)) → fullRows (os ++ ps) ≡ fullRows os + fullRows ps
+full-append : (ss rs : List ℕ) → fullRows (ss ++ rs) ≡ fullRows ss + fullRows rs
 unfolding fullRows
-full-append [] ps = omega arith
-full-append (o ∷ os) ps = let h = full-append os ps in omega (arith, h)
+full-append [] rs = omega arith
+full-append (s ∷ ss) rs = let h = full-append ss rs in omega (arith, h)
 
-less-append : (os ps : List (Option Token)) → lessRows (os ++ ps) ≡ lessRows os + lessRows ps
+less-append : (ss rs : List ℕ) → lessRows (ss ++ rs) ≡ lessRows ss + lessRows rs
 unfolding lessRows
-less-append [] ps = omega arith
-less-append (o ∷ os) ps = let h = less-append os ps in omega (arith, h)
+less-append [] rs = omega arith
+less-append (s ∷ ss) rs = let h = less-append ss rs in omega (arith, h)
 
 -- the rows that tokens add, and those that they take away
 abbrev added : List Token → ℕ
-added ts = fullRows (map some ts)
+added ts = fullRows (map tokenSort ts)
 
 abbrev taken : List Token → ℕ
-taken ts = lessRows (map some ts)
+taken ts = lessRows (map tokenSort ts)
 
 added-append : (ts us : List Token) → added (ts ++ us) ≡ added ts + added us
-added-append ts us = ap fullRows (map-append some ts us) ∙ full-append (map some ts) (map some us)
+added-append ts us = ap fullRows (map-append tokenSort ts us) ∙ full-append (map tokenSort ts) (map tokenSort us)
 
 taken-append : (ts us : List Token) → taken (ts ++ us) ≡ taken ts + taken us
-taken-append ts us = ap lessRows (map-append some ts us) ∙ less-append (map some ts) (map some us)
+taken-append ts us = ap lessRows (map-append tokenSort ts us) ∙ less-append (map tokenSort ts) (map tokenSort us)
 
 -- tokens that make some rows
 abbrev Makes : List Token → ℕ → Type 0
 Makes ts n = added ts ≡ n + taken ts
 
 -- tokens around a token
-joined : (ts : List Token) (t : Token) (us : List Token) (n m : ℕ) → sortLess (sortOf (some t)) ≡ 0 → Makes ts n → Makes us m → Makes (ts ++ (t ∷ us)) (n + (sortRows (sortOf (some t)) + m))
+joined : (ts : List Token) (t : Token) (us : List Token) (n m : ℕ) → sortLess (tokenSort t) ≡ 0 → Makes ts n → Makes us m → Makes (ts ++ (t ∷ us)) (n + (sortRows (tokenSort t) + m))
 unfolding fullRows lessRows
 joined ts t us n m z p q = let a = added-append ts (t ∷ us) in let b = taken-append ts (t ∷ us) in omega (arith, z, p, q, a, b)
 
-closed : (ts : List Token) (t : Token) (n : ℕ) → sortRows (sortOf (some t)) ≡ 0 → sortLess (sortOf (some t)) ≡ 0 → Makes ts n → Makes (ts ++ (t ∷ [])) n
+closed : (ts : List Token) (t : Token) (n : ℕ) → sortRows (tokenSort t) ≡ 0 → sortLess (tokenSort t) ≡ 0 → Makes ts n → Makes (ts ++ (t ∷ [])) n
 unfolding fullRows lessRows
 closed ts t n y z p = let a = added-append ts (t ∷ []) in let b = taken-append ts (t ∷ []) in omega (arith, y, z, p, a, b)
 
-link-row : (l : Link) → (sortRows (sortOf (some (joins l))) ≡ 1) × (sortLess (sortOf (some (joins l))) ≡ 0)
+link-row : (l : Link) → (sortRows (tokenSort (joins l)) ≡ 1) × (sortLess (tokenSort (joins l)) ≡ 0)
 link-row both = (refl, refl)
 link-row either = (refl, refl)
 
-before-row : {t : Token} {k : ℕ} → Before t k → (sortRows (sortOf (some t)) ≡ 1) × (sortLess (sortOf (some t)) ≡ 0)
+before-row : {t : Token} {k : ℕ} → Before t k → (sortRows (tokenSort t) ≡ 1) × (sortLess (tokenSort t) ≡ 0)
 before-row minus-before = (refl, refl)
 before-row not-before = (refl, refl)
 
-between-row : {t : Token} {k : ℕ} → Between t k → (sortRows (sortOf (some t)) ≡ 1) × (sortLess (sortOf (some t)) ≡ 0)
+between-row : {t : Token} {k : ℕ} → Between t k → (sortRows (tokenSort t) ≡ 1) × (sortLess (tokenSort t) ≡ 0)
 between-row minus-between = (refl, refl)
 between-row arith-between = (refl, refl)
 
@@ -76,7 +75,7 @@ unfolding fullRows lessRows
 prefix-makes t k ts e b h = let (y, z) = before-row b in omega (arith, y, z, h)
 
 -- around an operator that makes a row
-pair-makes : (t : Token) (ts us : List Token) (e f : Syn) → (sortRows (sortOf (some t)) ≡ 1) × (sortLess (sortOf (some t)) ≡ 0) → Makes ts (synRows e) → Makes us (synRows f)
+pair-makes : (t : Token) (ts us : List Token) (e f : Syn) → (sortRows (tokenSort t) ≡ 1) × (sortLess (tokenSort t) ≡ 0) → Makes ts (synRows e) → Makes us (synRows f)
     → Makes (ts ++ (t ∷ us)) (suc (synRows e + synRows f))
 pair-makes t ts us e f (y, z) p q = let i = joined ts t us (synRows e) (synRows f) z p q in omega (arith, i, y)
 
@@ -100,9 +99,6 @@ phrase-makes p = elim p as (λ ts e q. Makes ts (synRows e)) (λ ts e q. Makes t
 element-makes : {ts : List Token} {e : Syn} → Element ts e → Makes ts (synRows e)
 unfolding fullRows lessRows
 element-makes p = let h = phrase-makes (asked p) in omega (arith, h)
-
-pub phrase-rows : PhraseRows
-phrase-rows ts e p = let h = phrase-makes p in omega (arith, h)
 
 -- a line that is no declaration
 line-makes : {ts : List Token} {x : OutlineLine} → Spells ts x → isDeclaration x ≡ false → Makes ts (partRows x)

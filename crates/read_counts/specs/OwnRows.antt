@@ -78,6 +78,16 @@ sumRows f [] ls = 0
 sumRows f (e ∷ es) [] = 0
 sumRows f (e ∷ es) (lined l x ∷ ls) = let rest = sumRows f es ls in f e x + rest
 
+-- the rows that each line itself makes
+unfoldable pub ownsFrom : List Expect → List Lined → List ℕ
+ownsFrom [] ls = []
+ownsFrom (e ∷ es) [] = []
+ownsFrom (e ∷ es) (lined l x ∷ ls) = ownRows e x ∷ ownsFrom es ls
+
+-- of the lines of a text
+abbrev pub ownsOf : List Lined → List ℕ
+ownsOf ls = ownsFrom (expectations outset ls) ls
+
 -- What is claimed -------------------------------------------------------------------------------------------------------------------
 
 -- an expression's form has its rows

@@ -1,21 +1,20 @@
--- How many rows a line makes, told from its tokens and its kind.
+-- How many rows a line makes, told from its kind and the sorts of its tokens.
 use mathlib.Core.Path.{_≡_}
 use mathlib.Core.Bool.{Bool, false, _&&_, _||_}
 use mathlib.Core.List.{List, [], _∷_, map}
-use mathlib.Core.Option.{Option, some}
+use mathlib.Core.Option.{some}
 use Prim.Native.Nat.{ℕ, _+_, _-_, _/_, _%_}
 use lib.Dec.{eqb, leb}
 use Rattle.meaning.specs.Basics.{ifElse}
-use Rattle.grammar.specs.Grammar.{Token, Syn, Phrase}
+use Rattle.grammar.specs.Grammar.{Token}
 use Rattle.grammar.specs.Outline.{OutlineLine, Expect, nothing, one-process, heads, isDeclaration}
-use Rattle.grammar.specs.Lines.{Spells}
+use Rattle.grammar.specs.Lines.{Spells, lineSpelt}
 use Rattle.grammar.specs.Classes.{other-declaration, classOf}
 use Rattle.read_tokens.specs.Sorts as sorts
+use Rattle.read_tokens.specs.Held.{tokenSort}
 use Rattle.read_classes.specs.ClassNumbers.{numberOf}
-use Rattle.read_classes.specs.Parts.{chunksOf, sortOf}
-use Rattle.read_classes.specs.LineClasses.{lineOf}
 use Rattle.read_levels.specs.Kinds.{expectNumber, kindNumber}
-use Rattle.read_counts.specs.OwnRows.{synRows, listedRows, ownRows}
+use Rattle.read_counts.specs.OwnRows.{listedRows, ownRows}
 
 -- Tokens ----------------------------------------------------------------------------------------------------------------------------
 
@@ -29,26 +28,22 @@ sortRows s =
 abbrev pub sortLess : ℕ → ℕ
 sortLess s = ifElse (eqb s sorts.squareOpen) 1 0
 
--- the rows that some chunks add, and those that they take away
-unfoldable pub fullRows : List (Option Token) → ℕ
+-- the rows that tokens of some sorts add, and those that they take away
+unfoldable pub fullRows : List ℕ → ℕ
 fullRows [] = 0
-fullRows (o ∷ os) = let rest = fullRows os in sortRows (sortOf o) + rest
+fullRows (s ∷ ss) = let rest = fullRows ss in sortRows s + rest
 
-unfoldable pub lessRows : List (Option Token) → ℕ
+unfoldable pub lessRows : List ℕ → ℕ
 lessRows [] = 0
-lessRows (o ∷ os) = let rest = lessRows os in sortLess (sortOf o) + rest
+lessRows (s ∷ ss) = let rest = lessRows ss in sortLess s + rest
 
--- the rows of some chunks
-abbrev pub chunkRows : List (Option Token) → ℕ
-chunkRows os = fullRows os - lessRows os
+-- the rows of tokens of some sorts
+abbrev pub rowsBySorts : List ℕ → ℕ
+rowsBySorts ss = fullRows ss - lessRows ss
 
 -- the rows of some tokens
 abbrev pub tokenRows : List Token → ℕ
-tokenRows ts = chunkRows (map some ts)
-
--- an expression's tokens tell its rows
-abbrev pub PhraseRows : Type 0
-PhraseRows = (ts : List Token) (e : Syn) → Phrase ts e → tokenRows ts ≡ synRows e
+tokenRows ts = rowsBySorts (map tokenSort ts)
 
 -- so do a line's, unless it is a declaration
 abbrev pub LineTokens : Type 0
@@ -68,15 +63,15 @@ listedAt e = ifElse (eqb e (expectNumber nothing) || (eqb e (expectNumber one-pr
 abbrev pub blockAt : ℕ → ℕ
 blockAt e = ifElse (eqb e (expectNumber heads)) 0 1
 
--- the rows that a line itself makes, by its kind and chunks
-unfoldable pub rowsByKind : ℕ → List (Option Token) → ℕ
-rowsByKind kind os = ifElse (declaredAt kind) (blockAt (kind / 16)) (listedAt (kind / 16) + chunkRows os)
+-- the rows that a line itself makes, by its kind and the sorts of its tokens
+unfoldable pub rowsByKind : ℕ → List ℕ → ℕ
+rowsByKind kind ss = ifElse (declaredAt kind) (blockAt (kind / 16)) (listedAt (kind / 16) + rowsBySorts ss)
 
 -- the row of its declaration
 abbrev pub declarationRows : ℕ → ℕ
 declarationRows kind = ifElse (declaredAt kind) 1 0
 
--- kind and chunks tell the rows of a line of the grammar
+-- kind and sorts tell the rows of a line of the grammar
 abbrev pub KindRows : Type 0
-KindRows = (e : Expect) (x : OutlineLine) (body : List ℕ) → lineOf body ≡ some x
-    → (rowsByKind (kindNumber e (classOf x)) (chunksOf body) ≡ ownRows e x) × (declarationRows (kindNumber e (classOf x)) ≡ ifElse (isDeclaration x) 1 0)
+KindRows = (e : Expect) (x : OutlineLine) (ts : List Token) → lineSpelt ts ≡ some x
+    → (rowsByKind (kindNumber e (classOf x)) (map tokenSort ts) ≡ ownRows e x) × (declarationRows (kindNumber e (classOf x)) ≡ ifElse (isDeclaration x) 1 0)

@@ -1,12 +1,10 @@
-// How many rows a text makes, told from its tokens.
+// How many rows the lines of a text make, told from their kinds and the sorts of their tokens.
 ghost use mathlib.Core.Path.{_≡_};
 ghost use Prim.Native.Nat.{_-_, _≤_};
 ghost use lib.ListN.{length};
-ghost use Rattle.meaning.specs.Rows.{rowCount};
-ghost use Rattle.grammar.specs.TextRows.{textRows};
-ghost use Rattle.read_classes.specs.Parts.{chunksOf};
-ghost use Rattle.read_levels.specs.Kinds.{Outlined};
-ghost use Rattle.read_counts.specs.TokenRows.{sortRows, sortLess, chunkRows, listedAt, blockAt, declarationRows, rowsByKind};
+ghost use lib.Seq.{sets};
+ghost use Rattle.read_counts.specs.TokenRows.{sortRows, sortLess, rowsBySorts, listedAt, blockAt, declarationRows, rowsByKind};
+ghost use Rattle.read_counts.specs.ListedRows.{Spans, rowsListed, ownsListed};
 use read_classes::classes;
 use read_tokens::sorts;
 
@@ -53,21 +51,17 @@ fn difference(rows: u32, less: u32) -> u32
 }
 
 // The rows of the tokens of a line.
-fn token_rows(body: &[u8]) -> u32
-    requires { ⌜ length (now body) ≤ 32768 ⌝ }
-    ensures { λ r. ⌜ r ≡ chunkRows (chunksOf (now (body .entry))) ⌝ }
+fn token_rows(sorts: &[u8]) -> u32
+    requires { ⌜ length (now sorts) ≤ 32768 ⌝ }
+    ensures { λ r. ⌜ r ≡ rowsBySorts (now (sorts .entry)) ⌝ }
 {
     let mut rows: u32 = 0;
     let mut less: u32 = 0;
     let mut at: usize = 0;
-    while at < body.len() {
-        let next = read_scan::next_token(body, at);
-        if next.from == next.to {
-            return difference(rows, less);
-        }
-        rows += sort_rows(next.sort);
-        less += sort_less(next.sort);
-        at = next.to;
+    while at < sorts.len() {
+        rows += sort_rows(sorts[at]);
+        less += sort_less(sorts[at]);
+        at += 1;
     }
     difference(rows, less)
 }
@@ -104,35 +98,48 @@ fn declaration_rows(kind: u8) -> u32
     0
 }
 
-// The rows that a line makes in the tree of processes, by its kind and its bytes after the indentation and without its line feed.
-pub fn line_rows(kind: u8, body: &[u8]) -> u32
-    requires { ⌜ length (now body) ≤ 32768 ⌝ }
-    ensures { λ r. ⌜ r ≡ rowsByKind kind (chunksOf (now (body .entry))) ⌝ }
+// The rows that a line makes in the tree of processes, by its kind and the sorts of its tokens.
+pub fn line_rows(kind: u8, sorts: &[u8]) -> u32
+    requires { ⌜ length (now sorts) ≤ 32768 ⌝ }
+    ensures { λ r. ⌜ r ≡ rowsByKind kind (now (sorts .entry)) ⌝ }
 {
     let expected = kind / 16;
     if kind % 16 <= classes::OTHER_DECLARATION {
         return block_rows(expected);
     }
-    listed_rows(expected) + token_rows(body)
+    listed_rows(expected) + token_rows(sorts)
 }
 
-// The rows of a text of the grammar, from its bytes and the kinds of its lines.
-pub fn count_rows(text: &[u8], kinds: &[u8]) -> u32
-    requires { ⌜ Outlined (now text) (now kinds) ⌝ }
-    ensures { λ r. ⌜ r ≡ rowCount (textRows (now (text .entry))) ⌝ }
+// The rows of all lines, with those of declarations.
+pub fn count_rows(kinds: &[u8], count: usize, ends: &[u16], sorts: &[u8]) -> u32
+    requires { ⌜ Spans count (now kinds) (now ends) (now sorts) ⌝ }
+    ensures { λ r. ⌜ r ≡ rowsListed count (now (kinds .entry)) (now (ends .entry)) (now (sorts .entry)) ⌝ }
 {
     let mut rows: u32 = 0;
-    let mut at: usize = 0;
-    let mut seen: usize = 0;
-    while at < text.len() {
-        let line = read_lines::line_at(text, at);
-        let kind = kinds[seen];
-        let from = line.from;
-        let to = line.to;
+    let mut line: usize = 0;
+    let mut first: usize = 0;
+    while line < count {
+        let kind = kinds[line];
+        let end = ends[line] as usize;
         rows += declaration_rows(kind);
-        rows += line_rows(kind, &text[from..to]);
-        at = line.next;
-        seen += 1;
+        rows += line_rows(kind, &sorts[first..end]);
+        first = end;
+        line += 1;
     }
     rows
+}
+
+// The rows that each line makes in the tree of processes.
+pub fn own_rows(kinds: &[u8], count: usize, ends: &[u16], sorts: &[u8], owns: &mut [usize; 1024])
+    requires { ⌜ Spans count (now kinds) (now ends) (now sorts) × (count ≤ 1024) ⌝ }
+    ensures { λ _. ⌜ now (owns .exit) ≡ sets (now (owns .entry)) 0 (ownsListed count (now (kinds .entry)) (now (ends .entry)) (now (sorts .entry))) ⌝ }
+{
+    let mut line: usize = 0;
+    let mut first: usize = 0;
+    while line < count {
+        let end = ends[line] as usize;
+        owns[line] = line_rows(kinds[line], &sorts[first..end]) as usize;
+        first = end;
+        line += 1;
+    }
 }

@@ -1,110 +1,60 @@
--- The search for the first token of a sort, token by token.
+-- The first token of a sort, token by token.
 use mathlib.Core.Path.{_≡_, refl, sym, ap, subst, _∙_}
 use mathlib.Core.Bool.{Bool}
-use mathlib.Core.List.{List, [], _∷_}
-use mathlib.Core.Option.{Option, none, Option·none-ne-some}
-use Prim.Native.Nat.{ℕ, _≤_, _<_}
+use mathlib.Core.List.{List}
+use Prim.Native.Nat.{ℕ, suc, _+_, _≤_, _<_}
 use native.Mathlib.Omega.{arith}
-use lib.IntN.{pos}
-use lib.ListN.{length, drop-of-length-le}
-use lib.Dec.{eqb}
-use borrow.Author.Tests.{eq-eqb, ne-eqb}
+use native.Mathlib.Numerals.{add-one}
+use lib.IntN.{ℤ, pos, natAbs}
+use lib.Signed.{nonNeg}
+use lib.ListN.{length, getD, drop, drop-of-length-le}
+use lib.Seq.{drop-cons}
+use lib.Dec.{T, eqb, ltb}
+use mir.Syntax.{w32, w64}
+use mir.Val.{Fits, SFits, toZ, ofZ}
+use mir.ValLaws.{toZ-ofZ}
+use borrow.Author.Tests.{eq-eqb, ne-eqb, lt-ltb, le-ltb}
 use Rattle.meaning.specs.Basics.{ifElse}
-use Rattle.grammar.specs.Grammar.{Token, name}
-use Rattle.grammar.specs.Scan.{items}
 use Rattle.read_tokens.specs.Sorts as sorts
-use Rattle.read_tokens.specs.Lexemes.{lexemeOf}
-use Rattle.read_tokens.specs.declared.Lexeme.{Lexeme}
-use Rattle.read_scan.specs.declared.Next.{Next}
-use Rattle.read_scan.specs.Nexts.{nextIn, tokenList, listFrom, NextIs}
-use Rattle.read_scan.proofs.NextLaws.{list-step, list-end, list-ends}
-use Rattle.read_scan.proofs.PlaceSteps.{sort-of-none, sort-of-some}
-use Rattle.read_classes.specs.Parts.{chunksOf, sortOf}
-use Rattle.read_declared.specs.Firsts.{firstOf, FirstIs, numberIn}
-use Rattle.read_declared.proofs.NameParts.{name-part}
+use Rattle.read_declared.specs.Firsts.{placeOfSort, numberIn}
 
--- no token at a place
-abbrev pub nothingAt : ℕ → Next
-nothingAt at = record { sort = sorts.noToken; value = pos 0; from = at; to = at }
+module _ (s : ℕ) (ss : List ℕ) (at : ℕ) where
+  -- no token is left
+  pub place-end : length ss ≤ at → placeOfSort s (drop at ss) ≡ 0
+  unfolding placeOfSort
+  place-end h = ap (placeOfSort s) (drop-of-length-le ss h)
 
--- the first chunk of the sort is still to come
-pub record Ahead (line : List ℕ) (s at : ℕ) : Type 0 where
-  pub inside : at ≤ length line
-  pub same-first : firstOf s (listFrom line at) ≡ firstOf s (chunksOf line)
+  module _ (h : at < length ss) where
+    place-next : placeOfSort s (drop at ss) ≡ ifElse (eqb (getD ss at 0) s) 0 (suc (placeOfSort s (drop (suc at) ss)))
+    unfolding placeOfSort
+    place-next = ap (placeOfSort s) (drop-cons ss at 0 h)
 
-module _ (line : List ℕ) (s : ℕ) where
-  -- none is left
-  absent : (at : ℕ) → at ≤ length line → none ≡ firstOf s (chunksOf line) → FirstIs line (firstOf s (chunksOf line)) (nothingAt at)
-  absent at h e = subst (λ (o : Option Token). FirstIs line o (nothingAt at)) e (record {
-    lexeme = refl;
-    letters = λ b q. absurd (Option·none-ne-some (name b) q);
-    wide = omega arith;
-    within = h;
-  })
+    -- the next is of the sort
+    pub place-here : getD ss at 0 ≡ s → placeOfSort s (drop at ss) ≡ 0
+    place-here e = place-next ∙ ap (λ (b : Bool). ifElse b 0 (suc (placeOfSort s (drop (suc at) ss)))) (eq-eqb (getD ss at 0) s e)
 
-  module _ (at : ℕ) (a : Ahead line s at) where
-    -- the end
-    pub first-absent : length line ≤ at → FirstIs line (firstOf s (chunksOf line)) (nothingAt at)
-    unfolding firstOf tokenList items
-    first-absent h = absent at (a .inside) (sym (ap (λ (bs : List ℕ). firstOf s (chunksOf bs)) (drop-of-length-le line h)) ∙ a .same-first)
+    -- it is not
+    pub place-later : (getD ss at 0 ≡ s → ⊥) → placeOfSort s (drop at ss) ≡ suc (placeOfSort s (drop (at + 1) ss))
+    place-later e =
+        place-next
+        ∙ ap (λ (b : Bool). ifElse b 0 (suc (placeOfSort s (drop (suc at) ss)))) (ne-eqb (getD ss at 0) s e)
+        ∙ ap (λ (n : ℕ). suc (placeOfSort s (drop n ss))) (sym (add-one at))
 
-    module _ (n : Next) (is : n ≡ nextIn line at) where
-      -- only spaces are left
-      pub first-absent-in-spaces : n .from ≡ n .to → FirstIs line (firstOf s (chunksOf line)) (nothingAt at)
-      unfolding firstOf
-      first-absent-in-spaces e = absent at (a .inside) (sym (ap (firstOf s) (list-ends line at n is e)) ∙ a .same-first)
-
-      module _ (more : n .from ≡ n .to → ⊥) where
-        -- a chunk is next
-        chunk-next : (o : Option Token) × ((os : List (Option Token)) × (NextIs line at n o × (listFrom line (n .to) ≡ os)) × (ifElse (eqb (sortOf o) s) o (firstOf s os) ≡ firstOf s (chunksOf line)))
-        unfolding firstOf
-        chunk-next = go (listFrom line at) refl
-          where
-            go : (os : List (Option Token)) → listFrom line at ≡ os
-                → (o : Option Token) × ((os : List (Option Token)) × (NextIs line at n o × (listFrom line (n .to) ≡ os)) × (ifElse (eqb (sortOf o) s) o (firstOf s os) ≡ firstOf s (chunksOf line)))
-            go [] e = absurd (more (list-end line at n is e))
-            go (o ∷ os) e = (o, (os, list-step line at n is o os e, sym (ap (firstOf s) e) ∙ a .same-first))
-
-        -- it has the sort
-        pub first-found : n .sort ≡ s → FirstIs line (firstOf s (chunksOf line)) n
-        first-found e =
-            let (o, (os, w, f)) = chunk-next in
-            let (x, l) = w in
-            let g = ap (λ (b : Bool). ifElse b o (firstOf s os)) (sym (eq-eqb (sortOf o) s (sym (x .same-sort) ∙ e))) ∙ f in
-            subst (λ (p : Option Token). FirstIs line p n) g (record {
-              lexeme = x .lexeme;
-              letters = λ b q. name-part line at n is b (subst (λ (p : Option Token). NextIs line at n p) q x);
-              wide = omega (arith, x .wide);
-              within = x .within;
-            })
-
-        -- it has another
-        pub first-later : (n .sort ≡ s → ⊥) → Ahead line s (n .to) × (at < n .to)
-        first-later d =
-            let (o, (os, w, f)) = chunk-next in
-            let (x, l) = w in (
-              record {
-                inside = x .within;
-                same-first = ap (firstOf s) l ∙ ap (λ (b : Bool). ifElse b o (firstOf s os)) (sym (ne-eqb (sortOf o) s (λ q. d (x .same-sort ∙ q)))) ∙ f;
-              },
-              x .later,
-            )
-
--- The number ------------------------------------------------------------------------------------------------------------------------
-
-module _ (line : List ℕ) (n : Next) (x : FirstIs line (firstOf sorts.number (chunksOf line)) n) where
-  abbrev first : Option Token
-  first = firstOf sorts.number (chunksOf line)
-
-  same-sort : n .sort ≡ sortOf first
-  same-sort = ap (λ (l : Lexeme). l .sort) (x .lexeme)
+module _ (ss : List ℕ) (vs : List ℤ) (at : ℕ) (is : at ≡ placeOfSort sorts.number ss) where
+  -- there is a number
+  pub number-there : at < length ss → getD vs at (pos 0) ≡ numberIn ss vs
+  unfolding numberIn
+  number-there h = sym (ap (λ (n : ℕ). ifElse (ltb n (length ss)) (getD vs n (pos 0)) (pos 1)) (sym is) ∙ ap (λ (b : Bool). ifElse b (getD vs at (pos 0)) (pos 1)) (lt-ltb at (length ss) h))
 
   -- there is none
-  pub number-absent : n .sort ≡ sorts.noToken → pos 1 ≡ numberIn (chunksOf line)
-  number-absent e = ap (λ (b : Bool). ifElse b (lexemeOf first .value) (pos 1)) (sym (sort-of-none first (sym same-sort ∙ e)))
+  pub number-absent : length ss ≤ at → pos 1 ≡ numberIn ss vs
+  unfolding numberIn
+  number-absent h = sym (ap (λ (n : ℕ). ifElse (ltb n (length ss)) (getD vs n (pos 0)) (pos 1)) (sym is) ∙ ap (λ (b : Bool). ifElse b (getD vs at (pos 0)) (pos 1)) (le-ltb at (length ss) h))
 
-  -- there is one
-  pub number-there : (n .sort ≡ sorts.noToken → ⊥) → n .value ≡ numberIn (chunksOf line)
-  number-there d =
-      ap (λ (l : Lexeme). l .value) (x .lexeme)
-      ∙ ap (λ (b : Bool). ifElse b (lexemeOf first .value) (pos 1)) (sym (sort-of-some first (λ q. d (same-sort ∙ q))))
+-- a number that is not negative, as a place
+module _ (v : ℤ) (k : ℕ) (f : SFits w32 v) (e : v ≡ pos k) where
+  pub natural-is : natAbs (toZ w32 (ofZ w32 v)) ≡ k
+  natural-is = rw (toZ-ofZ w32 v f, e) refl
+
+  pub natural-cast : T (nonNeg (toZ w32 (ofZ w32 v))) × Fits w64 (natAbs (toZ w32 (ofZ w32 v)))
+  natural-cast = rw (toZ-ofZ w32 v f, e) (tt, record { fits = let g = subst (SFits w32) e f .sfits in omega (arith, g) })

@@ -1,201 +1,251 @@
--- The declarations of a text listed line by line.
-use mathlib.Core.Path.{_≡_, refl, sym, ap, subst, subst₂, _∙_}
-use mathlib.Core.List.{List, [], _∷_, _++_, append-nil, append-assoc}
-use mathlib.Core.Option.{Option, none, some}
-use Prim.Native.Nat.{ℕ, _+_, _-_, _%_, _≤_, _<_}
+-- The declarations of a text listed line by line, and their rows.
+use mathlib.Core.Path.{_≡_, refl, sym, ap, ap₂, subst₂, _∙_}
+use mathlib.Core.List.{List, [], _∷_, _++_, map, flatten, map-append, append-nil}
+use mathlib.Core.Option.{Option}
+use Prim.Native.Nat.{ℕ, _+_, _*_, _/_, _%_, _≤_, _<_}
 use native.Mathlib.Omega.{arith}
 use native.Mathlib.Numerals.{add-one}
-use lib.ListN.{length, getD, set, drop, length-drop}
-use lib.Seq.{length-take-le}
-use Rattle.meaning.specs.Basics.{ifElse, isSome}
-use Rattle.meaning.specs.Lines.{lines}
-use Rattle.grammar.specs.Outline.{Declaration, OutlineLine, declare, lined}
-use Rattle.grammar.specs.Names.{nameOf, declarationIn}
-use Rattle.grammar.specs.TextBytes.{grammarFault}
+use lib.IntN.{ℤ}
+use lib.ListN.{length, getD, set, take, length-append}
+use lib.Seq.{length-take-le, take-length, take-suc-set, sets, length-sets}
+use Rattle.grammar.specs.Outline.{Declaration}
+use Rattle.grammar.specs.Names.{nameOf}
 use Rattle.grammar.specs.TextRows.{ifDeclared, declarations, textLines}
-use Rattle.read_tokens.specs.Sorts as sorts
-use Rattle.read_scan.specs.declared.Next.{Next}
-use Rattle.read_scan.specs.Cuts.{partOf}
-use Rattle.read_classes.specs.Parts.{chunksOf}
-use Rattle.read_classes.specs.LineClasses.{lineOf}
-use Rattle.read_lines.specs.declared.Line.{Line}
-use Rattle.read_lines.specs.LineParts.{lineIn, bodyIn}
-use Rattle.read_lines.proofs.LeftLaws.{no-line, start-left}
-use Rattle.read_levels.specs.Kinds.{Outlined}
-use Rattle.read_names.specs.Listed.{nameAt}
-use Rattle.read_declared.specs.Firsts.{firstOf, FirstIs}
-use Rattle.read_declared.specs.Declarations.{inOrder, declarationOf, declarationAt, startsFrom, startsIn, Lists, lists, Roomy, Gathered}
-use Rattle.read_declared.proofs.HeaderLaws.{declared-name}
-use Rattle.read_declared.proofs.OrderLaws.{in-order, in-order-append, no-more-than-lines}
-use Rattle.read_declared.proofs.KindLaws.{declares-below, declares-not}
-use Rattle.read_declared.proofs.LineSteps.{Reached, reached-start, NextLine, line-small, next-line, reached-end, starts-step}
-use Rattle.read_declared.proofs.ListSteps.{body-part, gathered-nothing, gathered-one}
+use Rattle.read_table.specs.TableRead.{past}
+use Rattle.read_tokens.specs.Held.{part, nameOfRow}
+use Rattle.read_names.specs.Listed.{nameAt, namesAt}
+use Rattle.read_levels.specs.Listing.{Listing, startOf, TextListed, SomeTextListed}
+use Rattle.read_levels.proofs.ListingLaws.{starts, starts-first}
+use Rattle.read_resolved.specs.Resolved.{resolvedToken, declaredNames, TextResolved}
+use Rattle.read_declared.specs.declared.DeclaredRow.{DeclaredRow}
+use Rattle.read_declared.specs.Firsts.{nameIn}
+use Rattle.read_declared.specs.Declarations.{inOrder, rowListed, numbersOf, roleNumber, roleListed, Marked, Listable, GatheredFrom, RoomForRows, RowsPut}
+use Rattle.read_declared.proofs.OrderLaws.{in-order}
+use Rattle.read_declared.proofs.DeclaredLines.{order-more, order-within, DeclaredLine, declared-line, OtherLine, other-line, listed-line}
+use Rattle.read_declared.proofs.RowSteps.{rowsOf, rows-written}
 
--- the lines up to a place are passed, and their declarations listed
-pub record Gathering (text : List ℕ) (lent : Lists) (at line count : ℕ) (l : Lists) : Type 0 where
-  pub reached : Reached text at line
-  pub places : List ℕ
-  pub gathered : Gathered text (inOrder (reached .passed)) places lent count l
-  pub to-come : places ++ startsFrom at (lines (drop at text)) ≡ startsIn text
+-- the declarations up to a line
+abbrev upTo : List ℕ → ℕ → List Declaration
+upTo text line = inOrder (take line (textLines text))
 
--- the places of the next line, and the room for what is listed of it
-pub record AtLine (text kinds : List ℕ) (at line count : ℕ) (l : Lists) (n : Line) : Type 0 where
-  pub in-kinds : line < length kinds
-  pub begins : n .from ≤ n .to
-  pub ends : n .to ≤ length text
-  pub goes-on : at < n .next
-  pub goes-within : n .next ≤ length text
-  pub place-small : at < 32768
-  pub line-small : line < 32768
-  pub count-small : count < 32768
-  pub room : Roomy l
+-- a line that declares nothing is passed
+same-order : (text : List ℕ) (line : ℕ) → OtherLine (textLines text) line → upTo text (line + 1) ≡ upTo text line
+same-order text line o =
+    order-more (textLines text) line (o .level) (o .here) (o .rest) (o .at-line)
+    ∙ ap (λ (e : Option Declaration). upTo text line ++ ifDeclared e) (o .declares-none)
+    ∙ append-nil (upTo text line)
 
--- the same lists
-pub gathering-same : {text : List ℕ} {lent : Lists} {at line count : ℕ} {l : Lists} {fs ss ts : List ℕ} {r : ℕ} → fs ≡ l .froms → ss ≡ l .sizes → ts ≡ l .starts → r ≡ count
-    → Gathering text lent at line count l → Gathering text lent at line r (lists fs ss ts)
-gathering-same {text} {lent} {at} {line} {count} {l} {ss = ss} {ts} e f g h w =
-    subst₂ (λ (k : ℕ) (xs : List ℕ). Gathering text lent at line k (lists xs ss ts)) (sym h) (sym e)
-    (subst₂ (λ (ys zs : List ℕ). Gathering text lent at line count (lists (l .froms) ys zs)) (sym f) (sym g) w)
+-- Lists -----------------------------------------------------------------------------------------------------------------------------
 
-pub gathering-start : (text : List ℕ) → grammarFault text ≡ none → (l : Lists) → Gathering text l 0 0 0 l
-unfolding inOrder reached-start
-gathering-start text e l = record { reached = reached-start text e; places = []; gathered = gathered-nothing text l; to-come = refl }
+taken-more : {A : Type 0} (l : List A) (n : ℕ) (a : A) → n < length l → take (n + 1) (set l n a) ≡ take n l ++ (a ∷ [])
+taken-more l n a h = ap (λ (k : ℕ). take k (set l n a)) (add-one n) ∙ take-suc-set l n a h
 
-module _ (text kinds : List ℕ) (h : Outlined text kinds) (lent : Lists) (at line count : ℕ) (l : Lists) (g : Gathering text lent at line count l) where
-  -- every line is passed
-  pub gathering-end : length text ≤ at → Gathered text (declarations (textLines text)) (startsIn text) lent count l
-  unfolding startsFrom
-  gathering-end k =
-      subst₂ (λ (ds : List Declaration) (ps : List ℕ). Gathered text ds ps lent count l)
-      (ap inOrder (reached-end text kinds h at line (g .reached) k) ∙ in-order text (h .of-grammar))
-      (sym (append-nil (g .places)) ∙ sym (ap (λ (bs : List (List ℕ)). g .places ++ startsFrom at bs) (no-line text at k)) ∙ g .to-come)
-      (g .gathered)
+names-more : (text froms sizes : List ℕ) (a b : ℕ) → length froms ≡ length sizes → namesAt text (froms ++ (a ∷ [])) (sizes ++ (b ∷ [])) ≡ namesAt text froms sizes ++ (nameAt text a b ∷ [])
+unfolding namesAt
+names-more text [] [] a b e = refl
+names-more text [] (s ∷ ss) a b e = absurd (omega (arith, e))
+names-more text (f ∷ fs) [] a b e = absurd (omega (arith, e))
+names-more text (f ∷ fs) (s ∷ ss) a b e = ap (λ (ns : List (List ℕ)). nameAt text f s ∷ ns) (names-more text fs ss a b (omega (arith, e)))
 
-  module _ (k : at < length text) (n : Line) (is : n ≡ lineIn text at) where
-    abbrev following : NextLine text kinds at line (g .reached) n
-    following = next-line text kinds h at line (g .reached) k n is
+-- Names and roles -------------------------------------------------------------------------------------------------------------------
 
-    -- where the declarations after it begin
-    abbrev later : List ℕ
-    later = startsFrom (n .next) (lines (drop (n .next) text))
+-- the declarations up to a line are listed
+record ListedTo (text : List ℕ) (line found : ℕ) (froms sizes roles : List ℕ) : Type 0 where
+  counted : found ≡ length (upTo text line)
+  named : namesAt text (take found froms) (take found sizes) ≡ map nameOf (upTo text line)
+  roles-held : take found roles ≡ map roleNumber (upTo text line)
 
-    count-small : count < 32768
-    count-small =
-        let s = line-small text kinds h at line (g .reached) k in
-        let c = g .gathered .count in
-        let m = no-more-than-lines (g .reached .passed) in
-        let e = g .reached .number in
-        omega (arith, s, c, m, e)
+-- for any text whose lines are so listed
+pub record Gathering (count : ℕ) (g : Listing) (line first found : ℕ) (froms sizes roles : List ℕ) : Type 0 where
+  pub reached : line ≤ count
+  pub begins : first ≡ startOf (g .ends) line
+  pub few : found ≤ line
+  lists : (text : List ℕ) → TextListed text count g → ListedTo text line found froms sizes roles
 
-    -- what its places and the lists allow
-    pub at-line : Roomy lent → AtLine text kinds at line count l n
-    at-line room =
-        let f = following in
-        let i = f .told .inside in
-        let a = i .ends in
-        let b = i .within in
-        let s = start-left text (h .of-grammar) .0 in
-        let (u, v, w) = room in
-        let x = g .gathered .froms-kept .same-length in
-        let y = g .gathered .sizes-kept .same-length in
-        let z = g .gathered .starts-kept .same-length in
+pub gathering-start : (count : ℕ) (g : Listing) (froms sizes roles : List ℕ) → Gathering count g 0 0 0 froms sizes roles
+unfolding inOrder namesAt
+gathering-start count g froms sizes roles =
+    record { reached = omega arith; begins = sym (starts-first (g .ends)); few = omega arith; lists = λ text h. record { counted = refl; named = refl; roles-held = refl } }
+
+module _ (count : ℕ) (g : Listing) (line first found : ℕ) (froms sizes roles : List ℕ) (s : Gathering count g line first found froms sizes roles) where
+  -- all lines are passed
+  pub gathering-end : count ≤ line → count ≤ length froms → count ≤ length sizes → count ≤ length roles → GatheredFrom count g found froms sizes roles
+  gathering-end k a b c text h =
+      let l = s .lists text h in
+      let n = h .lines .counted in
+      let r = s .reached in
+      let f = s .few in
+      let z : line ≡ length (textLines text) = omega (arith, k, n, r) in
+      let e : upTo text line ≡ declarations (textLines text) = ap inOrder (ap (λ (m : ℕ). take m (textLines text)) z ∙ take-length (textLines text)) ∙ in-order text (h .of-grammar) in
+      let q = l .counted ∙ ap length e in (
+        q,
         record {
-          in-kinds = f .in-kinds;
-          begins = i .wide;
-          ends = omega (arith, a, b);
-          goes-on = i .later;
-          goes-within = i .within;
-          place-small = omega (arith, k, s);
-          line-small = line-small text kinds h at line (g .reached) k;
-          count-small = count-small;
-          room = (omega (arith, x, u), omega (arith, y, v), omega (arith, z, w));
+          named = l .named ∙ ap (map nameOf) e;
+          roles-held = l .roles-held ∙ ap (map roleNumber) e;
+          froms-counted = length-take-le found froms (omega (arith, f, r, a)) ∙ q;
+          sizes-counted = length-take-le found sizes (omega (arith, f, r, b)) ∙ q;
+        },
+      )
+
+  module _ (i : line < count) where
+    next-begins : getD (g .ends) line 0 ≡ startOf (g .ends) (line + 1)
+    next-begins = sym (ap (startOf (g .ends)) (add-one line) ∙ starts (g .ends) line)
+
+    -- a line is passed
+    pub gathering-passes : 2 < getD (g .kinds) line 0 % 16 → Gathering count g (line + 1) (getD (g .ends) line 0) found froms sizes roles
+    gathering-passes k =
+        record {
+          reached = omega (arith, i);
+          begins = next-begins;
+          few = let f = s .few in omega (arith, f);
+          lists = λ text h.
+              let l = s .lists text h in
+              let e = same-order text line (other-line (h .lines) line i k) in
+              record { counted = l .counted ∙ sym (ap length e); named = l .named ∙ sym (ap (map nameOf) e); roles-held = l .roles-held ∙ sym (ap (map roleNumber) e) };
         }
 
-    -- the next line declares nothing
-    pub gathering-passes : 2 < getD kinds line 0 % 16 → Gathering text lent (n .next) (line + 1) count l
-    unfolding inOrder
-    gathering-passes c =
-        let f = following in
-        let w = f .class in
-        let no-one = declares-not (f .here) (omega (arith, w, c)) in
-        let ds : inOrder (f .after .passed) ≡ inOrder (g .reached .passed) =
-        ap inOrder (f .passed-after)
-        ∙ in-order-append (g .reached .passed) (lined (f .level) (f .here) ∷ [])
-        ∙ ap (λ (o : Option Declaration). inOrder (g .reached .passed) ++ (ifDeclared o ++ [])) no-one
-        ∙ append-nil (inOrder (g .reached .passed)) in
+    abbrev ss : List ℕ
+    ss = part (g .sorts) first (getD (g .ends) line 0)
+
+    abbrev vs : List ℤ
+    vs = part (g .values) first (getD (g .ends) line 0)
+
+    -- a declaration can be listed
+    pub gathering-listable : SomeTextListed count g → getD (g .kinds) line 0 % 16 ≤ 2 → Listable ss vs
+    gathering-listable t k = listed-line (t .0) count g (t .1) line i k first (s .begins) .listable
+
+    -- it is
+    pub gathering-takes : getD (g .kinds) line 0 % 16 ≤ 2 → found < length froms → found < length sizes → found < length roles
+        → Gathering count g (line + 1) (getD (g .ends) line 0) (found + 1) (set froms found (nameIn ss vs / 32)) (set sizes found (nameIn ss vs % 32)) (set roles found (roleListed ss vs))
+    gathering-takes k a b c =
         record {
-          reached = f .after;
-          places = g .places;
-          gathered = subst (λ (es : List Declaration). Gathered text es (g .places) lent count l) (sym ds) (g .gathered);
-          to-come = ap (λ (ps : List ℕ). g .places ++ ps) (sym (starts-step text at k n is (f .level) (f .here) (f .told) ∙ ap (λ (o : Option Declaration). ifElse (isSome o) (at ∷ later) later) no-one)) ∙ g .to-come;
+          reached = omega (arith, i);
+          begins = next-begins;
+          few = let f = s .few in omega (arith, f);
+          lists = λ text h.
+              let l = s .lists text h in
+              let x = listed-line text count g h line i k first (s .begins) in
+              let d = x .told .declared in
+              let e = order-more (textLines text) line (x .told .level) _ (x .told .rest) (x .told .at-line) in
+              let q = l .counted in
+              let m = ap length e ∙ length-append (upTo text line) (d ∷ []) in
+              record {
+                counted = omega (arith, q, m);
+                named =
+                    ap₂ (namesAt text) (taken-more froms found _ a) (taken-more sizes found _ b)
+                    ∙ names-more text (take found froms) (take found sizes) _ _ (length-take-le found froms (omega (arith, a)) ∙ sym (length-take-le found sizes (omega (arith, b))))
+                    ∙ ap₂ (λ (ns : List (List ℕ)) (n : List ℕ). ns ++ (n ∷ [])) (l .named) (x .name-is)
+                    ∙ sym (ap (map nameOf) e ∙ map-append nameOf (upTo text line) (d ∷ []));
+                roles-held =
+                    taken-more roles found _ c
+                    ∙ ap₂ (λ (rs : List ℕ) (r : ℕ). rs ++ (r ∷ [])) (l .roles-held) (x .told .role)
+                    ∙ sym (ap (map roleNumber) e ∙ map-append roleNumber (upTo text line) (d ∷ []));
+              };
         }
 
-    -- it is a declaration, and its first name is found
-    module _ (c : getD kinds line 0 % 16 ≤ 2) (name : Next) (x : FirstIs (bodyIn text n) (firstOf sorts.name (chunksOf (bodyIn text n))) name) where
-      abbrev declares : (d : Declaration) × (following .here ≡ declare d)
-      declares = let w = following .class in declares-below (following .here) (omega (arith, w, c))
+-- the same with lists and a count that are as said
+pub gathering-same : {count : ℕ} {g : Listing} {line first m n : ℕ} {fs gs ss ts rs qs : List ℕ} → fs ≡ gs → ss ≡ ts → rs ≡ qs → m ≡ n → Gathering count g line first n gs ts qs → Gathering count g line first m fs ss rs
+gathering-same {count} {g} {line} {first} {n = n} {fs} {gs} {ss} {ts} {rs} {qs} a b c d x =
+    let y = subst₂ (λ (fs ss : List ℕ). Gathering count g line first n fs ss qs) (sym a) (sym b) x in
+    subst₂ (λ (rs : List ℕ) (m : ℕ). Gathering count g line first m fs ss rs) (sym c) (sym d) y
 
-      abbrev declared : Declaration
-      declared = declares .0
+-- Rows ------------------------------------------------------------------------------------------------------------------------------
 
-      on-line : declarationOf (lineOf (bodyIn text n)) ≡ some declared
-      on-line = ap declarationOf (following .told .spelt) ∙ ap declarationIn (declares .1)
+-- the rows of the declarations up to a line are written
+record WrittenTo (text : List ℕ) (line found : ℕ) (lent rows : List ℤ) : Type 0 where
+  counted : found ≡ length (upTo text line)
+  written : rows ≡ past (rowsOf (upTo text line)) lent
 
-      abbrev named : (nameOf declared ≡ partOf (bodyIn text n) (name .from) (name .to)) × (length (nameOf declared) ≤ 31)
-      named = x .letters (nameOf declared) (declared-name (bodyIn text n) declared on-line)
+-- for any text whose lines are so listed
+pub record Putting (count : ℕ) (g : Listing) (lent : List ℤ) (line first found : ℕ) (rows : List ℤ) : Type 0 where
+  pub reached : line ≤ count
+  pub begins : first ≡ startOf (g .ends) line
+  pub few : found ≤ line
+  pub same-long : length rows ≡ length lent
+  puts : (text : List ℕ) → TextResolved text count g → WrittenTo text line found lent rows
 
-      -- its line is inside the text
-      body-wide : length (bodyIn text n) ≡ n .to - n .from
-      body-wide =
-          let i = following .told .inside in
-          let a = i .wide in
-          let b = i .ends in
-          let e = i .within in
-          let d = length-drop (n .from) text in
-          length-take-le (n .to - n .from) (drop (n .from) text) (omega (arith, a, b, e, d))
+pub putting-start : (count : ℕ) (g : Listing) (rows : List ℤ) → Putting count g rows 0 0 0 rows
+unfolding inOrder flatten
+putting-start count g rows =
+    record { reached = omega arith; begins = sym (starts-first (g .ends)); few = omega arith; same-long = refl; puts = λ text h. record { counted = refl; written = refl } }
 
-      pub name-placed : n .from + name .from < 65536
-      name-placed =
-          let i = following .told .inside in
-          let a = i .wide in
-          let b = i .ends in
-          let e = i .within in
-          let s = start-left text (h .of-grammar) .0 in
-          let u = x .wide in
-          let v = x .within in
-          let w = body-wide in
-          omega (arith, a, b, e, s, u, v, w)
+module _ (count : ℕ) (g : Listing) (lent : List ℤ) (line first found : ℕ) (rows : List ℤ) (s : Putting count g lent line first found rows) where
+  -- all lines are passed
+  pub putting-end : count ≤ line → RowsPut count g lent rows
+  putting-end k text h =
+      let n = h .lines .counted in
+      let r = s .reached in
+      let z : line ≡ length (textLines text) = omega (arith, k, n, r) in
+      s .puts text h .written
+      ∙ ap (λ (ds : List Declaration). past (rowsOf ds) lent) (ap inOrder (ap (λ (m : ℕ). take m (textLines text)) z ∙ take-length (textLines text)) ∙ in-order text (h .of-grammar))
 
-      pub name-sized : name .to - name .from < 256
-      name-sized =
-          let v = x .within in
-          let d = length-drop (name .from) (bodyIn text n) in
-          let w = length-take-le (name .to - name .from) (drop (name .from) (bodyIn text n)) (omega (arith, v, d)) in
-          let e = ap length (named .0) in
-          let i = named .1 in
-          omega (arith, w, e, i)
+  module _ (i : line < count) where
+    -- a line is passed
+    pub putting-passes : 2 < getD (g .kinds) line 0 % 16 → Putting count g lent (line + 1) (getD (g .ends) line 0) found rows
+    putting-passes k =
+        record {
+          reached = omega (arith, i);
+          begins = sym (ap (startOf (g .ends)) (add-one line) ∙ starts (g .ends) line);
+          few = let f = s .few in omega (arith, f);
+          same-long = s .same-long;
+          puts = λ text h.
+              let l = s .puts text h in
+              let e = same-order text line (other-line (h .lines) line i k) in
+              record { counted = l .counted ∙ sym (ap length e); written = l .written ∙ sym (ap (λ (ds : List Declaration). past (rowsOf ds) lent) e) };
+        }
 
-      pub gathering-takes : Roomy lent → Gathering text lent (n .next) (line + 1) (count + 1)
-          (lists (set (l .froms) count (n .from + name .from)) (set (l .sizes) count (name .to - name .from)) (set (l .starts) count at))
-      unfolding inOrder
-      gathering-takes room =
-          let f = following in
-          let m : inOrder (f .after .passed) ≡ inOrder (g .reached .passed) ++ (declared ∷ []) =
-          ap inOrder (f .passed-after)
-          ∙ in-order-append (g .reached .passed) (lined (f .level) (f .here) ∷ [])
-          ∙ ap (λ (y : OutlineLine). inOrder (g .reached .passed) ++ (ifDeclared (declarationIn y) ++ [])) (declares .1) in
-          let named-there : nameAt text (n .from + name .from) (name .to - name .from) ≡ nameOf declared =
-          sym (named .0 ∙ body-part text (n .from) (n .to) (name .from) (name .to) (let v = x .within in let w = body-wide in omega (arith, v, w))) in
-          let there : declarationAt text at ≡ some declared = ap (λ (i : Line). declarationOf (lineOf (bodyIn text i))) (sym is) ∙ on-line in
-          let made = gathered-one text (inOrder (g .reached .passed)) (g .places) lent count l declared (n .from + name .from) (name .to - name .from) at (g .gathered) room count-small named-there there in
-          let step : startsFrom at (lines (drop at text)) ≡ at ∷ later =
-          starts-step text at k n is (f .level) (f .here) (f .told) ∙ ap (λ (y : OutlineLine). ifElse (isSome (declarationIn y)) (at ∷ later) later) (declares .1) in
+    module _ (k : getD (g .kinds) line 0 % 16 ≤ 2) where
+      abbrev part-sorts : List ℕ
+      part-sorts = part (g .sorts) first (getD (g .ends) line 0)
+
+      abbrev part-values : List ℤ
+      part-values = part (g .values) first (getD (g .ends) line 0)
+
+      -- the line of a text, which is a declaration
+      here : (text : List ℕ) (h : TextResolved text count g) → DeclaredLine nameOfRow (resolvedToken (declaredNames text)) (textLines text) line part-sorts part-values
+      here text h = declared-line (h .lines) line i (λ z. refl) k first (s .begins)
+
+      order-here : (text : List ℕ) (h : TextResolved text count g) → upTo text (line + 1) ≡ upTo text line ++ (here text h .declared ∷ [])
+      order-here text h = let x = here text h in order-more (textLines text) line (x .level) _ (x .rest) (x .at-line)
+
+      -- it has a mark, and there is room for its row
+      pub putting-marked : RoomForRows count g lent → Marked part-sorts part-values
+      putting-marked t = here (t .0) (t .1) .marked
+
+      pub putting-room : RoomForRows count g lent → 4 * found + 4 ≤ length lent
+      putting-room t =
+          let q = s .puts (t .0) (t .1) .counted in
+          let m = ap length (order-here (t .0) (t .1)) ∙ length-append (upTo (t .0) line) (_ ∷ []) in
+          let w = order-within (textLines (t .0)) (line + 1) in
+          let o = ap length (in-order (t .0) (t .1 .of-grammar)) in
+          let r = t .2 in
+          omega (arith, q, m, w, o, r)
+
+      -- it is written
+      pub putting-takes : RoomForRows count g lent → (x : DeclaredRow) → numbersOf x ≡ rowListed part-sorts part-values
+          → Putting count g lent (line + 1) (getD (g .ends) line 0) (found + 1) (sets rows (4 * found) (numbersOf x))
+      putting-takes t x y =
+          let room = putting-room t in
           record {
-            reached = f .after;
-            places = g .places ++ (at ∷ []);
-            to-come = append-assoc (g .places) (at ∷ []) later ∙ ap (λ (ps : List ℕ). g .places ++ ps) (sym step) ∙ g .to-come;
-            gathered =
-                subst₂ (λ (ds : List Declaration) (r : ℕ).
-                Gathered text ds (g .places ++ (at ∷ [])) lent r (lists (set (l .froms) count (n .from + name .from)) (set (l .sizes) count (name .to - name .from)) (set (l .starts) count at)))
-                (sym m) (sym (add-one count)) made;
+            reached = omega (arith, i);
+            begins = sym (ap (startOf (g .ends)) (add-one line) ∙ starts (g .ends) line);
+            few = let f = s .few in omega (arith, f);
+            same-long = length-sets rows (4 * found) (numbersOf x) ∙ s .same-long;
+            puts = λ text h.
+                let l = s .puts text h in
+                let q = l .counted in
+                let d = here text h .declared in
+                let e = order-here text h in
+                let m = ap length e ∙ length-append (upTo text line) (d ∷ []) in
+                record {
+                  counted = omega (arith, q, m);
+                  written =
+                      ap₂ (λ (rs : List ℤ) (n : ℕ). sets rs (4 * n) (numbersOf x)) (l .written) q
+                      ∙ rows-written lent (upTo text line) d (omega (arith, room, q)) x (y ∙ here text h .row)
+                      ∙ sym (ap (λ (ds : List Declaration). past (rowsOf ds) lent) e);
+                };
           }
+
+-- the same with rows and a count that are as said
+pub putting-same : {count : ℕ} {g : Listing} {lent : List ℤ} {line first m n : ℕ} {rows left : List ℤ} → rows ≡ left → m ≡ n → Putting count g lent line first n left → Putting count g lent line first m rows
+putting-same {count} {g} {lent} {line} {first} a b x = subst₂ (λ (rs : List ℤ) (m : ℕ). Putting count g lent line first m rs) (sym a) (sym b) x

@@ -1,26 +1,27 @@
--- What the tokens of a declaration tell: its number, its name and its row.
-use mathlib.Core.Path.{_≡_, refl, sym, ap, subst, subst₂, _∙_}
-use mathlib.Core.Bool.{true, false≢true}
+-- What the listed tokens of a declaration tell: its row, its role and its name.
+use mathlib.Core.Path.{_≡_, refl, sym, ap, subst, _∙_}
+use mathlib.Core.Bool.{Bool, true, false}
 use mathlib.Core.List.{List, [], _∷_, map}
 use mathlib.Core.Option.{Option, none, some, Option·none-ne-some, Option·some-injective}
-use Prim.Native.Nat.{ℕ}
+use Prim.Native.Nat.{ℕ, zero, suc, _+_, _≤_, _<_}
 use native.Mathlib.Omega.{arith}
+use native.Mathlib.Nat.{add-zero}
 use lib.IntN.{ℤ, pos}
-use Rattle.meaning.specs.Basics.{isSome}
-use Rattle.grammar.specs.Grammar.{Mark, Token, name}
-use Rattle.grammar.specs.Outline.{Declaration, variable, channel, source, sink, OutlineLine}
+use lib.ListN.{length, getD, drop}
+use lib.Dec.{eqb}
+use borrow.Author.Tests.{ne-eqb}
+use Rattle.meaning.specs.Basics.{eqZ, ifElse}
+use Rattle.grammar.specs.Grammar.{Mark, an-int, a-chan, a-hostout, colon, Token, name, number, square-open, square-close, mark}
+use Rattle.grammar.specs.Outline.{Declaration, OutlineLine, declare}
 use Rattle.grammar.specs.Lines.{ints, chans, Header, scalar, array, host-in, host-out, Alone, skips, stops, seqs, pars, chooses, selects, Spells, declares, word, repeats, assigns, inputs, outputs, tests, guards, allows, lineSpelt}
-use Rattle.grammar.specs.LineBytes.{bodyOf}
 use Rattle.grammar.specs.Names.{nameOf, declarationIn}
 use Rattle.grammar.specs.TextRows.{declarationRow}
 use Rattle.grammar.proofs.LineRead.{line-sound}
 use Rattle.read_tokens.specs.Sorts as sorts
-use Rattle.read_scan.proofs.NextLaws.{start-remains}
-use Rattle.read_classes.specs.declared.Marked.{Marked}
-use Rattle.read_classes.specs.Parts.{chunksOf, Parting, partAtMark, partingAt}
-use Rattle.read_classes.specs.LineClasses.{lineOfBody}
-use Rattle.read_declared.specs.Firsts.{firstOf, numberIn}
-use Rattle.read_declared.specs.Declarations.{declarationOf, declarationOn, rowOf}
+use Rattle.read_tokens.specs.Held.{tokenSort, byNatural, tokenBy, tokensBy}
+use Rattle.read_classes.specs.Parts.{markAt}
+use Rattle.read_declared.specs.Firsts.{placeOfSort, numberIn}
+use Rattle.read_declared.specs.Declarations.{byMark, rowListed, unlessOne, roleNumber, roleListed}
 
 -- The tokens of a declaration -------------------------------------------------------------------------------------------------------
 
@@ -43,75 +44,119 @@ spelt-header (tests p) d e = absurd (Option·none-ne-some d e)
 spelt-header (guards p q r) d e = absurd (Option·none-ne-some d e)
 spelt-header (allows p) d e = absurd (Option·none-ne-some d e)
 
--- a line that is a declaration is spelt as one
-module _ (line : List ℕ) (d : Declaration) where
-  abbrev Headed : Type 0
-  Headed = (ts : List Token) × (chunksOf line ≡ map some ts) × Header ts d
+-- tokens that spell a declaration are those of one
+pub header-of : {ts : List Token} {x : OutlineLine} → Spells ts x → (d : Declaration) → x ≡ declare d → Header ts d
+header-of p d e = spelt-header p d (ap declarationIn e)
 
-  headed : declarationOn line ≡ some d → Headed
-  headed h = body (bodyOf line) refl h
-    where
-      spelt : (ts : List Token) → bodyOf line ≡ some ts → (o : Option OutlineLine) → lineSpelt ts ≡ o → declarationOf o ≡ some d → Headed
-      spelt ts q none e h = absurd (Option·none-ne-some d h)
-      spelt ts q (some x) e h = (ts, start-remains line 0 ts q, spelt-header (line-sound ts x e) d h)
+pub headed : (ts : List Token) (d : Declaration) → lineSpelt ts ≡ some (declare d) → Header ts d
+headed ts d e = header-of (line-sound ts (declare d) e) d refl
 
-      body : (o : Option (List Token)) → bodyOf line ≡ o → declarationOf (lineOfBody o) ≡ some d → Headed
-      body none q h = absurd (Option·none-ne-some d h)
-      body (some ts) q h = spelt ts q (lineSpelt ts) refl h
+-- By the mark -----------------------------------------------------------------------------------------------------------------------
 
--- What they tell --------------------------------------------------------------------------------------------------------------------
+module _ {A : Type 0} (s : ℕ) (i c f t : A) where
+  abbrev pub told : A
+  told = byMark s i c f t
 
-header-name : {ts : List Token} {d : Declaration} → Header ts d → firstOf sorts.name (map some ts) ≡ some (name (nameOf d))
-unfolding firstOf
-header-name (scalar ints) = refl
-header-name (scalar chans) = refl
-header-name (array ints) = refl
-header-name (array chans) = refl
-header-name host-in = refl
-header-name host-out = refl
+  pub by-int : s ≡ sorts.int → i ≡ told
+  by-int e = sym (ap (λ (k : ℕ). byMark k i c f t) e)
 
--- the first name on the line is the declared one
-pub declared-name : (line : List ℕ) (d : Declaration) → declarationOn line ≡ some d → firstOf sorts.name (chunksOf line) ≡ some (name (nameOf d))
-declared-name line d h = let (ts, c, p) = headed line d h in ap (firstOf sorts.name) c ∙ header-name p
+  pub by-chan : s ≡ sorts.chan → c ≡ told
+  by-chan e = sym (ap (λ (k : ℕ). byMark k i c f t) e)
 
--- the row by the sort of the first mark and the number
-pub record RowTold (s : ℕ) (z : ℤ) (row : List ℤ) : Type 0 where
-  pub of-int : s ≡ sorts.int → pos 1 ∷ z ∷ pos 0 ∷ pos 0 ∷ [] ≡ row
-  pub of-chan : s ≡ sorts.chan → pos 2 ∷ z ∷ pos 0 ∷ pos 0 ∷ [] ≡ row
-  pub of-source : s ≡ sorts.hostin → pos 2 ∷ pos 1 ∷ pos 1 ∷ pos 0 ∷ [] ≡ row
-  pub of-sink : (s ≡ sorts.int → ⊥) → (s ≡ sorts.chan → ⊥) → (s ≡ sorts.hostin → ⊥) → pos 2 ∷ pos 1 ∷ pos 2 ∷ z ∷ [] ≡ row
+  pub by-hostin : s ≡ sorts.hostin → f ≡ told
+  by-hostin e = sym (ap (λ (k : ℕ). byMark k i c f t) e)
 
-int-told : (z : ℤ) (n : List ℕ) → RowTold sorts.int z (declarationRow (variable z n))
-int-told z n = record { of-int = λ e. refl; of-chan = λ e. absurd (omega (arith, e)); of-source = λ e. absurd (omega (arith, e)); of-sink = λ a b c. absurd (a refl) }
+  pub by-other : (s ≡ sorts.int → ⊥) → (s ≡ sorts.chan → ⊥) → (s ≡ sorts.hostin → ⊥) → t ≡ told
+  by-other x y z =
+      sym
+      (ap (λ (b : Bool). ifElse b i (ifElse (eqb s sorts.chan) c (ifElse (eqb s sorts.hostin) f t))) (ne-eqb s sorts.int x)
+      ∙ ap (λ (b : Bool). ifElse b c (ifElse (eqb s sorts.hostin) f t)) (ne-eqb s sorts.chan y)
+      ∙ ap (λ (b : Bool). ifElse b f t) (ne-eqb s sorts.hostin z))
 
-chan-told : (z : ℤ) (n : List ℕ) → RowTold sorts.chan z (declarationRow (channel z n))
-chan-told z n = record { of-int = λ e. absurd (omega (arith, e)); of-chan = λ e. refl; of-source = λ e. absurd (omega (arith, e)); of-sink = λ a b c. absurd (b refl) }
-
-source-told : (z : ℤ) (n : List ℕ) → RowTold sorts.hostin z (declarationRow (source n))
-source-told z n = record { of-int = λ e. absurd (omega (arith, e)); of-chan = λ e. absurd (omega (arith, e)); of-source = λ e. refl; of-sink = λ a b c. absurd (c refl) }
-
-sink-told : (z : ℤ) (n : List ℕ) → RowTold sorts.hostout z (declarationRow (sink z n))
-sink-told z n = record { of-int = λ e. absurd (omega (arith, e)); of-chan = λ e. absurd (omega (arith, e)); of-source = λ e. absurd (omega (arith, e)); of-sink = λ a b c. refl }
-
-header-row : {ts : List Token} {d : Declaration} → Header ts d → RowTold (partAtMark (map some ts) .sort) (numberIn (map some ts)) (declarationRow d)
-unfolding firstOf partAtMark
-header-row (scalar {n} ints) = int-told (pos 1) n
-header-row (scalar {n} chans) = chan-told (pos 1) n
-header-row (array {z} {n} ints) = int-told z n
-header-row (array {z} {n} chans) = chan-told z n
-header-row (host-in {n}) = source-told (pos 1) n
-header-row (host-out {z} {n}) = sink-told z n
-
-row-told : (line : List ℕ) → isSome (declarationOn line) ≡ true → RowTold (partAtMark (chunksOf line) .sort) (numberIn (chunksOf line)) (rowOf (declarationOn line))
-row-told line h = go (declarationOn line) refl h
+-- a role is a number below 8
+pub unless-one-small : (z : ℤ) → unlessOne z ≤ 4
+unless-one-small z = go (eqZ z (pos 1))
   where
-    go : (o : Option Declaration) → declarationOn line ≡ o → isSome o ≡ true → RowTold (partAtMark (chunksOf line) .sort) (numberIn (chunksOf line)) (rowOf o)
-    go none q h = absurd (false≢true h)
-    go (some d) q h =
-        let (ts, c, p) = headed line d q in
-        subst (λ (os : List (Option Token)). RowTold (partAtMark os .sort) (numberIn os) (declarationRow d)) (sym c) (header-row p)
+    go : (b : Bool) → ifElse b 0 4 ≤ 4
+    go true = omega arith
+    go false = omega arith
 
--- the same by the mark that is found
-pub marked-row : (line : List ℕ) (m : Marked) (z : ℤ) → isSome (declarationOn line) ≡ true → partingAt line m ≡ partAtMark (chunksOf line) → z ≡ numberIn (chunksOf line)
-    → RowTold (m .sort) z (rowOf (declarationOn line))
-marked-row line m z h e q = subst₂ (λ (s : ℕ) (y : ℤ). RowTold s y (rowOf (declarationOn line))) (sym (ap (λ (p : Parting). p .sort) e)) (sym q) (row-told line h)
+-- What is listed --------------------------------------------------------------------------------------------------------------------
+
+-- there is a mark among the tokens of a declaration
+pub header-marked : {ts : List Token} {d : Declaration} → Header ts d → markAt (map tokenSort ts) < length (map tokenSort ts)
+unfolding markAt
+header-marked (scalar ints) = omega arith
+header-marked (scalar chans) = omega arith
+header-marked (array ints) = omega arith
+header-marked (array chans) = omega arith
+header-marked host-in = omega arith
+header-marked host-out = omega arith
+
+-- and a name, the declared one
+pub header-named : {ts : List Token} {d : Declaration} → Header ts d → (us : List Token) × (drop (placeOfSort sorts.name (map tokenSort ts)) ts ≡ name (nameOf d) ∷ us)
+unfolding placeOfSort
+header-named (scalar ints) = (_, refl)
+header-named (scalar chans) = (_, refl)
+header-named (array ints) = (_, refl)
+header-named (array chans) = (_, refl)
+header-named host-in = (_, refl)
+header-named host-out = (_, refl)
+
+module _ (named : ℕ → Option Token) (f : Token → Token) where
+  abbrev Held : List Token → List ℤ → Type 0
+  Held ts vs = tokensBy named (map tokenSort ts) vs ≡ map (λ t. some (f t)) ts
+
+  -- each token is listed by its sort and number
+  pub token-listed : (ts : List Token) (vs : List ℤ) → Held ts vs → (p : ℕ) (t : Token) (us : List Token) → drop p ts ≡ t ∷ us
+      → (p < length vs) × (tokenBy named (tokenSort t) (getD vs p (pos 0)) ≡ some (f t))
+  unfolding tokensBy
+  token-listed [] vs h zero t us e = absurd (let z : _≡_ {A = ℕ} 0 (suc (length us)) = ap length e in omega arith)
+  token-listed [] vs h (suc p) t us e = absurd (let z : _≡_ {A = ℕ} 0 (suc (length us)) = ap length e in omega arith)
+  token-listed (u ∷ ts) [] h p t us e = absurd (let z : _≡_ {A = ℕ} 0 (suc (length (map (λ t. some (f t)) ts))) = ap length h in omega arith)
+  token-listed (u ∷ ts) (v ∷ vs) h zero t us e =
+      let i : u ≡ t = cc in
+      let j : tokenBy named (tokenSort u) v ≡ some (f u) = cc in
+      (omega arith, subst (λ (w : Token). tokenBy named (tokenSort w) v ≡ some (f w)) i j)
+  token-listed (u ∷ ts) (v ∷ vs) h (suc p) t us e =
+      let r : Held ts vs = cc in
+      let (a, b) = token-listed ts vs r p t us e in
+      (omega (arith, a), b)
+
+  -- a name by what is listed of it
+  pub name-listed : {ts : List Token} {d : Declaration} → Header ts d → (vs : List ℤ) → Held ts vs
+      → (placeOfSort sorts.name (map tokenSort ts) < length vs) × (byNatural named (getD vs (placeOfSort sorts.name (map tokenSort ts)) (pos 0)) ≡ some (f (name (nameOf d))))
+  unfolding tokenBy
+  name-listed {ts} {d} p vs h = let (us, e) = header-named p in token-listed ts vs h (placeOfSort sorts.name (map tokenSort ts)) (name (nameOf d)) us e
+
+  module _ (keeps : (z : ℤ) → f (number z) ≡ number z) where
+    -- a number that stands second is what is listed of it
+    number-second : (t : Token) (z : ℤ) (us : List Token) (vs : List ℤ) → Held (t ∷ number z ∷ us) vs → getD vs 1 (pos 0) ≡ z
+    unfolding tokenBy
+    number-second t z us vs h =
+        let q : some (number (getD vs 1 (pos 0))) ≡ some (f (number z)) = token-listed (t ∷ number z ∷ us) vs h 1 (number z) us refl .1 in
+        let r = keeps z in
+        cc
+
+    number-of-array : (m : Mark) (z : ℤ) (n : List ℕ) (vs : List ℤ) → Held (square-open ∷ number z ∷ square-close ∷ mark m ∷ name n ∷ mark colon ∷ []) vs → getD vs 1 (pos 0) ≡ z
+    number-of-array m z n vs h = number-second square-open z (square-close ∷ mark m ∷ name n ∷ mark colon ∷ []) vs h
+
+    -- the row
+    pub header-row : {ts : List Token} {d : Declaration} → Header ts d → (vs : List ℤ) → Held ts vs → rowListed (map tokenSort ts) vs ≡ declarationRow d
+    unfolding numberIn placeOfSort markAt
+    header-row (scalar ints) vs h = refl
+    header-row (scalar chans) vs h = refl
+    header-row (array {z} {n} ints) vs h = ap (λ (y : ℤ). pos 1 ∷ y ∷ pos 0 ∷ pos 0 ∷ []) (number-of-array an-int z n vs h)
+    header-row (array {z} {n} chans) vs h = ap (λ (y : ℤ). pos 2 ∷ y ∷ pos 0 ∷ pos 0 ∷ []) (number-of-array a-chan z n vs h)
+    header-row host-in vs h = refl
+    header-row (host-out {z} {n}) vs h = ap (λ (y : ℤ). pos 2 ∷ pos 1 ∷ pos 2 ∷ y ∷ []) (number-second (mark a-hostout) z (name n ∷ mark colon ∷ []) vs h)
+
+    -- the role
+    pub header-role : {ts : List Token} {d : Declaration} → Header ts d → (vs : List ℤ) → Held ts vs → roleListed (map tokenSort ts) vs ≡ roleNumber d
+    unfolding numberIn placeOfSort markAt
+    header-role (scalar ints) vs h = refl
+    header-role (scalar chans) vs h = refl
+    header-role (array {z} {n} ints) vs h = ap unlessOne (number-of-array an-int z n vs h) ∙ sym (add-zero (unlessOne z))
+    header-role (array {z} {n} chans) vs h = ap (λ (y : ℤ). unlessOne y + 1) (number-of-array a-chan z n vs h)
+    header-role host-in vs h = refl
+    header-role host-out vs h = refl

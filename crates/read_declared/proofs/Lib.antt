@@ -1,9 +1,8 @@
-pub mod NameParts
 pub mod FirstSteps
 pub mod HeaderLaws
+pub mod NameLaws
 pub mod OrderLaws
 pub mod KindLaws
-pub mod LineSteps
-pub mod ListSteps
-pub mod GatherSteps
+pub mod DeclaredLines
 pub mod RowSteps
+pub mod GatherSteps

@@ -1,21 +1,24 @@
--- The declarations of lines, and their rows.
+-- The declarations of lines: their names, their roles and their rows.
 use mathlib.Core.Path.{_≡_}
-use mathlib.Core.Bool.{true}
 use mathlib.Core.List.{List, [], _∷_, _++_, map, flatten}
-use mathlib.Core.Option.{Option, none, some}
-use Prim.Native.Nat.{ℕ, _+_, _≤_, _<_}
-use lib.IntN.{ℤ}
-use lib.ListN.{length, getD, take, drop}
-use Rattle.meaning.specs.Basics.{ifElse, isSome}
-use Rattle.meaning.specs.Lines.{lines}
-use Rattle.grammar.specs.Outline.{Declaration, OutlineLine, Lined, lined}
-use Rattle.grammar.specs.Names.{nameOf, declarationIn}
-use Rattle.grammar.specs.TextBytes.{textLine, grammarFault}
+use mathlib.Core.Option.{none}
+use Prim.Native.Nat.{ℕ, _+_, _*_, _/_, _%_, _≤_, _<_}
+use lib.IntN.{ℤ, pos}
+use lib.ListN.{length, getD, set, take}
+use lib.Dec.{eqb}
+use Rattle.meaning.specs.Basics.{eqZ, ifElse}
+use Rattle.grammar.specs.Outline.{Declaration, variable, channel, source, sink, Lined, lined}
+use Rattle.grammar.specs.Names.{nameOf, sizeOf, declarationIn}
+use Rattle.grammar.specs.TextBytes.{grammarFault}
 use Rattle.grammar.specs.TextRows.{declarationRow, ifDeclared, declarations, textLines}
-use Rattle.read_classes.specs.LineClasses.{lineOf}
-use Rattle.read_lines.specs.LineParts.{lineIn, bodyIn}
+use Rattle.read_table.specs.TableRead.{past}
+use Rattle.read_tokens.specs.Sorts as sorts
+use Rattle.read_classes.specs.Parts.{markAt}
+use Rattle.read_levels.specs.Listing.{Listing, TextListed}
 use Rattle.read_names.specs.Listed.{namesAt}
+use Rattle.read_resolved.specs.Resolved.{TextResolved}
 use Rattle.read_declared.specs.declared.DeclaredRow.{DeclaredRow}
+use Rattle.read_declared.specs.Firsts.{numberIn, nameIn, Named}
 
 -- the declarations in the order of the lines
 unfoldable pub inOrder : List Lined → List Declaration
@@ -32,93 +35,79 @@ NoMoreThanLines = (ls : List Lined) → length (inOrder ls) ≤ length ls
 
 -- One line --------------------------------------------------------------------------------------------------------------------------
 
--- the declaration that a line is, if it is one
-abbrev pub declarationOf : Option OutlineLine → Option Declaration
-declarationOf none = none
-declarationOf (some x) = declarationIn x
+-- what a declaration's mark tells: INT, CHAN, HOSTIN or HOSTOUT
+abbrev pub byMark : {A : Type 0} → ℕ → A → A → A → A → A
+byMark s i c f t = ifElse (eqb s sorts.int) i (ifElse (eqb s sorts.chan) c (ifElse (eqb s sorts.hostin) f t))
 
--- the declaration that a line's bytes after the indentation spell
-abbrev pub declarationOn : List ℕ → Option Declaration
-declarationOn line = declarationOf (lineOf line)
+-- the sort of the first mark of listed tokens
+abbrev pub markIn : List ℕ → ℕ
+markIn ss = getD ss (markAt ss) 0
 
--- its row
-abbrev pub rowOf : Option Declaration → List ℤ
-rowOf none = []
-rowOf (some d) = declarationRow d
+-- the row of the declaration that listed tokens are
+abbrev pub rowBy : ℕ → ℤ → List ℤ
+rowBy s z = byMark s (pos 1 ∷ z ∷ pos 0 ∷ pos 0 ∷ []) (pos 2 ∷ z ∷ pos 0 ∷ pos 0 ∷ []) (pos 2 ∷ pos 1 ∷ pos 1 ∷ pos 0 ∷ []) (pos 2 ∷ pos 1 ∷ pos 2 ∷ z ∷ [])
+
+abbrev pub rowListed : List ℕ → List ℤ → List ℤ
+rowListed ss vs = rowBy (markIn ss) (numberIn ss vs)
 
 -- the numbers of a row
 abbrev pub numbersOf : DeclaredRow → List ℤ
 numbersOf r = r .kind ∷ r .a ∷ r .b ∷ r .c ∷ []
 
+-- 4 for a size other than 1
+abbrev pub unlessOne : ℤ → ℕ
+unlessOne z = ifElse (eqZ z (pos 1)) 0 4
+
+-- a variable, a channel, one from the host, one to the host
+abbrev pub roleOf : Declaration → ℕ
+roleOf (variable z n) = 0
+roleOf (channel z n) = 1
+roleOf (source n) = 2
+roleOf (sink z n) = 3
+
+-- the same, with whether there is more than one of it
+abbrev pub roleNumber : Declaration → ℕ
+roleNumber d = unlessOne (sizeOf d) + roleOf d
+
+-- the role of the declaration that listed tokens are
+abbrev pub roleBy : ℕ → ℤ → ℕ
+roleBy s z = byMark s (unlessOne z) (unlessOne z + 1) 2 3
+
+abbrev pub roleListed : List ℕ → List ℤ → ℕ
+roleListed ss vs = roleBy (markIn ss) (numberIn ss vs)
+
+-- listed tokens with a mark, and a name that stands in a text
+abbrev pub Marked : List ℕ → List ℤ → Type 0
+Marked ss vs = (length ss ≡ length vs) × (markAt ss < length ss)
+
+abbrev pub Listable : List ℕ → List ℤ → Type 0
+Listable ss vs = Marked ss vs × Named ss vs × (nameIn ss vs / 32 < 65536)
+
+-- such a declaration, listed at a place of three lists
+abbrev pub ListedAt : List ℕ → List ℤ → ℕ → List ℕ → List ℕ → List ℕ → List ℕ → List ℕ → List ℕ → Type 0
+ListedAt ss vs at froms sizes roles froms' sizes' roles' =
+    (froms' ≡ set froms at (nameIn ss vs / 32)) × (sizes' ≡ set sizes at (nameIn ss vs % 32)) × (roles' ≡ set roles at (roleListed ss vs))
+
 -- A text ----------------------------------------------------------------------------------------------------------------------------
 
--- the declaration that a line at a level is, if it is one
-abbrev pub declarationLined : Option Lined → Option Declaration
-declarationLined none = none
-declarationLined (some (lined l x)) = declarationIn x
+-- the declarations of a text, listed by where each name begins, how many bytes it has, and its role
+pub record Declared (text froms sizes roles : List ℕ) : Type 0 where
+  pub named : namesAt text froms sizes ≡ map nameOf (declarations (textLines text))
+  pub roles-held : roles ≡ map roleNumber (declarations (textLines text))
+  pub froms-counted : length froms ≡ length (declarations (textLines text))
+  pub sizes-counted : length sizes ≡ length (declarations (textLines text))
 
--- the declaration that the line at a place is
-abbrev pub declarationAt : List ℕ → ℕ → Option Declaration
-declarationAt text at = declarationOn (bodyIn text (lineIn text at))
+-- r declarations, listed at the beginning of lent lists
+abbrev pub Gathered : List ℕ → ℕ → List ℕ → List ℕ → List ℕ → Type 0
+Gathered text r froms sizes roles = (r ≡ length (declarations (textLines text))) × Declared text (take r froms) (take r sizes) (take r roles)
 
--- where the declarations among some lines begin, if the first line begins at a place
-unfoldable pub startsFrom : ℕ → List (List ℕ) → List ℕ
-startsFrom at [] = []
-startsFrom at (b ∷ bs) = let rest = startsFrom (at + length b) bs in ifElse (isSome (declarationLined (textLine b))) (at ∷ rest) rest
+-- the same for any text whose lines are so listed
+abbrev pub GatheredFrom : ℕ → Listing → ℕ → List ℕ → List ℕ → List ℕ → Type 0
+GatheredFrom count g r froms sizes roles = (text : List ℕ) → TextListed text count g → Gathered text r froms sizes roles
 
--- where the declarations of a text begin
-abbrev pub startsIn : List ℕ → List ℕ
-startsIn text = startsFrom 0 (lines text)
+-- there is room for the rows of the declarations of a text, and they stand at the beginning of lent rows
+abbrev pub RoomForRows : ℕ → Listing → List ℤ → Type 0
+RoomForRows count g rows = (text : List ℕ) × TextResolved text count g × (4 * length (declarations (textLines text)) ≤ length rows)
 
--- a declaration stands at each place
-abbrev pub EachDeclares : List ℕ → List ℕ → Type 0
-EachDeclares text starts = (i : ℕ) → i < length starts → isSome (declarationAt text (getD starts i 0)) ≡ true
-
--- the rows of the declarations at some places
-abbrev pub rowsAt : List ℕ → List ℕ → List ℤ
-rowsAt text starts = flatten (map (λ at. rowOf (declarationAt text at)) starts)
-
--- declarations, listed by where each name begins, how many bytes it has, and where each line begins
-pub record Listed (text : List ℕ) (ds : List Declaration) (froms sizes starts : List ℕ) : Type 0 where
-  pub names : namesAt text froms sizes ≡ map nameOf ds
-  pub lines : map (declarationAt text) starts ≡ map some ds
-
--- a declaration stands where a listed one does, and its row is there
-abbrev pub ListedDeclares : Type 0
-ListedDeclares = (text : List ℕ) (ds : List Declaration) (starts : List ℕ) → map (declarationAt text) starts ≡ map some ds
-    → EachDeclares text starts × (rowsAt text starts ≡ flatten (map declarationRow ds))
-
--- a list that is as it was lent from a place on
-pub record Kept (r : ℕ) (lent left : List ℕ) : Type 0 where
-  pub same-length : length left ≡ length lent
-  pub behind : drop r left ≡ drop r lent
-
--- three lists
-pub record Lists : Type 0 where
-  pub froms : List ℕ
-  pub sizes : List ℕ
-  pub starts : List ℕ
-
-abbrev pub lists : List ℕ → List ℕ → List ℕ → Lists
-lists fs ss ts = record { froms = fs; sizes = ss; starts = ts }
-
--- there is room for a declaration on every line
-abbrev pub Roomy : Lists → Type 0
-Roomy l = (32768 ≤ length (l .froms)) × (32768 ≤ length (l .sizes)) × (32768 ≤ length (l .starts))
-
--- r declarations, whose lines begin at some places, listed at the beginning of lent lists
-pub record Gathered (text : List ℕ) (ds : List Declaration) (places : List ℕ) (lent : Lists) (r : ℕ) (left : Lists) : Type 0 where
-  pub count : r ≡ length ds
-  pub begun : take r (left .starts) ≡ places
-  pub listed : Listed text ds (take r (left .froms)) (take r (left .sizes)) (take r (left .starts))
-  pub froms-kept : Kept r (lent .froms) (left .froms)
-  pub sizes-kept : Kept r (lent .sizes) (left .sizes)
-  pub starts-kept : Kept r (lent .starts) (left .starts)
-
--- the declarations of a text, listed
-abbrev pub TextListed : List ℕ → List ℕ → List ℕ → List ℕ → Type 0
-TextListed text froms sizes starts = Listed text (declarations (textLines text)) froms sizes starts
-
--- the same at the beginning of lent lists
-abbrev pub TextGathered : List ℕ → Lists → ℕ → Lists → Type 0
-TextGathered text lent r left = Gathered text (declarations (textLines text)) (startsIn text) lent r left
+abbrev pub RowsPut : ℕ → Listing → List ℤ → List ℤ → Type 0
+RowsPut count g lent rows = (text : List ℕ) → TextResolved text count g → rows ≡ past (flatten (map declarationRow (declarations (textLines text)))) lent

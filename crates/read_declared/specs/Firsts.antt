@@ -1,32 +1,27 @@
--- The first token of a sort in a line.
+-- The first token of a sort among listed ones.
 use mathlib.Core.Path.{_≡_}
 use mathlib.Core.List.{List, [], _∷_}
-use mathlib.Core.Option.{Option, none, some}
-use Prim.Native.Nat.{ℕ, _≤_}
+use Prim.Native.Nat.{ℕ, suc, _<_}
 use lib.IntN.{ℤ, pos}
-use lib.ListN.{length}
-use lib.Dec.{eqb}
-use Rattle.meaning.specs.Basics.{ifElse, isSome}
-use Rattle.grammar.specs.Grammar.{Token, name}
+use lib.ListN.{length, getD}
+use lib.Dec.{eqb, ltb}
+use Rattle.meaning.specs.Basics.{ifElse}
+use Rattle.meaning.specs.Rows.{naturalOf}
 use Rattle.read_tokens.specs.Sorts as sorts
-use Rattle.read_tokens.specs.Lexemes.{lexemeOf}
-use Rattle.read_scan.specs.declared.Next.{Next}
-use Rattle.read_scan.specs.Nexts.{lexemeIn}
-use Rattle.read_scan.specs.Cuts.{partOf}
-use Rattle.read_classes.specs.Parts.{sortOf}
 
--- the first chunk of a sort, if there is one
-unfoldable pub firstOf : ℕ → List (Option Token) → Option Token
-firstOf s [] = none
-firstOf s (o ∷ os) = let rest = firstOf s os in ifElse (eqb (sortOf o) s) o rest
+-- the place of the first token of a sort, the length if there is none
+unfoldable pub placeOfSort : ℕ → List ℕ → ℕ
+placeOfSort s [] = 0
+placeOfSort s (t ∷ ts) = let later = suc (placeOfSort s ts) in ifElse (eqb t s) 0 later
 
--- a token of a line: its sort and value, the places, of a name the letters, at most 31
-pub record FirstIs (line : List ℕ) (o : Option Token) (n : Next) : Type 0 where
-  pub lexeme : lexemeIn n ≡ lexemeOf o
-  pub letters : (b : List ℕ) → o ≡ some (name b) → (b ≡ partOf line (n .from) (n .to)) × (length b ≤ 31)
-  pub wide : n .from ≤ n .to
-  pub within : n .to ≤ length line
+-- the first number, 1 if there is none
+unfoldable pub numberIn : List ℕ → List ℤ → ℤ
+numberIn ss vs = let at = placeOfSort sorts.number ss in ifElse (ltb at (length ss)) (getD vs at (pos 0)) (pos 1)
 
--- the first number of some chunks, 1 if there is none
-abbrev pub numberIn : List (Option Token) → ℤ
-numberIn os = let o = firstOf sorts.number os in ifElse (isSome o) (lexemeOf o .value) (pos 1)
+-- what is listed of the first name
+abbrev pub nameIn : List ℕ → List ℤ → ℕ
+nameIn ss vs = naturalOf (getD vs (placeOfSort sorts.name ss) (pos 0))
+
+-- there is a name, listed by a number that is not negative
+abbrev pub Named : List ℕ → List ℤ → Type 0
+Named ss vs = (placeOfSort sorts.name ss < length vs) × (getD vs (placeOfSort sorts.name ss) (pos 0) ≡ pos (nameIn ss vs))

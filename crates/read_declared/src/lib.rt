@@ -1,18 +1,13 @@
-// The declarations of a text: their names listed, and their rows.
+// The declarations of a text: their names and roles listed, and their rows.
 ghost use mathlib.Core.Path.{_≡_};
-ghost use mathlib.Core.Bool.{true};
-ghost use Prim.Native.Nat.{_+_, _*_, _≤_, _<_};
+ghost use Prim.Native.Nat.{_+_, _≤_, _<_};
 ghost use mathlib.Core.List.{[], _∷_};
 ghost use lib.ListN.{length};
 ghost use lib.Seq.{sets};
-ghost use Rattle.meaning.specs.Basics.{isSome};
-ghost use Rattle.read_table.specs.TableRead.{past};
-ghost use Rattle.read_levels.specs.Kinds.{Outlined};
-ghost use Rattle.read_classes.specs.Parts.{chunksOf};
-ghost use Rattle.read_declared.specs.Firsts.{firstOf, FirstIs, numberIn};
-ghost use Rattle.read_declared.specs.Declarations.{declarationOn, rowOf, numbersOf, EachDeclares, rowsAt, lists, Roomy, TextGathered};
+ghost use Rattle.read_levels.specs.Listing.{listing, SomeTextListed};
+ghost use Rattle.read_declared.specs.Firsts.{placeOfSort, numberIn, nameIn, Named};
+ghost use Rattle.read_declared.specs.Declarations.{rowListed, numbersOf, unlessOne, roleListed, Marked, Listable, ListedAt, GatheredFrom, RoomForRows, RowsPut};
 use read_classes::classes;
-use read_scan::Next;
 use read_tokens::sorts;
 
 // A declaration's row.
@@ -23,54 +18,48 @@ pub struct DeclaredRow {
     pub c: i32,
 }
 
-// The first token of a sort in a line; no token if there is none.
-pub fn first_of(line: &[u8], sort: u8) -> Next
-    ensures { λ r. ⌜ FirstIs (now (line .entry)) (firstOf sort (chunksOf (now (line .entry)))) r ⌝ }
+// The place of the first token of a sort; as many as there are if none is of it.
+pub fn first_of(sorts: &[u8], sort: u8) -> usize
+    ensures { λ r. ⌜ r ≡ placeOfSort sort (now (sorts .entry)) ⌝ }
 {
     let mut at: usize = 0;
-    while at < line.len() {
-        let next = read_scan::next_token(line, at);
-        if next.from == next.to {
-            return Next {
-                sort: sorts::NO_TOKEN,
-                value: 0,
-                from: at,
-                to: at,
-            };
+    while at < sorts.len() {
+        if sorts[at] == sort {
+            return at;
         }
-        if next.sort == sort {
-            return next;
-        }
-        at = next.to;
+        at += 1;
     }
-    Next {
-        sort: sorts::NO_TOKEN,
-        value: 0,
-        from: at,
-        to: at,
-    }
+    at
 }
 
 // The number in a declaration; 1 if it has none.
-fn number_in(line: &[u8]) -> i32
-    ensures { λ r. ⌜ r ≡ numberIn (chunksOf (now (line .entry))) ⌝ }
+fn number_in(sorts: &[u8], values: &[i32]) -> i32
+    requires { ⌜ length (now sorts) ≡ length (now values) ⌝ }
+    ensures { λ r. ⌜ r ≡ numberIn (now (sorts .entry)) (now (values .entry)) ⌝ }
 {
-    let found = first_of(line, sorts::NUMBER);
-    if found.sort == sorts::NO_TOKEN {
+    let at = first_of(sorts, sorts::NUMBER);
+    if sorts.len() <= at {
         return 1;
     }
-    found.value
+    values[at]
 }
 
-// The row of the declaration that a line is, from its bytes after the indentation.
-pub fn declaration_row(line: &[u8]) -> DeclaredRow
-    requires { ⌜ isSome (declarationOn (now line)) ≡ true ⌝ }
-    ensures { λ r. ⌜ numbersOf r ≡ rowOf (declarationOn (now (line .entry))) ⌝ }
+// What is listed of the first name.
+fn name_in(sorts: &[u8], values: &[i32]) -> usize
+    requires { ⌜ Named (now sorts) (now values) ⌝ }
+    ensures { λ r. ⌜ r ≡ nameIn (now (sorts .entry)) (now (values .entry)) ⌝ }
 {
-    let marked = read_classes::first_mark(line);
-    let number = number_in(line);
-    let sort = marked.sort;
-    match sort {
+    values[first_of(sorts, sorts::NAME)] as usize
+}
+
+// The row of the declaration that listed tokens are.
+pub fn declaration_row(sorts: &[u8], values: &[i32]) -> DeclaredRow
+    requires { ⌜ Marked (now sorts) (now values) ⌝ }
+    ensures { λ r. ⌜ numbersOf r ≡ rowListed (now (sorts .entry)) (now (values .entry)) ⌝ }
+{
+    let number = number_in(sorts, values);
+    let mark = sorts[read_classes::first_mark(sorts)];
+    match mark {
         sorts::INT => DeclaredRow {
             kind: 1,
             a: number,
@@ -98,35 +87,83 @@ pub fn declaration_row(line: &[u8]) -> DeclaredRow
     }
 }
 
-// Lists the declarations of a text: where each name begins, how many bytes it has, and where each line begins.
-pub fn gather(
-    text: &[u8],
-    kinds: &[u8],
+// 4 for a size other than 1.
+fn unless_one(size: i32) -> u8
+    ensures { λ r. ⌜ r ≡ unlessOne size ⌝ }
+{
+    if size == 1 {
+        return 0;
+    }
+    4
+}
+
+// The role of the declaration that listed tokens are.
+fn role_of(sorts: &[u8], values: &[i32]) -> u8
+    requires { ⌜ Marked (now sorts) (now values) ⌝ }
+    ensures { λ r. ⌜ r ≡ roleListed (now (sorts .entry)) (now (values .entry)) ⌝ }
+{
+    let more = unless_one(number_in(sorts, values));
+    let mark = sorts[read_classes::first_mark(sorts)];
+    match mark {
+        sorts::INT => more,
+        sorts::CHAN => more + 1,
+        sorts::HOSTIN => 2,
+        _ => 3,
+    }
+}
+
+// Lists the declaration that listed tokens are.
+fn list_declaration(
+    sorts: &[u8],
+    values: &[i32],
+    at: usize,
     froms: &mut [u16],
     sizes: &mut [u8],
-    starts: &mut [u16],
-) -> usize
-    requires { ⌜ Outlined (now text) (now kinds) × Roomy (lists (now froms) (now sizes) (now starts)) ⌝ }
-    ensures { λ r. ⌜ TextGathered (now (text .entry)) (lists (now (froms .entry)) (now (sizes .entry)) (now (starts .entry))) r (lists (now (froms .exit)) (now (sizes .exit)) (now (starts .exit))) ⌝ }
+    roles: &mut [u8],
+)
+    requires { ⌜ Listable (now sorts) (now values) × (at < length (now froms)) × (at < length (now sizes)) × (at < length (now roles)) ⌝ }
+    ensures { λ _. ⌜ ListedAt (now (sorts .entry)) (now (values .entry)) at (now (froms .entry)) (now (sizes .entry)) (now (roles .entry)) (now (froms .exit)) (now (sizes .exit)) (now (roles .exit)) ⌝ }
 {
-    let mut at: usize = 0;
+    let place = name_in(sorts, values);
+    froms[at] = (place / 32) as u16;
+    sizes[at] = (place % 32) as u8;
+    roles[at] = role_of(sorts, values);
+}
+
+// Lists the declarations of a text: where each name begins, how many bytes it has, and its role.
+pub fn gather(
+    kinds: &[u8],
+    count: usize,
+    ends: &[u16],
+    sorts: &[u8],
+    values: &[i32],
+    froms: &mut [u16],
+    sizes: &mut [u8],
+    roles: &mut [u8],
+) -> usize
+    requires { ⌜ SomeTextListed count (listing (now kinds) (now ends) (now sorts) (now values)) × (count ≤ length (now froms)) × (count ≤ length (now sizes)) × (count ≤ length (now roles)) ⌝ }
+    ensures { λ r. ⌜ GatheredFrom count (listing (now (kinds .entry)) (now (ends .entry)) (now (sorts .entry)) (now (values .entry))) r (now (froms .exit)) (now (sizes .exit)) (now (roles .exit)) × (r ≤ count) ⌝ }
+{
     let mut line: usize = 0;
-    let mut count: usize = 0;
-    while at < text.len() {
-        let found = read_lines::line_at(text, at);
+    let mut first: usize = 0;
+    let mut found: usize = 0;
+    while line < count {
+        let end = ends[line] as usize;
         if kinds[line] % 16 <= classes::OTHER_DECLARATION {
-            let from = found.from;
-            let to = found.to;
-            let name = first_of(&text[from..to], sorts::NAME);
-            froms[count] = (from + name.from) as u16;
-            sizes[count] = (name.to - name.from) as u8;
-            starts[count] = at as u16;
-            count += 1;
+            list_declaration(
+                &sorts[first..end],
+                &values[first..end],
+                found,
+                froms,
+                sizes,
+                roles,
+            );
+            found += 1;
         }
+        first = end;
         line += 1;
-        at = found.next;
     }
-    count
+    found
 }
 
 // Writes a row's numbers from a place on.
@@ -140,18 +177,29 @@ fn put_row(rows: &mut [i32], at: usize, kind: i32, a: i32, b: i32, c: i32)
     rows[at + 3] = c;
 }
 
-// Writes the rows of the declarations that stand at some places at the beginning of the lent rows.
-pub fn put_rows(text: &[u8], starts: &[u16], rows: &mut [i32])
-    requires { ⌜ EachDeclares (now text) (now starts) × (4 * length (now starts) ≤ length (now rows)) ⌝ }
-    ensures { λ _. ⌜ now (rows .exit) ≡ past (rowsAt (now (text .entry)) (now (starts .entry))) (now (rows .entry)) ⌝ }
+// Writes the rows of the declarations of a text at the beginning of the lent rows.
+pub fn put_rows(
+    kinds: &[u8],
+    count: usize,
+    ends: &[u16],
+    sorts: &[u8],
+    values: &[i32],
+    rows: &mut [i32],
+)
+    requires { ⌜ RoomForRows count (listing (now kinds) (now ends) (now sorts) (now values)) (now rows) ⌝ }
+    ensures { λ _. ⌜ RowsPut count (listing (now (kinds .entry)) (now (ends .entry)) (now (sorts .entry)) (now (values .entry))) (now (rows .entry)) (now (rows .exit)) ⌝ }
 {
-    let mut count: usize = 0;
-    while count < starts.len() {
-        let line = read_lines::line_at(text, starts[count] as usize);
-        let from = line.from;
-        let to = line.to;
-        let row = declaration_row(&text[from..to]);
-        put_row(rows, 4 * count, row.kind, row.a, row.b, row.c);
-        count += 1;
+    let mut line: usize = 0;
+    let mut first: usize = 0;
+    let mut found: usize = 0;
+    while line < count {
+        let end = ends[line] as usize;
+        if kinds[line] % 16 <= classes::OTHER_DECLARATION {
+            let row = declaration_row(&sorts[first..end], &values[first..end]);
+            put_row(rows, 4 * found, row.kind, row.a, row.b, row.c);
+            found += 1;
+        }
+        first = end;
+        line += 1;
     }
 }

@@ -30,13 +30,13 @@ module _ (names : List (List ℕ)) where
   no-more : (n : ℕ) → suc n + 0 ≡ suc n
   no-more n = omega arith
 
-  pub rows-bare : (n : ℕ) (b : List ℕ) → rowsOf n (bare b) ≡ nameRows (nameRow names b) n false
+  pub rows-bare : (n : ℕ) (b : List ℕ) → rowsOf n (bare b) ≡ nameRows (pos (nameRow names b)) n false
   unfolding rowsFrom formSize
   rows-bare n b = rw (no-more n) refl
 
-  pub rows-at : (n : ℕ) (b : List ℕ) (e : Syn) → rowsOf n (at b e) ≡ nameRows (nameRow names b) n true ++ rowsOf (suc n) e
+  pub rows-at : (n : ℕ) (b : List ℕ) (e : Syn) → rowsOf n (at b e) ≡ nameRows (pos (nameRow names b)) n true ++ rowsOf (suc n) e
   unfolding rowsFrom formSize
-  rows-at n b e = rw (no-more n, written (suc n) e) (ap (λ (l : List ℤ). nameRows (nameRow names b) n true ++ l) (append-nil (rowsOf (suc n) e)))
+  rows-at n b e = rw (no-more n, written (suc n) e) (ap (λ (l : List ℤ). nameRows (pos (nameRow names b)) n true ++ l) (append-nil (rowsOf (suc n) e)))
 
   pub rows-monadic : (n k : ℕ) (e : Syn) → rowsOf n (monadic k e) ≡ monadicRow k n ++ rowsOf (suc n) e
   unfolding rowsFrom formSize

@@ -1,33 +1,31 @@
 -- What the loop that writes the rows keeps.
 use mathlib.Core.Path.{_≡_, refl, sym, ap, ap₂, subst, _∙_}
 use mathlib.Core.Bool.{Bool, true, false, false≢true}
-use mathlib.Core.List.{List, [], _∷_}
+use mathlib.Core.List.{List, [], _∷_, map}
+use mathlib.Core.Option.{Option, none, some}
 use Prim.Native.Nat.{ℕ, zero, suc, _+_, _-_, _*_, _≤_, _<_}
 use native.Mathlib.Omega.{arith}
-use lib.IntN.{ℤ}
-use lib.Dec.{eqb}
-use lib.ListN.{length, getD, set, drop, length-drop}
-use lib.Seq.{getD-set-same, getD-set-other, drop-drop}
+use lib.IntN.{ℤ, pos}
+use lib.ListN.{length, getD, set, drop, drop-of-length-le}
+use lib.Seq.{getD-set-same, getD-set-other, drop-cons}
 use Rattle.meaning.specs.Basics.{ifElse}
 use Rattle.base_top_down.specs.Forms.{Form, formSize, rowsFrom}
-use Rattle.grammar.specs.Grammar.{Token, arith as operator}
-use Rattle.read_scan.specs.declared.Next.{Next}
-use Rattle.read_scan.specs.Nexts.{nextIn, Remains}
-use Rattle.read_scan.proofs.NextLaws.{remains-ends}
+use Rattle.grammar.specs.Grammar.{Token}
+use Rattle.read_tokens.specs.Held.{tokenSort, tokenBy, tokensBy, nameOfRow, tokensResolved}
+use Rattle.read_resolved.specs.Resolved.{rowNames}
 use Rattle.read_marks.specs.declared.Role.{Role}
 use Rattle.read_marks.specs.declared.Role.the-variants.{Operand, RoundOpening, SquareOpening, Closing, Between, Other}
-use Rattle.read_expressions.specs.Overlay.{overlay}
-use Rattle.read_marks.specs.Roles.{roleOf, tokenRole, hadAfter, isBetween}
+use Rattle.read_marks.specs.Roles.{roleOf, hadAfter, isBetween}
 use Rattle.read_marks.specs.Follows.{follows}
 use Rattle.read_marks.specs.Marks.{markOf, Marked}
-use Rattle.read_expressions.specs.TokenRows.{dyadicRow, rowsBySort, sizeBySort, subscripted, lettersOf, lettersAt, NameWithin, tokenRows, tokenSize, operatorOf}
+use Rattle.read_marks.proofs.FollowLaws.{tokenRole}
+use Rattle.read_expressions.specs.Overlay.{overlay}
+use Rattle.read_expressions.specs.TokenRows.{dyadicRow, rowsBySort, sizeBySort, operatorBySort, subscripted}
 use Rattle.read_expressions.specs.Free.{lastFirst, heightAfter, filled}
-use Rattle.read_marks.specs.PartTokens.{tokensIn, orNoTokens}
-use Rattle.read_expressions.specs.Expressions.{formIn}
-use Rattle.read_expressions.proofs.ExpressionLaws.{form-is}
-use Rattle.read_expressions.proofs.NextName.{letters-are, name-within, subscript-next, rows-letters}
-use Rattle.read_expressions.proofs.Laying.{firstRow, freeRows, Takes, Lays, phrase-lays}
-use Rattle.read_marks.proofs.TokenSteps.{Spelt, Following, following, none-left}
+use Rattle.read_expressions.specs.Expressions.{endOf, withRows}
+use Rattle.read_expressions.proofs.ExpressionLaws.{Spelt, spells, form-is}
+use Rattle.read_expressions.proofs.TokenValues.{valued, value-told, rows-valued, operator-valued}
+use Rattle.read_expressions.proofs.Laying.{valueOf, tokenRows, tokenSize, operatorOf, subscriptNext, firstRow, freeRows, Takes, Lays, phrase-lays}
 
 -- The stack of free rows ----------------------------------------------------------------------------------------------------------
 
@@ -38,7 +36,7 @@ beneath free zero i r l = refl
 beneath free (suc h) i r l = ap₂ (λ (x : ℕ) (xs : List ℕ). x ∷ xs) (getD-set-other free i h r 0 (λ e. omega (arith, e, l))) (beneath free h i r (omega (arith, l)))
 
 -- a row is left free, or none is
-pub put-free : (b : Bool) (free : List ℕ) (h r : ℕ) → h < length free → lastFirst (set free h r) (h + markOf b) ≡ freeRows b r (lastFirst free h)
+put-free : (b : Bool) (free : List ℕ) (h r : ℕ) → h < length free → lastFirst (set free h r) (h + markOf b) ≡ freeRows b r (lastFirst free h)
 unfolding lastFirst
 put-free true free h r l =
     let e : h + 1 ≡ suc h = omega arith in
@@ -53,10 +51,10 @@ mark-small : (b : Bool) → markOf b ≤ 1
 mark-small true = omega arith
 mark-small false = omega arith
 
-module _ (names : List (List ℕ)) (limit end : ℕ) (out : List ℤ) where
+module _ (limit end : ℕ) (out : List ℤ) where
   -- an operator has a free row
   taken-free : (q : Role) (k : ℤ) (free : List ℕ) (h n : ℕ) (rows : List ℤ) (later : List ℕ → List ℤ → Type 0) → isBetween q ≡ true
-      → Takes names limit end out q k (lastFirst free h) n rows later → (0 < h) × (getD free (h - 1) 0 < limit)
+      → Takes rowNames limit end out q k (lastFirst free h) n rows later → (0 < h) × (getD free (h - 1) 0 < limit)
   unfolding lastFirst
   taken-free Operand k free h n rows later e w = absurd (false≢true e)
   taken-free RoundOpening k free h n rows later e w = absurd (false≢true e)
@@ -68,7 +66,7 @@ module _ (names : List (List ℕ)) (limit end : ℕ) (out : List ℤ) where
 
   -- and what comes after it
   taken-then : (q : Role) (k : ℤ) (free : List ℕ) (h n : ℕ) (rows : List ℤ) (later : List ℕ → List ℤ → Type 0)
-      → Takes names limit end out q k (lastFirst free h) n rows later
+      → Takes rowNames limit end out q k (lastFirst free h) n rows later
       → later (lastFirst free (ifElse (isBetween q) (h - 1) h)) (ifElse (isBetween q) (overlay rows (4 * getD free (h - 1) 0) (dyadicRow k (getD free (h - 1) 0) n)) rows)
   unfolding lastFirst
   taken-then Operand k free h n rows later w = w
@@ -83,167 +81,192 @@ module _ (names : List (List ℕ)) (limit end : ℕ) (out : List ℤ) where
 
 -- The loop ------------------------------------------------------------------------------------------------------------------------
 
-pub record LayLoop (names : List (List ℕ)) (part : List ℕ) (limit : ℕ) (out : List ℤ) (at k height r : ℕ) (had : Bool) (free : List ℕ) (rows : List ℤ) : Type 0 where
+-- the tokens that are left at a place
+pub record Left (sorts : List ℕ) (values : List ℤ) (k : ℕ) (rest : List Token) : Type 0 where
+  pub sorts-left : drop k sorts ≡ map tokenSort rest
+  pub held-left : tokensResolved (drop k sorts) (drop k values) ≡ map some rest
+
+-- the first of them
+record First (sorts : List ℕ) (values : List ℤ) (k : ℕ) (rest : List Token) : Type 0 where
+  token : Token
+  others : List Token
+  whole : rest ≡ token ∷ others
+  same-sort : getD sorts k 0 ≡ tokenSort token
+  is : tokenBy nameOfRow (getD sorts k 0) (getD values k (pos 0)) ≡ some token
+  left : Left sorts values (suc k) others
+
+first-left : (sorts : List ℕ) (values : List ℤ) (k : ℕ) (rest : List Token) → length sorts ≡ length values → k < length sorts → Left sorts values k rest → First sorts values k rest
+unfolding tokensBy
+first-left sorts values k [] l h m = absurd (let e = ap length (sym (drop-cons sorts k 0 h) ∙ m .sorts-left) in omega (arith, e))
+first-left sorts values k (t ∷ ts) l h m =
+    let es = sym (drop-cons sorts k 0 h) ∙ m .sorts-left in
+    let ev = drop-cons values k (pos 0) (omega (arith, l, h)) in
+    let held = rw (drop-cons sorts k 0 h, ev) at (m .held-left) in
+    record {
+      token = t;
+      others = ts;
+      whole = refl;
+      same-sort = ap (λ (l : List ℕ). getD l 0 0) es;
+      is = ap (λ (os : List (Option Token)). getD os 0 none) held;
+      left = record { sorts-left = ap (drop 1) es; held-left = ap (λ (os : List (Option Token)). drop 1 os) held };
+    }
+
+pub record LayLoop (sorts : List ℕ) (values : List ℤ) (limit : ℕ) (out : List ℤ) (k height r : ℕ) (had : Bool) (free : List ℕ) (rows : List ℤ) : Type 0 where
   pub rest : List Token
-  pub remains : Remains part at rest
-  pub left : drop k (orNoTokens (tokensIn part)) ≡ rest
-  pub lays : Lays names limit limit out had (lastFirst free height) r rows rest
-  pub few : k ≤ at
+  pub left : Left sorts values k rest
+  pub lays : Lays rowNames limit limit out had (lastFirst free height) r rows rest
   pub low : height ≤ k
   pub below : r ≤ limit
 
 -- equal states
-lays-moved : (names : List (List ℕ)) (limit : ℕ) (out : List ℤ) (us : List Token) (b c : Bool) (hs gs : List ℕ) (n m : ℕ) (xs ys : List ℤ) → b ≡ c → hs ≡ gs → n ≡ m → xs ≡ ys
-    → Lays names limit limit out b hs n xs us → Lays names limit limit out c gs m ys us
-lays-moved names limit out us b c hs gs n m xs ys e f g h w =
-    subst (λ (x : Bool). Lays names limit limit out x gs m ys us) e
-    (subst (λ (x : List ℕ). Lays names limit limit out b x m ys us) f
-    (subst (λ (x : ℕ). Lays names limit limit out b hs x ys us) g (subst (λ (x : List ℤ). Lays names limit limit out b hs n x us) h w)))
+lays-moved : (limit : ℕ) (out : List ℤ) (us : List Token) (b c : Bool) (hs gs : List ℕ) (n m : ℕ) (xs ys : List ℤ) → b ≡ c → hs ≡ gs → n ≡ m → xs ≡ ys → Lays rowNames limit limit out b hs n xs us
+    → Lays rowNames limit limit out c gs m ys us
+lays-moved limit out us b c hs gs n m xs ys e f g h w =
+    subst (λ (x : Bool). Lays rowNames limit limit out x gs m ys us) e
+    (subst (λ (x : List ℕ). Lays rowNames limit limit out b x m ys us) f
+    (subst (λ (x : ℕ). Lays rowNames limit limit out b hs x ys us) g (subst (λ (x : List ℤ). Lays rowNames limit limit out b hs n x us) h w)))
 
-pub moved : (names : List (List ℕ)) (part : List ℕ) (limit : ℕ) (out : List ℤ) (at k h i r q : ℕ) (b c : Bool) (fs gs : List ℕ) (xs ys : List ℤ) → i ≡ h → q ≡ r → c ≡ b → gs ≡ fs → ys ≡ xs
-    → LayLoop names part limit out at k h r b fs xs → LayLoop names part limit out at k i q c gs ys
-moved names part limit out at k h i r q b c fs gs xs ys e f g j l m =
-    subst (λ (x : ℕ). LayLoop names part limit out at k x q c gs ys) (sym e)
-    (subst (λ (x : ℕ). LayLoop names part limit out at k h x c gs ys) (sym f)
-    (subst (λ (x : Bool). LayLoop names part limit out at k h r x gs ys) (sym g)
-    (subst (λ (x : List ℕ). LayLoop names part limit out at k h r b x ys) (sym j) (subst (λ (x : List ℤ). LayLoop names part limit out at k h r b fs x) (sym l) m))))
+pub moved : (sorts : List ℕ) (values : List ℤ) (limit : ℕ) (out : List ℤ) (k h i r q : ℕ) (b c : Bool) (fs gs : List ℕ) (xs ys : List ℤ) → i ≡ h → q ≡ r → c ≡ b → gs ≡ fs → ys ≡ xs
+    → LayLoop sorts values limit out k h r b fs xs → LayLoop sorts values limit out k i q c gs ys
+moved sorts values limit out k h i r q b c fs gs xs ys e f g j l m =
+    subst (λ (x : ℕ). LayLoop sorts values limit out k x q c gs ys) (sym e)
+    (subst (λ (x : ℕ). LayLoop sorts values limit out k h x c gs ys) (sym f)
+    (subst (λ (x : Bool). LayLoop sorts values limit out k h r x gs ys) (sym g)
+    (subst (λ (x : List ℕ). LayLoop sorts values limit out k h r b x ys) (sym j) (subst (λ (x : List ℤ). LayLoop sorts values limit out k h r b fs x) (sym l) m))))
 
 -- where it begins
-pub lay-begin : (names : List (List ℕ)) (part : List ℕ) (s : Spelt part) (n : ℕ) (free : List ℕ) (rows : List ℤ) → 4 * (n + formSize (formIn names part)) ≤ length rows
-    → LayLoop names part (n + formSize (formIn names part)) (overlay rows (4 * n) (rowsFrom n (formIn names part))) 0 0 0 n false free rows
+pub lay-begin : (sorts : List ℕ) (values : List ℤ) (s : Spelt sorts values) (n : ℕ) (free : List ℕ) (rows : List ℤ) → 4 * endOf (tokensResolved sorts values) n ≤ length rows
+    → LayLoop sorts values (endOf (tokensResolved sorts values) n) (withRows (tokensResolved sorts values) n rows) 0 0 n false free rows
 unfolding lastFirst
-lay-begin names part s n free rows h =
+lay-begin sorts values s n free rows h =
+    let same = form-is sorts values s in
     record {
       rest = s .tokens;
-      remains = s .remains;
-      left = s .those;
-      lays = subst (λ (f : Form). Lays names (n + formSize f) (n + formSize f) (overlay rows (4 * n) (rowsFrom n f)) false [] n rows (s .tokens)) (sym (form-is names part s))
-          (phrase-lays names (s .expression) (s .spells) n rows (subst (λ (f : Form). 4 * (n + formSize f) ≤ length rows) (form-is names part s) h));
-      few = omega arith;
+      left = record { sorts-left = s .sorts-are; held-left = s .held };
+      lays = subst (λ (f : Form). Lays rowNames (n + formSize f) (n + formSize f) (overlay rows (4 * n) (rowsFrom n f)) false [] n rows (s .tokens)) (sym same)
+          (phrase-lays rowNames (s .expression) (spells sorts values s) n rows (subst (λ (f : Form). 4 * (n + formSize f) ≤ length rows) same h));
       low = omega arith;
       below = omega arith;
     }
 
-module _ (names : List (List ℕ)) (part : List ℕ) (limit : ℕ) (out : List ℤ) (at k height r : ℕ) (had : Bool) (free : List ℕ) (rows : List ℤ) (m : LayLoop names part limit out at k height r had free rows) where
+module _ (sorts : List ℕ) (values : List ℤ) (even : length sorts ≡ length values) (limit : ℕ) (out : List ℤ) (k height r : ℕ) (had : Bool) (free : List ℕ) (rows : List ℤ) (m : LayLoop sorts values limit out k height r had free rows) where
   -- no token is left
-  all-laid : m .rest ≡ [] → (r ≡ limit) × (rows ≡ out)
+  pub all-laid : length sorts ≤ k → (r ≡ limit) × (rows ≡ out)
   unfolding Lays
-  all-laid e = subst (Lays names limit limit out had (lastFirst free height) r rows) e (m .lays)
+  all-laid h = go (m .rest) (sym (drop-of-length-le sorts h) ∙ m .left .sorts-left) (m .lays)
+    where
+      go : (ts : List Token) → [] ≡ map tokenSort ts → Lays rowNames limit limit out had (lastFirst free height) r rows ts → (r ≡ limit) × (rows ≡ out)
+      go [] e w = w
+      go (t ∷ ts) e w = absurd (let l = ap length e in omega (arith, l))
 
-  pub laid-past-end : length part ≤ at → (r ≡ limit) × (rows ≡ out)
-  laid-past-end h = all-laid (none-left part at (m .rest) h (m .remains))
+  module _ (more : k < length sorts) where
+    abbrev sort : ℕ
+    sort = getD sorts k 0
 
-  module _ (n : Next) (is : n ≡ nextIn part at) where
-    pub laid-after-spaces : n .from ≡ n .to → (r ≡ limit) × (rows ≡ out)
-    laid-after-spaces e = all-laid (remains-ends part at n is (m .rest) (m .remains) e)
+    abbrev value : ℤ
+    value = getD values k (pos 0)
 
-    module _ (more : n .from ≡ n .to → ⊥) where
-      f : Following part at n (m .rest)
-      f = following part at n (m .rest) is (m .remains) more
+    f : First sorts values k (m .rest)
+    f = first-left sorts values k (m .rest) even more (m .left)
 
-      pub token-later : at < n .to
-      token-later = f .is .later
+    next-left : Left sorts values (k + 1) (f .others)
+    next-left = let s : suc k ≡ k + 1 = omega arith in subst (λ (x : ℕ). Left sorts values x (f .others)) s (f .left)
 
-      pub token-within : n .to ≤ length part
-      token-within = f .is .within
+    here : Lays rowNames limit limit out had (lastFirst free height) r rows (f .token ∷ f .others)
+    here = subst (Lays rowNames limit limit out had (lastFirst free height) r rows) (f .whole) (m .lays)
 
-      whole : drop k (orNoTokens (tokensIn part)) ≡ f .token ∷ f .others
-      whole = m .left ∙ f .whole
+    same-role : tokenRole (f .token) ≡ roleOf sort
+    same-role = ap roleOf (sym (f .same-sort))
 
-      same-role : tokenRole (f .token) ≡ roleOf (n .sort)
-      same-role = ap roleOf (sym (f .is .same-sort))
+    same-value : valued sort ≡ true → value ≡ valueOf rowNames (f .token)
+    same-value = value-told sort value (f .token) (f .is)
 
-      left-then : drop (k + 1) (orNoTokens (tokensIn part)) ≡ f .others
-      left-then = sym (drop-drop 1 k (orNoTokens (tokensIn part))) ∙ ap (drop 1) whole
+    -- after an operand
+    module _ (read : had ≡ true) where
+      taken : Takes rowNames limit limit out (tokenRole (f .token)) (operatorOf rowNames (f .token)) (lastFirst free height) r rows (λ gs laid. Lays rowNames limit limit out (hadAfter (tokenRole (f .token))) gs r laid (f .others))
+      unfolding Lays
+      taken = subst (λ (b : Bool). Lays rowNames limit limit out b (lastFirst free height) r rows (f .token ∷ f .others)) read here
 
-      -- after an operand
-      module _ (read : had ≡ true) where
-        taken : Takes names limit limit out (tokenRole (f .token)) (operatorOf (f .token)) (lastFirst free height) r rows (λ gs laid. Lays names limit limit out (hadAfter (tokenRole (f .token))) gs r laid (f .others))
-        unfolding Lays
-        taken = subst (λ (b : Bool). Lays names limit limit out b (lastFirst free height) r rows (f .token ∷ f .others)) read (subst (Lays names limit limit out had (lastFirst free height) r rows) (f .whole) (m .lays))
+      pub free-row : isBetween (roleOf sort) ≡ true → (0 < height) × (getD free (height - 1) 0 < limit)
+      free-row e = taken-free limit limit out (tokenRole (f .token)) (operatorOf rowNames (f .token)) free height r rows _ (ap isBetween same-role ∙ e) taken
 
-        pub free-row : isBetween (roleOf (n .sort)) ≡ true → (0 < height) × (getD free (height - 1) 0 < limit)
-        free-row e = taken-free names limit limit out (tokenRole (f .token)) (operatorOf (f .token)) free height r rows _ (ap isBetween same-role ∙ e) taken
+      -- the operator is the listed one
+      same-filled : (b : Bool) → isBetween (roleOf sort) ≡ b
+          → ifElse b (overlay rows (4 * getD free (height - 1) 0) (dyadicRow (operatorOf rowNames (f .token)) (getD free (height - 1) 0) r)) rows
+          ≡ ifElse b (overlay rows (4 * getD free (height - 1) 0) (dyadicRow (operatorBySort sort value) (getD free (height - 1) 0) r)) rows
+      same-filled true e =
+          ap (λ (z : ℤ). overlay rows (4 * getD free (height - 1) 0) (dyadicRow z (getD free (height - 1) 0) r))
+          (ap (λ (s : ℕ). operatorBySort s (valueOf rowNames (f .token))) (sym (f .same-sort)) ∙ sym (operator-valued sort value (valueOf rowNames (f .token)) same-value e))
+      same-filled false e = refl
 
-        pub lay-again-had : LayLoop names part limit out (n .to) (k + 1) (heightAfter (n .sort) height) r (hadAfter (roleOf (n .sort))) free (filled (n .sort) (n .value) (getD free (height - 1) 0) r rows)
-        lay-again-had =
-            let w = taken-then names limit limit out (tokenRole (f .token)) (operatorOf (f .token)) free height r rows _ taken in
-            record {
-              rest = f .others;
-              remains = f .remains;
-              left = left-then;
-              lays = rw (sym (f .is .same-sort), sym (f .is .same-value)) at w;
-              few = omega (arith, m .few, token-later);
-              low = omega (arith, m .low, lower (isBetween (roleOf (n .sort))));
-              below = m .below;
-            }
-          where
-            lower : (b : Bool) → ifElse b (height - 1) height ≤ height
-            lower true = omega arith
-            lower false = omega arith
+      pub lay-again-had : LayLoop sorts values limit out (k + 1) (heightAfter sort height) r (hadAfter (roleOf sort)) free (filled sort value (getD free (height - 1) 0) r rows)
+      lay-again-had =
+          let w = rw same-role at (taken-then limit limit out (tokenRole (f .token)) (operatorOf rowNames (f .token)) free height r rows _ taken) in
+          record {
+            rest = f .others;
+            left = next-left;
+            lays = subst (λ (laid : List ℤ). Lays rowNames limit limit out (hadAfter (roleOf sort)) (lastFirst free (heightAfter sort height)) r laid (f .others)) (same-filled (isBetween (roleOf sort)) refl) w;
+            low = omega (arith, m .low, lower (isBetween (roleOf sort)));
+            below = m .below;
+          }
+        where
+          lower : (b : Bool) → ifElse b (height - 1) height ≤ height
+          lower true = omega arith
+          lower false = omega arith
 
-      -- where an operand is wanted
-      module _ (marks : List ℕ) (right : Marked (orNoTokens (tokensIn part)) marks) (wanted : had ≡ false) where
-        followed : Bool
-        followed = follows (f .token ∷ f .others)
+    -- where an operand is wanted
+    module _ (marks : List ℕ) (right : Marked sorts marks) (wanted : had ≡ false) where
+      follow : Bool
+      follow = follows (map tokenSort (f .token ∷ f .others))
 
-        mark-is : getD marks k 0 ≡ markOf followed
-        unfolding followed
-        mark-is =
-            let l = length-drop k (orNoTokens (tokensIn part)) in
-            let e : length (drop k (orNoTokens (tokensIn part))) ≡ suc (length (f .others)) = ap length whole in
-            right k (omega (arith, l, e)) ∙ ap (λ (ts : List Token). markOf (follows ts)) whole
+      mark-is : getD marks k 0 ≡ markOf follow
+      unfolding follow
+      mark-is = right k more ∙ ap (λ (ss : List ℕ). markOf (follows ss)) (m .left .sorts-left ∙ ap (map tokenSort) (f .whole))
 
-        pub mark-low : getD marks k 0 ≤ 1
-        mark-low = omega (arith, mark-is, mark-small followed)
+      pub mark-low : getD marks k 0 ≤ 1
+      mark-low = omega (arith, mark-is, mark-small follow)
 
-        module _ (after : Next) (next-is : after ≡ nextIn part (n .to)) where
-          abbrev pub sub : Bool
-          sub = eqb (after .sort) 11
+      abbrev sub : Bool
+      sub = subscripted (drop (k + 1) sorts)
 
-          sub-is : sub ≡ subscripted (f .others)
-          sub-is = subscript-next part (n .to) after (f .others) next-is (f .remains)
+      sub-is : sub ≡ subscriptNext (f .others)
+      sub-is = ap subscripted (next-left .sorts-left)
 
-          first : ℕ
-          first = firstRow followed r
+      first : ℕ
+      first = firstRow follow r
 
-          size-same : sizeBySort (n .sort) sub ≡ tokenSize (f .token) (subscripted (f .others))
-          size-same = ap₂ sizeBySort (f .is .same-sort) sub-is
+      size-same : sizeBySort sort sub ≡ tokenSize (f .token) (subscriptNext (f .others))
+      size-same = ap₂ sizeBySort (f .same-sort) sub-is
 
-          row-is : r + getD marks k 0 ≡ first
-          unfolding first
-          row-is = ap (λ (x : ℕ). r + x) mark-is ∙ first-is followed r
+      row-is : r + getD marks k 0 ≡ first
+      unfolding first
+      row-is = ap (λ (x : ℕ). r + x) mark-is ∙ first-is follow r
 
-          begun : (first + tokenSize (f .token) (subscripted (f .others)) ≤ limit)
-              × Lays names limit limit out (hadAfter (tokenRole (f .token))) (freeRows followed r (lastFirst free height)) (first + tokenSize (f .token) (subscripted (f .others))) (overlay rows (4 * first) (tokenRows names first (f .token) (subscripted (f .others)))) (f .others)
-          unfolding Lays first followed
-          begun = subst (λ (b : Bool). Lays names limit limit out b (lastFirst free height) r rows (f .token ∷ f .others)) wanted (subst (Lays names limit limit out had (lastFirst free height) r rows) (f .whole) (m .lays))
+      begun : (first + tokenSize (f .token) (subscriptNext (f .others)) ≤ limit)
+          × Lays rowNames limit limit out (hadAfter (tokenRole (f .token))) (freeRows follow r (lastFirst free height)) (first + tokenSize (f .token) (subscriptNext (f .others))) (overlay rows (4 * first) (tokenRows rowNames first (f .token) (subscriptNext (f .others)))) (f .others)
+      unfolding Lays first follow
+      begun = subst (λ (b : Bool). Lays rowNames limit limit out b (lastFirst free height) r rows (f .token ∷ f .others)) wanted here
 
-          pub token-fits : r + getD marks k 0 + sizeBySort (n .sort) sub ≤ limit
-          token-fits = omega (arith, row-is, size-same, begun .0)
+      pub token-fits : r + getD marks k 0 + sizeBySort sort sub ≤ limit
+      token-fits = omega (arith, row-is, size-same, begun .0)
 
-          pub name-stands : NameWithin part (n .sort) (n .value) (n .from)
-          name-stands = name-within part at n (f .token) (f .is)
+      rows-same : rowsBySort (r + getD marks k 0) sort value sub ≡ tokenRows rowNames first (f .token) (subscriptNext (f .others))
+      rows-same =
+          rows-valued (r + getD marks k 0) sort value (valueOf rowNames (f .token)) sub same-value
+          ∙ (λ i. rowsBySort (row-is i) (f .same-sort i) (valueOf rowNames (f .token)) (sub-is i))
 
-          rows-same : rowsBySort names (r + getD marks k 0) (n .sort) (n .value) (lettersAt part (n .value) (n .from)) sub ≡ tokenRows names first (f .token) (subscripted (f .others))
-          rows-same =
-              rows-letters names (r + getD marks k 0) (n .sort) (n .value) (lettersAt part (n .value) (n .from)) (lettersOf (f .token)) sub (letters-are part at n (f .token) (f .is))
-              ∙ (λ i. rowsBySort names (row-is i) (f .is .same-sort i) (f .is .same-value i) (lettersOf (f .token)) (sub-is i))
-
-          pub lay-again-wanted : height < length free
-              → LayLoop names part limit out (n .to) (k + 1) (height + getD marks k 0) (r + getD marks k 0 + sizeBySort (n .sort) sub) (hadAfter (roleOf (n .sort))) (set free height r) (overlay rows (4 * (r + getD marks k 0)) (rowsBySort names (r + getD marks k 0) (n .sort) (n .value) (lettersAt part (n .value) (n .from)) sub))
-          lay-again-wanted h =
-              let stack : freeRows followed r (lastFirst free height) ≡ lastFirst (set free height r) (height + getD marks k 0)
-              = sym (ap (λ (x : ℕ). lastFirst (set free height r) (height + x)) mark-is ∙ put-free followed free height r h) in
-              let next : first + tokenSize (f .token) (subscripted (f .others)) ≡ r + getD marks k 0 + sizeBySort (n .sort) sub = sym (ap₂ (λ (x y : ℕ). x + y) row-is size-same) in
-              let laid : overlay rows (4 * first) (tokenRows names first (f .token) (subscripted (f .others))) ≡ overlay rows (4 * (r + getD marks k 0)) (rowsBySort names (r + getD marks k 0) (n .sort) (n .value) (lettersAt part (n .value) (n .from)) sub)
-              = sym (ap₂ (λ (x : ℕ) (y : List ℤ). overlay rows (4 * x) y) row-is rows-same) in
-              record {
-                rest = f .others;
-                remains = f .remains;
-                left = left-then;
-                lays = lays-moved names limit out (f .others) _ _ _ _ _ _ _ _ (ap hadAfter same-role) stack next laid (begun .1);
-                few = omega (arith, m .few, token-later);
-                low = omega (arith, m .low, mark-low);
-                below = token-fits;
-              }
+      pub lay-again-wanted : height < length free
+          → LayLoop sorts values limit out (k + 1) (height + getD marks k 0) (r + getD marks k 0 + sizeBySort sort sub) (hadAfter (roleOf sort)) (set free height r) (overlay rows (4 * (r + getD marks k 0)) (rowsBySort (r + getD marks k 0) sort value sub))
+      lay-again-wanted h =
+          let stack : freeRows follow r (lastFirst free height) ≡ lastFirst (set free height r) (height + getD marks k 0)
+          = sym (ap (λ (x : ℕ). lastFirst (set free height r) (height + x)) mark-is ∙ put-free follow free height r h) in
+          let next : first + tokenSize (f .token) (subscriptNext (f .others)) ≡ r + getD marks k 0 + sizeBySort sort sub = sym (ap₂ (λ (x y : ℕ). x + y) row-is size-same) in
+          let laid : overlay rows (4 * first) (tokenRows rowNames first (f .token) (subscriptNext (f .others))) ≡ overlay rows (4 * (r + getD marks k 0)) (rowsBySort (r + getD marks k 0) sort value sub)
+          = sym (ap₂ (λ (x : ℕ) (y : List ℤ). overlay rows (4 * x) y) row-is rows-same) in
+          record {
+            rest = f .others;
+            left = next-left;
+            lays = lays-moved limit out (f .others) _ _ _ _ _ _ _ _ (ap hadAfter same-role) stack next laid (begun .1);
+            low = omega (arith, m .low, mark-low);
+            below = token-fits;
+          }

@@ -1,7 +1,7 @@
 -- Rows written token by token: each token brings its rows, and a row is left free before an operand that an operator follows; the operator fills it.
 use mathlib.Core.Path.{_≡_, refl, sym, ap, subst, _∙_}
 use mathlib.Core.Bool.{Bool, true, false, false≢true}
-use mathlib.Core.List.{List, [], _∷_, _++_, append-assoc, append-nil}
+use mathlib.Core.List.{List, [], _∷_, _++_, map, append-assoc, append-nil}
 use Prim.Native.Nat.{ℕ, suc, _+_, _*_, _≤_, _<_}
 use native.Mathlib.Omega.{arith}
 use lib.IntN.{ℤ, pos}
@@ -11,18 +11,49 @@ use borrow.Author.Tests.{eqb-true}
 use Rattle.meaning.specs.Basics.{ifElse}
 use Rattle.base_top_down.specs.Forms.{formSize, rowsFrom}
 use Rattle.base_top_down.proofs.Flat.{flat-length}
-use Rattle.grammar.specs.Grammar.{Link, both, either, Token, name, number, minus, not-word, given, joins, round-open, round-close, square-open, square-close, Syn, literal, bare, at, monadic, dyadic, linkNumber, Before, minus-before, not-before, Between, minus-between, arith-between, alone, subscripted as with-subscript, element, numeral, bracketed, Phrase, plain, prefixed, asked, paired, chained, last-operand, more}
+use Rattle.grammar.specs.Grammar.{Link, both, either, Token, name, number, minus, not-word, given, arith as operator, joins, round-open, round-close, square-open, square-close, mark, Syn, literal, bare, at, monadic, dyadic, linkNumber, Before, minus-before, not-before, Between, minus-between, arith-between, alone, subscripted as with-subscript, element, numeral, bracketed, Phrase, plain, prefixed, asked, paired, chained, last-operand, more}
 use Rattle.grammar.specs.TextRows.{nameRow, expressionForm}
-use Rattle.read_tokens.specs.Lexemes.{tokenLexeme}
+use Rattle.read_tokens.specs.Held.{tokenSort}
 use Rattle.read_marks.specs.declared.Role.{Role}
 use Rattle.read_marks.specs.declared.Role.the-variants as roles
 use Rattle.read_expressions.specs.Overlay.{overlay}
-use Rattle.read_marks.specs.Roles.{roleOf, tokenRole, hadAfter, isBetween}
+use Rattle.read_marks.specs.Roles.{roleOf, hadAfter, isBetween}
 use Rattle.read_marks.specs.Follows.{follows}
-use Rattle.read_expressions.specs.TokenRows.{nameRows, monadicRow, dyadicRow, rowsBySort, sizeBySort, operatorBySort, subscripted, tokenRows, tokenSize, operatorOf}
+use Rattle.read_expressions.specs.TokenRows.{nameRows, monadicRow, dyadicRow, rowsBySort, sizeBySort, operatorBySort, subscripted}
 use Rattle.read_expressions.proofs.OverlayLaws.{overlay-length, overlay-nothing, overlay-after, overlay-before}
-use Rattle.read_marks.proofs.FollowLaws.{Joining, joining-link, joining-between, Ended, at-end, at-round, at-square, at-operator, told-alone, told-number, told-subscript, told-bracket}
+use Rattle.read_marks.proofs.FollowLaws.{tokenRole, followed, Joining, joining-link, joining-between, Ended, at-end, at-round, at-square, at-operator, told-alone, told-number, told-subscript, told-bracket}
 use Rattle.read_expressions.proofs.FormRows.{sizeOf, rowsOf, rows-bare, rows-at, rows-monadic, rows-dyadic}
+
+-- the value of a token: of a name the row that it means
+abbrev pub valueOf : List (List ℕ) → Token → ℤ
+valueOf names (name n) = pos (nameRow names n)
+valueOf names (number z) = z
+valueOf names minus = pos 0
+valueOf names not-word = pos 0
+valueOf names given = pos 0
+valueOf names (operator k) = pos k
+valueOf names (joins l) = pos 0
+valueOf names round-open = pos 0
+valueOf names round-close = pos 0
+valueOf names square-open = pos 0
+valueOf names square-close = pos 0
+valueOf names (mark m) = pos 0
+
+-- the rows of a token where an operand is wanted, from row n on
+abbrev pub tokenRows : List (List ℕ) → ℕ → Token → Bool → List ℤ
+tokenRows names n t sub = rowsBySort n (tokenSort t) (valueOf names t) sub
+
+-- how many they are
+abbrev pub tokenSize : Token → Bool → ℕ
+tokenSize t sub = sizeBySort (tokenSort t) sub
+
+-- the number of a token that is an operator between operands
+abbrev pub operatorOf : List (List ℕ) → Token → ℤ
+operatorOf names t = operatorBySort (tokenSort t) (valueOf names t)
+
+-- whether the next of some tokens begins a subscript
+abbrev pub subscriptNext : List Token → Bool
+subscriptNext ts = subscripted (map tokenSort ts)
 
 -- the first row of an operand, and the free rows, by whether an operator follows it
 abbrev pub firstRow : Bool → ℕ → ℕ
@@ -46,9 +77,9 @@ module _ (names : List (List ℕ)) (limit end : ℕ) (out : List ℤ) where
   unfoldable pub Lays : Bool → List ℕ → ℕ → List ℤ → List Token → Type 0
   Lays had hs n rows [] = (n ≡ end) × (rows ≡ out)
   Lays false hs n rows (t ∷ ts) =
-      (firstRow (follows (t ∷ ts)) n + tokenSize t (subscripted ts) ≤ limit)
-      × Lays (hadAfter (tokenRole t)) (freeRows (follows (t ∷ ts)) n hs) (firstRow (follows (t ∷ ts)) n + tokenSize t (subscripted ts)) (overlay rows (4 * firstRow (follows (t ∷ ts)) n) (tokenRows names (firstRow (follows (t ∷ ts)) n) t (subscripted ts))) ts
-  Lays true hs n rows (t ∷ ts) = Takes (tokenRole t) (operatorOf t) hs n rows (λ gs laid. Lays (hadAfter (tokenRole t)) gs n laid ts)
+      (firstRow (followed (t ∷ ts)) n + tokenSize t (subscriptNext ts) ≤ limit)
+      × Lays (hadAfter (tokenRole t)) (freeRows (followed (t ∷ ts)) n hs) (firstRow (followed (t ∷ ts)) n + tokenSize t (subscriptNext ts)) (overlay rows (4 * firstRow (followed (t ∷ ts)) n) (tokenRows names (firstRow (followed (t ∷ ts)) n) t (subscriptNext ts))) ts
+  Lays true hs n rows (t ∷ ts) = Takes (tokenRole t) (operatorOf names t) hs n rows (λ gs laid. Lays (hadAfter (tokenRole t)) gs n laid ts)
 
   -- equal states
   carry : (b : Bool) (hs : List ℕ) (us : List Token) (n m : ℕ) (r s : List ℤ) → n ≡ m → r ≡ s → Lays b hs m s us → Lays b hs n r us
@@ -64,15 +95,15 @@ module _ (names : List (List ℕ)) (limit end : ℕ) (out : List ℤ) where
       → Lays true hs (n + sizeOf names e) (overlay rows (4 * n) (rowsOf names n e)) us → Lays false hs n rows (ts ++ us)
 
   -- no subscript begins where an operand has ended
-  no-subscript : {b : Bool} {us : List Token} → Ended b us → subscripted us ≡ false
+  no-subscript : {b : Bool} {us : List Token} → Ended b us → subscriptNext us ≡ false
   unfolding subscripted roleOf
   no-subscript at-end = refl
   no-subscript at-round = refl
   no-subscript at-square = refl
-  no-subscript (at-operator {t} j) = go (eqb (tokenLexeme t .sort) 11) refl
+  no-subscript (at-operator {t} j) = go (eqb (tokenSort t) 11) refl
     where
-      go : (b : Bool) → eqb (tokenLexeme t .sort) 11 ≡ b → b ≡ false
-      go true q = absurd (false≢true (ap (λ (s : ℕ). isBetween (roleOf s)) (sym (eqb-true (tokenLexeme t .sort) 11 q)) ∙ ap isBetween j))
+      go : (b : Bool) → eqb (tokenSort t) 11 ≡ b → b ≡ false
+      go true q = absurd (false≢true (ap (λ (s : ℕ). isBetween (roleOf s)) (sym (eqb-true (tokenSort t) 11 q)) ∙ ap isBetween j))
       go false q = refl
 
   -- rows after others
@@ -103,7 +134,7 @@ module _ (names : List (List ℕ)) (limit end : ℕ) (out : List ℤ) where
   unfolding Lays roleOf rowsBySort sizeBySort formSize subscripted
   lay-subscript x {ts} e q p b us d hs n rows h r w =
       let m = firstRow b n in
-      let top = nameRows (nameRow names x) m true in
+      let top = nameRows (pos (nameRow names x)) m true in
       let g : m + 1 + sizeOf names e ≤ limit = omega (arith, h) in
       let laid = overlay rows (4 * m) top in
       let l : length laid ≡ length rows = overlay-length rows (4 * m) top (omega (arith, g, r)) in
@@ -131,7 +162,7 @@ module _ (names : List (List ℕ)) (limit end : ℕ) (out : List ℤ) where
   lay-plain ts e p us d hs n rows h r w = p false us d hs n rows h r w
 
   -- an operator before its operand
-  module _ (k : ℕ) (t : Token) (sized : (b : Bool) → tokenSize t b ≡ 1) (rowed : (n : ℕ) (b : Bool) → tokenRows names n t b ≡ monadicRow k n) (role : hadAfter (tokenRole t) ≡ false) (unmarked : (us : List Token) → follows (t ∷ us) ≡ false) where
+  module _ (k : ℕ) (t : Token) (sized : (b : Bool) → tokenSize t b ≡ 1) (rowed : (n : ℕ) (b : Bool) → tokenRows names n t b ≡ monadicRow k n) (role : hadAfter (tokenRole t) ≡ false) (unmarked : (us : List Token) → followed (t ∷ us) ≡ false) where
     lay-prefix : (ts : List Token) (e : Syn) → OperandLays ts e → PhraseLays (t ∷ ts) (monadic k e)
     unfolding Lays formSize
     lay-prefix ts e p us d hs n rows h r w =
@@ -140,7 +171,7 @@ module _ (names : List (List ℕ)) (limit end : ℕ) (out : List ℤ) where
         let laid = overlay rows (4 * n) top in
         let l : length laid ≡ length rows = overlay-length rows (4 * n) top (omega (arith, g, r)) in
         let c : n + 1 + sizeOf names e ≡ n + sizeOf names (monadic k e) = omega arith in
-        rw (unmarked (ts ++ us), sized (subscripted (ts ++ us)), rowed n (subscripted (ts ++ us)), role)
+        rw (unmarked (ts ++ us), sized (subscriptNext (ts ++ us)), rowed n (subscriptNext (ts ++ us)), role)
         (omega (arith, g), p false us d hs (n + 1) laid g (omega (arith, l, r)) (carry true hs us _ _ _ _ c (first-then n e top rows refl g r ∙ ap (overlay rows (4 * n)) (sym (rows-monadic names n k e))) w))
 
   lay-before : {t : Token} {k : ℕ} (ts : List Token) (e : Syn) → Before t k → OperandLays ts e → PhraseLays (t ∷ ts) (monadic k e)
@@ -153,7 +184,7 @@ module _ (names : List (List ℕ)) (limit end : ℕ) (out : List ℤ) where
   lay-given ts e p = lay-prefix 2 given (λ b. refl) (λ n b. refl) refl (λ us. refl) ts e p
 
   -- an operator between operands
-  lay-infix : (t : Token) (k : ℕ) (ts vs : List Token) (e f : Syn) → Joining t → operatorOf t ≡ pos k → OperandLays ts e → PhraseLays vs f → PhraseLays (ts ++ (t ∷ vs)) (dyadic k e f)
+  lay-infix : (t : Token) (k : ℕ) (ts vs : List Token) (e f : Syn) → Joining t → operatorOf names t ≡ pos k → OperandLays ts e → PhraseLays vs f → PhraseLays (ts ++ (t ∷ vs)) (dyadic k e f)
   unfolding Lays formSize
   lay-infix t k ts vs e f j o p q us d hs n rows h r w =
       let m = suc n + sizeOf names e in
@@ -181,12 +212,12 @@ module _ (names : List (List ℕ)) (limit end : ℕ) (out : List ℤ) where
             (q us d hs m (overlay rows (4 * n) (top ++ first)) g (omega (arith, len, r)) (carry true hs us _ _ _ _ c two w)),
       )))
 
-  link-number : (l : Link) → operatorOf (joins l) ≡ pos (linkNumber l)
+  link-number : (l : Link) → operatorOf names (joins l) ≡ pos (linkNumber l)
   unfolding operatorBySort
   link-number both = refl
   link-number either = refl
 
-  between-number : {t : Token} {k : ℕ} → Between t k → operatorOf t ≡ pos k
+  between-number : {t : Token} {k : ℕ} → Between t k → operatorOf names t ≡ pos k
   unfolding operatorBySort
   between-number minus-between = refl
   between-number arith-between = refl

@@ -5,11 +5,9 @@ ghost use mathlib.Core.List.{[], _∷_};
 ghost use Prim.Native.Nat.{suc, _+_, _-_, _*_, _≤_, _<_};
 ghost use lib.IntN.{pos};
 ghost use lib.ListN.{length, getD};
-ghost use Rattle.grammar.specs.TextRows.{nameRow};
-ghost use Rattle.read_names.specs.Listed.{namesAt};
 ghost use Rattle.read_expressions.specs.Overlay.{overlay};
 ghost use Rattle.read_marks.specs.Roles.{roleOf, isBetween};
-ghost use Rattle.read_expressions.specs.TokenRows.{nameRows, nameSize, rowsBySort, sizeBySort, operatorBySort, lettersAt, NameWithin};
+ghost use Rattle.read_expressions.specs.TokenRows.{nameRows, nameSize, rowsBySort, sizeBySort, operatorBySort};
 ghost use Rattle.read_expressions.specs.Free.{heightAfter, filled};
 use read_tokens::sorts;
 
@@ -23,7 +21,7 @@ const MONADIC: i32 = 12;
 const DYADIC: i32 = 13;
 
 // Writes the four numbers of row r.
-fn write_row(rows: &mut [i32], r: usize, kind: i32, a: i32, b: i32, c: i32)
+pub fn write_row(rows: &mut [i32], r: usize, kind: i32, a: i32, b: i32, c: i32)
     requires { ⌜ (r < 1024) × (4 * r + 4 ≤ length (now rows)) ⌝ }
     ensures { λ u. ⌜ now (rows .exit) ≡ overlay (now (rows .entry)) (4 * r) (kind ∷ a ∷ b ∷ c ∷ []) ⌝ }
 {
@@ -34,21 +32,12 @@ fn write_row(rows: &mut [i32], r: usize, kind: i32, a: i32, b: i32, c: i32)
     rows[start + 3] = c;
 }
 
-// Writes the rows of a name from row n on; how many rows stand then up to their end.
-fn write_name(
-    name: &[u8],
-    subscripted: bool,
-    text: &[u8],
-    froms: &[u16],
-    sizes: &[u8],
-    n: usize,
-    rows: &mut [i32],
-) -> usize
-    requires { ⌜ (length (now froms) ≤ 32768) × (n + nameSize subscripted ≤ 1024) × (4 * (n + nameSize subscripted) ≤ length (now rows)) ⌝ }
-    ensures { λ r. ⌜ (r ≡ n + nameSize subscripted) × (now (rows .exit) ≡ overlay (now (rows .entry)) (4 * n) (nameRows (nameRow (namesAt (now (text .entry)) (now (froms .entry)) (now (sizes .entry))) (now (name .entry))) n subscripted)) ⌝ }
+// Writes the rows of a name that means a row, from row n on; how many rows stand then up to their end.
+fn write_name(found: i32, subscripted: bool, n: usize, rows: &mut [i32]) -> usize
+    requires { ⌜ (n + nameSize subscripted ≤ 1024) × (4 * (n + nameSize subscripted) ≤ length (now rows)) ⌝ }
+    ensures { λ r. ⌜ (r ≡ n + nameSize subscripted) × (now (rows .exit) ≡ overlay (now (rows .entry)) (4 * n) (nameRows found n subscripted)) ⌝ }
 {
-    let found = read_names::find(text, froms, sizes, name);
-    write_row(rows, n, ELEMENT, found as i32, (n + 1) as i32, 0);
+    write_row(rows, n, ELEMENT, found, (n + 1) as i32, 0);
     if subscripted {
         return n + 1;
     }
@@ -66,34 +55,12 @@ fn write_monadic(k: i32, n: usize, rows: &mut [i32]) -> usize
 }
 
 // The same of a token where an operand is wanted.
-pub fn write_token(
-    part: &[u8],
-    sort: u8,
-    value: i32,
-    from: usize,
-    subscripted: bool,
-    text: &[u8],
-    froms: &[u16],
-    sizes: &[u8],
-    n: usize,
-    rows: &mut [i32],
-) -> usize
-    requires { ⌜ (length (now part) ≤ 32768) × (length (now froms) ≤ 32768) × (n + sizeBySort sort subscripted ≤ 1024) × (4 * (n + sizeBySort sort subscripted) ≤ length (now rows)) × NameWithin (now part) sort value from ⌝ }
-    ensures { λ r. ⌜ (r ≡ n + sizeBySort sort subscripted) × (now (rows .exit) ≡ overlay (now (rows .entry)) (4 * n) (rowsBySort (namesAt (now (text .entry)) (now (froms .entry)) (now (sizes .entry))) n sort value (lettersAt (now (part .entry)) value from) subscripted)) ⌝ }
+pub fn write_token(sort: u8, value: i32, subscripted: bool, n: usize, rows: &mut [i32]) -> usize
+    requires { ⌜ (n + sizeBySort sort subscripted ≤ 1024) × (4 * (n + sizeBySort sort subscripted) ≤ length (now rows)) ⌝ }
+    ensures { λ r. ⌜ (r ≡ n + sizeBySort sort subscripted) × (now (rows .exit) ≡ overlay (now (rows .entry)) (4 * n) (rowsBySort n sort value subscripted)) ⌝ }
 {
     match sort {
-        sorts::NAME => {
-            let size = value as usize;
-            write_name(
-                &part[from..from + size],
-                subscripted,
-                text,
-                froms,
-                sizes,
-                n,
-                rows,
-            )
-        }
+        sorts::NAME => write_name(value, subscripted, n, rows),
         sorts::NUMBER => {
             write_row(rows, n, LITERAL, value, 0, 0);
             n + 1

@@ -11,5 +11,5 @@ use Rattle.grammar.proofs.TextPlaces as places
 use Rattle.read_counts.specs.OwnRows.{AllSpelt}
 use Rattle.read_counts.proofs.RowsCounted.{all-spelt}
 
-pub text-lines : (text : List ℕ) → grammarFault text ≡ none → (ps : Trees) × Text (textLines text) ps × AllSpelt (textLines text)
-text-lines text h = let (_, s, (ps, t)) = places.text-lines text h in (ps, t, all-spelt s)
+pub trees-read : (text : List ℕ) → grammarFault text ≡ none → (ps : Trees) × Text (textLines text) ps × AllSpelt (textLines text)
+trees-read text h = let (_, s, (ps, t)) = places.text-lines text h in (ps, t, all-spelt s)

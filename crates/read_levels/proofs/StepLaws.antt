@@ -19,9 +19,8 @@ use Rattle.grammar.specs.TextBytes.{IsTextLine, textLine}
 use Rattle.grammar.proofs.ClassesTold.{expected-by-class}
 use Rattle.read_classes.specs.ClassNumbers.{numberOf, classNumber}
 use Rattle.read_levels.specs.declared.Step.{Step}
-use Rattle.read_levels.specs.Kinds.{expectNumber, expectAt}
+use Rattle.read_levels.specs.Kinds.{expectNumber, kindNumber, expectAt}
 use Rattle.read_levels.specs.Steps.{noneNumber, beneathNumber, beneathTable, afterTable, tableAt, endedTo, noStep, stepFor, stepAt}
-use Rattle.read_levels.specs.Outlines.{kindIn}
 use Rattle.read_levels.proofs.TableTells.{beneath-tells, no-line-beneath, after-tells, expect-below}
 use Rattle.read_levels.proofs.LevelLaws.{Holds, expect-top, expect-under, refused-deep, refused-unended, accepted}
 
@@ -30,17 +29,17 @@ abbrev pub taking : Levels → ℕ → Option OutlineLine → Option Levels
 taking k l p = takeLine IsTextLine textLine (some k) (atLevel l p)
 
 -- a line that is taken: the levels after it, as the stack then holds them
-pub record Taken (stack : List ℕ) (k : Levels) (l : ℕ) (p : Option OutlineLine) (s : Step) : Type 0 where
+pub record Taken (stack : List ℕ) (k : Levels) (l : ℕ) (x : OutlineLine) (s : Step) : Type 0 where
   pub later : Levels
-  pub taken : taking k l p ≡ some later
+  pub taken : accept k l x ≡ some later
   pub deep : length later ≡ suc (suc l)
   pub holds : Holds (set (set stack l (s .after)) (suc l) (s .beneath)) later
-  pub told : s .kind ≡ kindIn (some k) (atLevel l p)
+  pub told : s .kind ≡ kindNumber (expectAt k l) (classOf x)
 
 -- a line is refused or taken
 pub data Stepped (stack : List ℕ) (k : Levels) (l : ℕ) (p : Option OutlineLine) (s : Step) : Type 0 where
   refused : s .beneath ≡ noneNumber → taking k l p ≡ none → Stepped stack k l p s
-  stands : (s .beneath ≡ noneNumber → ⊥) → Taken stack k l p s → Stepped stack k l p s
+  stands : (x : OutlineLine) → p ≡ some x → (s .beneath ≡ noneNumber → ⊥) → Taken stack k l x s → Stepped stack k l p s
 
 -- two levels more
 module _ (stack : List ℕ) (below : Levels) (a b : Expect) (wide : suc (length below) < length stack) where
@@ -70,6 +69,16 @@ module _ (stack : List ℕ) (below : Levels) (a b : Expect) (wide : suc (length 
       go (no d) (yes f) =
           let e : i ≡ suc (length below) = omega arith in
           rw e (held-top ∙ ap expectNumber (sym (expect-top b (a ∷ below))))
+
+-- no line is taken anywhere
+pub no-line-stepped : (stack : List ℕ) (k : Levels) (l : ℕ) → Holds stack k → (s : Step) → s ≡ stepAt stack (length k) l 0 → s .beneath ≡ noneNumber
+unfolding stepAt
+no-line-stepped stack k l h s e = ap (λ (s : Step). s .beneath) e ∙ go (ltb l (length k)) refl (endedTo stack (suc l) (length k))
+  where
+    go : (t : Bool) → ltb l (length k) ≡ t → (u : Bool) → ifElse t (ifElse u (stepFor (getD stack l 0) 0) noStep) noStep .beneath ≡ noneNumber
+    go true i true = ap (λ (n : ℕ). tableAt beneathTable n 0) (h l (ltb-true l (length k) i)) ∙ no-line-beneath (expectAt k l)
+    go true i false = refl
+    go false i u = refl
 
 module _ (stack : List ℕ) (k : Levels) (l : ℕ) (h : Holds stack k) (wide : suc l < length stack) where
   -- a line at a level that is open, where every deeper one may end
@@ -106,6 +115,8 @@ module _ (stack : List ℕ) (k : Levels) (l : ℕ) (h : Holds stack k) (wide : s
       go none b p = refused b p
       go (some f) b p =
           stands
+          x
+          refl
           (λ z. let n = expect-below f in omega arith)
           record {
             later = f ∷ expectedAfter here x ∷ placed .0;

@@ -1,20 +1,16 @@
 -- The tables tell what is expected beneath a line and after it, and whether a level may end is told by its number.
 use mathlib.Core.Path.{_≡_, refl, ap, _∙_}
-use mathlib.Core.Bool.{Bool, true, false}
 use mathlib.Core.List.{List, []}
 use mathlib.Core.Option.{Option, none, some}
 use Prim.Native.Nat.{ℕ, _<_}
 use native.Mathlib.Omega.{arith}
 use lib.ListN.{getD}
 use lib.Dec.{ltb}
-use Rattle.meaning.specs.Basics.{ifElse}
 use Rattle.grammar.specs.Outline.{Expect, members, choices, options, nothing, one-process, one-member, heads, mayEnd}
 use Rattle.grammar.specs.Classes.{Class, variable-line, other-declaration, leaf, input-line, member-lines, choice-lines, option-lines, while-line, test-line, guard-line, beneathByClass, afterByClass}
 use Rattle.read_classes.specs.ClassNumbers.{numberOf, classNumber}
-use Rattle.read_classes.specs.LineClasses.{classIn}
-use Rattle.read_scan.specs.Cuts.{partOf}
 use Rattle.read_levels.specs.Kinds.{expectNumber}
-use Rattle.read_levels.specs.Steps.{noneNumber, beneathNumber, rowOf, tableOf, tableAt, beneathTable, afterTable, lineClass}
+use Rattle.read_levels.specs.Steps.{noneNumber, beneathNumber, rowOf, tableOf, tableAt, beneathTable, afterTable}
 
 module _ (f : Expect → Class → ℕ) where
   row-at : (e : Expect) → getD (tableOf f) (expectNumber e) [] ≡ rowOf f e
@@ -69,7 +65,8 @@ expect-below one-process = omega arith
 expect-below one-member = omega arith
 expect-below heads = omega arith
 
-class-below : (c : Class) → numberOf c < 11
+-- the numbers of the classes are below 11
+pub class-below : (c : Class) → numberOf c < 11
 class-below variable-line = omega arith
 class-below other-declaration = omega arith
 class-below leaf = omega arith
@@ -81,17 +78,9 @@ class-below while-line = omega arith
 class-below test-line = omega arith
 class-below guard-line = omega arith
 
-class-few : (o : Option Class) → classNumber o < 11
+pub class-few : (o : Option Class) → classNumber o < 11
 class-few none = omega arith
 class-few (some c) = class-below c
-
--- the numbers of the classes are below 11
-pub line-class-few : (text : List ℕ) (from to after : ℕ) → lineClass text from to after < 11
-line-class-few text from to after = go (ltb to after)
-  where
-    go : (t : Bool) → ifElse t (classNumber (classIn (partOf text from to))) 0 < 11
-    go true = class-few (classIn (partOf text from to))
-    go false = omega arith
 
 -- a level may end if its number is low
 pub ends-told : (e : Expect) → ltb (expectNumber e) (expectNumber one-process) ≡ mayEnd e

@@ -1,15 +1,12 @@
 -- What is kept of each line of a text: what is expected where it stands, and its class, in one number.
-use mathlib.Core.Path.{_≡_}
 use mathlib.Core.List.{List, [], _∷_}
 use mathlib.Core.Option.{Option, none, some}
 use Prim.Native.Nat.{ℕ, _+_, _*_}
-use lib.ListN.{length, take}
+use lib.ListN.{length}
 use lib.Dec.{eqb}
 use Rattle.meaning.specs.Basics.{ifElse}
 use Rattle.grammar.specs.Outline.{Lined, lined, Expect, members, choices, options, nothing, one-process, one-member, heads, Levels, acceptLine, outset}
 use Rattle.grammar.specs.Classes.{Class, classOf}
-use Rattle.grammar.specs.TextBytes.{grammarFault}
-use Rattle.grammar.specs.TextRows.{textLines}
 use Rattle.read_classes.specs.ClassNumbers.{numberOf}
 
 -- the number of what is expected
@@ -50,8 +47,3 @@ kindsFrom (e ∷ es) (lined l x ∷ ls) = kindNumber e (classOf x) ∷ kindsFrom
 -- the kinds of the lines of a text
 unfoldable pub kindsOf : List Lined → List ℕ
 kindsOf ls = kindsFrom (expectations outset ls) ls
-
--- a text of the grammar, with the kinds of its lines
-pub record Outlined (text kinds : List ℕ) : Type 0 where
-  pub of-grammar : grammarFault text ≡ none
-  pub held : take (length (textLines text)) kinds ≡ kindsOf (textLines text)

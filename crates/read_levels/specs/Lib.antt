@@ -1,4 +1,4 @@
 pub mod Kinds
-pub mod Places
+pub mod Listing
 pub mod Steps
 pub mod Outlines

@@ -9,8 +9,8 @@ use Rattle.meaning.specs.Basics.{ifElse}
 use Rattle.grammar.specs.Outline.{Expect, members, choices, options, nothing, one-process, one-member, heads}
 use Rattle.grammar.specs.Classes.{Class, variable-line, other-declaration, leaf, input-line, member-lines, choice-lines, option-lines, while-line, test-line, guard-line, beneathByClass, afterByClass}
 use Rattle.read_classes.specs.ClassNumbers.{classNumber}
-use Rattle.read_classes.specs.LineClasses.{classIn}
-use Rattle.read_scan.specs.Cuts.{partOf}
+use Rattle.read_classes.specs.LineClasses.{classBySorts}
+use Rattle.read_tokens.specs.Held.{part}
 use Rattle.read_levels.specs.declared.Step.{Step}
 use Rattle.read_levels.specs.Kinds.{expectNumber}
 
@@ -76,6 +76,6 @@ stepFor e c = record { kind = 16 * e + c; beneath = tableAt beneathTable e c; af
 unfoldable pub stepAt : List ℕ → ℕ → ℕ → ℕ → Step
 stepAt stack depth l c = ifElse (ltb l depth) (ifElse (endedTo stack (suc l) depth) (stepFor (getD stack l 0) c) noStep) noStep
 
--- the class of the line whose symbols stand from a place to a place; without a line feed it is no line
-abbrev pub lineClass : List ℕ → ℕ → ℕ → ℕ → ℕ
-lineClass text from to after = ifElse (ltb to after) (classNumber (classIn (partOf text from to))) (classNumber none)
+-- the class of the line whose tokens stand from a place to a place; without them it is no line
+abbrev pub lineClass : Bool → List ℕ → ℕ → ℕ → ℕ
+lineClass spelt sorts from to = ifElse spelt (classBySorts (part sorts from to)) (classNumber none)

@@ -1,14 +1,16 @@
 // The lines of a text by what is expected where they stand. Refusal 12.
 ghost use mathlib.Core.Path.{_≡_};
+ghost use mathlib.Core.Bool.{true};
 ghost use Prim.Native.Nat.{_≤_, _<_};
 ghost use lib.ListN.{length};
 ghost use Rattle.read_levels.specs.Steps.{beneathTable, afterTable, tableAt, Numbered, endedTo, stepAt, lineClass};
-ghost use Rattle.read_levels.specs.Outlines.{outlined};
+ghost use Rattle.read_levels.specs.Listing.{listing};
+ghost use Rattle.read_levels.specs.Outlines.{Room, OutlineRead};
 
-// Where a text is at fault: nowhere, or at a line.
-pub enum Place {
-    Nowhere,
-    Line(u32),
+// The lines of a text: how many, or at which line it is at fault.
+pub enum Outlined {
+    Lines(usize),
+    Fault(u32),
 }
 
 // What a line does: its kind, and what is expected beneath it and after it at its level. Where it may not stand, none is expected beneath it.
@@ -109,56 +111,72 @@ fn step_at(stack: &[u8], depth: usize, level: usize, class: u8) -> Step
     }
 }
 
-// The class of the line whose symbols stand from a place to a place and that ends at a place; without a line feed it is no line.
-fn class_at(text: &[u8], from: usize, to: usize, next: usize) -> u8
-    requires { ⌜ (from ≤ to) × (to ≤ length (now text)) ⌝ }
-    ensures { λ r. ⌜ r ≡ lineClass (now (text .entry)) from to next ⌝ }
+// The class of the line whose tokens stand from a place to a place; 0 if its bytes are not spelt.
+fn class_at(spelt: bool, sorts: &[u8], from: usize, to: usize) -> u8
+    requires { ⌜ (spelt ≡ true → (from ≤ to) × (to ≤ length (now sorts))) × (length (now sorts) ≤ 32768) ⌝ }
+    ensures { λ r. ⌜ r ≡ lineClass spelt (now (sorts .entry)) from to ⌝ }
 {
-    if next <= to {
+    if !spelt {
         return 0;
     }
-    read_classes::class_of(&text[from..to])
+    read_classes::class_of(&sorts[from..to])
 }
 
-// Where a text is at fault, and the kinds of its lines before that in lent bytes. The stack is for what is expected at each level, the shallowest first.
-fn outline_with(text: &[u8], kinds: &mut [u8], stack: &mut [u8]) -> Place
-    requires { ⌜ (length (now text) ≤ 32768) × (32768 ≤ length (now kinds)) × (16386 ≤ length (now stack)) ⌝ }
-    ensures { λ r. ⌜ (r, now (kinds .exit)) ≡ outlined (now (text .entry)) (now (kinds .entry)) ⌝ }
+// The lines of a text, listed. The stack is for what is expected at each level, the shallowest first.
+fn outline_with(
+    text: &[u8],
+    kinds: &mut [u8],
+    levels: &mut [u16],
+    ends: &mut [u16],
+    sorts: &mut [u8],
+    values: &mut [i32],
+    stack: &mut [u8],
+) -> Outlined
+    requires { ⌜ Room (length (now text)) (now levels) (listing (now kinds) (now ends) (now sorts) (now values)) × (16386 ≤ length (now stack)) ⌝ }
+    ensures { λ r. ⌜ OutlineRead (now (text .entry)) r (now (levels .exit)) (listing (now (kinds .exit)) (now (ends .exit)) (now (sorts .exit)) (now (values .exit))) ⌝ }
 {
     stack[0] = HEADS;
     let mut depth: usize = 1;
     let mut count: usize = 0;
+    let mut first: usize = 0;
     let mut at: usize = 0;
     while at < text.len() {
-        let line = read_lines::line_at(text, at);
+        let line = read_lines::list_line(text, at, first, sorts, values);
         let level = line.level;
-        let next = line.next;
-        let class = class_at(text, line.from, line.to, next);
+        let end = line.count;
+        let class = class_at(line.spelt, sorts, first, end);
         let step = step_at(stack, depth, level, class);
         if step.beneath == NONE {
-            return Place::Line((count + 1) as u32);
+            return Outlined::Fault((count + 1) as u32);
         }
         kinds[count] = step.kind;
+        levels[count] = level as u16;
+        ends[count] = end as u16;
         stack[level] = step.after;
         stack[level + 1] = step.beneath;
         depth = level + 2;
         count += 1;
-        at = next;
+        first = end;
+        at = line.next;
     }
     if ended_to(stack, depth, 0) {
-        return Place::Nowhere;
+        return Outlined::Lines(count);
     }
-    Place::Line((count + 1) as u32)
+    Outlined::Fault((count + 1) as u32)
 }
 
-// Where a text is at fault, and the kinds of its lines before that in lent bytes.
-pub fn outline(text: &[u8], kinds: &mut [u8]) -> Place
-    requires { ⌜ 32768 ≤ length (now kinds) ⌝ }
-    ensures { λ r. ⌜ (r, now (kinds .exit)) ≡ outlined (now (text .entry)) (now (kinds .entry)) ⌝ }
+// The lines of a text, listed: of each its kind, its level and where its tokens end, and the tokens one after the other.
+pub fn outline(
+    text: &[u8],
+    kinds: &mut [u8],
+    levels: &mut [u16],
+    ends: &mut [u16],
+    sorts: &mut [u8],
+    values: &mut [i32],
+) -> Outlined
+    requires { ⌜ Room (length (now text)) (now levels) (listing (now kinds) (now ends) (now sorts) (now values)) ⌝ }
+    ensures { λ r. ⌜ OutlineRead (now (text .entry)) r (now (levels .exit)) (listing (now (kinds .exit)) (now (ends .exit)) (now (sorts .exit)) (now (values .exit))) ⌝ }
 {
-    if 32768 < text.len() {
-        return Place::Line(0);
-    }
     let mut stack = [0u8; 16386];
-    outline_with(text, kinds, &mut stack)
+    outline_with(text, kinds, levels, ends, sorts, values, &mut stack)
 }

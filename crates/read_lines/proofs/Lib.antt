@@ -1,2 +1,4 @@
+pub mod FeedSteps
+pub mod NextRead
+pub mod ListSteps
 pub mod LineLaws
-pub mod LeftLaws

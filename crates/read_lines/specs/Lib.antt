@@ -1,2 +1,2 @@
 pub mod LineParts
-pub mod Left
+pub mod LineRead

@@ -11,10 +11,9 @@ use lib.ListN.{length, getD, set, drop, length-set, length-drop}
 use borrow.Author.Tests.{eqb-true, eqb-false}
 use lib.Seq.{getD-set-same, getD-set-other, drop-drop}
 use Rattle.meaning.specs.Basics.{ifElse}
-use Rattle.grammar.specs.Grammar.{Token}
 use Rattle.read_marks.specs.declared.Role.{Role}
-use Rattle.read_marks.specs.Roles.{tokenRole, hadAfter, depthAfter, isBetween}
-use Rattle.read_marks.specs.Follows.{pastToken, past, follows}
+use Rattle.read_marks.specs.Roles.{roleOf, hadAfter, depthAfter, isBetween}
+use Rattle.read_marks.specs.Follows.{pastToken, followedPast, follows}
 use Rattle.read_marks.specs.Marks.{markOf, Marked, startsAfter, marksAfter}
 use Rattle.read_marks.proofs.WalkLaws.{MayStand, Walks}
 use Rattle.read_marks.proofs.PastSteps.{opened, past-below, lasts, opened-after, goes-on, begins, begins-none, after-none, ends-at, lasts-between}
@@ -23,23 +22,23 @@ use Rattle.read_marks.proofs.PastSteps.{opened, past-below, lasts, open
 abbrev Open : Bool → ℕ → List ℕ → List ℕ → ℕ → Type 0
 Open had d starts marks j = (i : ℕ) × (i < opened had d) × (getD starts i 0 ≡ j) × (getD marks j 0 ≡ 0)
 
-pub record Marking (ts rest : List Token) (k d : ℕ) (had : Bool) (starts marks : List ℕ) : Type 0 where
-  pub left : drop k ts ≡ rest
+pub record Marking (sorts rest : List ℕ) (k d : ℕ) (had : Bool) (starts marks : List ℕ) : Type 0 where
+  pub left : drop k sorts ≡ rest
   pub walks : Walks had d rest
-  pub begun : (i : ℕ) → i < opened had d → (getD starts i 0 < k) × (follows (drop (getD starts i 0) ts) ≡ past (d - i) rest)
-  pub right : (j : ℕ) → j < k → (getD marks j 0 ≡ markOf (follows (drop j ts))) ⊎ Open had d starts marks j
+  pub begun : (i : ℕ) → i < opened had d → (getD starts i 0 < k) × (follows (drop (getD starts i 0) sorts) ≡ followedPast (d - i) rest)
+  pub right : (j : ℕ) → j < k → (getD marks j 0 ≡ markOf (follows (drop j sorts))) ⊎ Open had d starts marks j
 
 -- one token
-module _ (ts : List Token) (t : Token) (rest : List Token) (k d : ℕ) (starts marks : List ℕ) (inStarts : d < length starts) (inMarks : k < length marks) where
+module _ (sorts : List ℕ) (s : ℕ) (rest : List ℕ) (k d : ℕ) (starts marks : List ℕ) (inStarts : d < length starts) (inMarks : k < length marks) where
   abbrev role : Role
-  role = tokenRole t
+  role = roleOf s
 
   -- the tokens after it
-  left-after : drop k ts ≡ t ∷ rest → drop (suc k) ts ≡ rest
-  left-after e = let f : suc k ≡ k + 1 = omega arith in ap (λ (n : ℕ). drop n ts) f ∙ sym (drop-drop 1 k ts) ∙ ap (drop 1) e
+  left-after : drop k sorts ≡ s ∷ rest → drop (suc k) sorts ≡ rest
+  left-after e = let f : suc k ≡ k + 1 = omega arith in ap (λ (n : ℕ). drop n sorts) f ∙ sym (drop-drop 1 k sorts) ∙ ap (drop 1) e
 
   -- where an operand is wanted
-  step-wanted : Marking ts (t ∷ rest) k d false starts marks → Marking ts rest (suc k) (depthAfter role d) (hadAfter role) (set starts d k) (set marks k 0)
+  step-wanted : Marking sorts (s ∷ rest) k d false starts marks → Marking sorts rest (suc k) (depthAfter role d) (hadAfter role) (set starts d k) (set marks k 0)
   unfolding Walks follows
   step-wanted m = record { left = left-after (m .left); walks = m .walks .1; begun = begun; right = right }
     where
@@ -53,15 +52,15 @@ module _ (ts : List Token) (t : Token) (rest : List Token) (k d : ℕ) (starts m
       new = getD-set-same starts d k 0 inStarts
 
       Goal : ℕ → Type 0
-      Goal i = (getD (set starts d k) i 0 < suc k) × (follows (drop (getD (set starts d k) i 0) ts) ≡ past (depthAfter role d - i) rest)
+      Goal i = (getD (set starts d k) i 0 < suc k) × (follows (drop (getD (set starts d k) i 0) sorts) ≡ followedPast (depthAfter role d - i) rest)
 
       first : (l : Bool) → lasts role ≡ l → (i : ℕ) → i < opened l d → Dec (i < d) → Goal i
       first l q i h (yes g) =
           let (a, b) = m .begun i g in
-          subst (λ (x : ℕ). (x < suc k) × (follows (drop x ts) ≡ past (depthAfter role d - i) rest)) (sym (kept i g)) (omega (arith, a), b ∙ past-below t rest d i g)
+          subst (λ (x : ℕ). (x < suc k) × (follows (drop x sorts) ≡ followedPast (depthAfter role d - i) rest)) (sym (kept i g)) (omega (arith, a), b ∙ past-below s rest d i g)
       first true q i h (no g) =
           let e : d ≡ i = omega (arith, h, g) in
-          subst Goal e (subst (λ (x : ℕ). (x < suc k) × (follows (drop x ts) ≡ past (depthAfter role d - d) rest)) (sym new) (omega arith, ap follows (m .left) ∙ begins rest d role may q))
+          subst Goal e (subst (λ (x : ℕ). (x < suc k) × (follows (drop x sorts) ≡ followedPast (depthAfter role d - d) rest)) (sym new) (omega arith, ap follows (m .left) ∙ begins rest d role may q))
       first false q i h (no g) = absurd (g h)
 
       begun : (i : ℕ) → i < opened (hadAfter role) (depthAfter role d) → Goal i
@@ -71,7 +70,7 @@ module _ (ts : List Token) (t : Token) (rest : List Token) (k d : ℕ) (starts m
       same-mark j h = getD-set-other marks k j 0 0 (λ e. omega (arith, e, h))
 
       Right : ℕ → Type 0
-      Right j = (getD (set marks k 0) j 0 ≡ markOf (follows (drop j ts))) ⊎ Open (hadAfter role) (depthAfter role d) (set starts d k) (set marks k 0) j
+      Right j = (getD (set marks k 0) j 0 ≡ markOf (follows (drop j sorts))) ⊎ Open (hadAfter role) (depthAfter role d) (set starts d k) (set marks k 0) j
 
       still : (i : ℕ) → i < d → i < opened (hadAfter role) (depthAfter role d)
       still i h = subst (λ (x : ℕ). i < x) (sym (opened-after role false d may)) (go (lasts role))
@@ -80,7 +79,7 @@ module _ (ts : List Token) (t : Token) (rest : List Token) (k d : ℕ) (starts m
           go true = omega (arith, h)
           go false = h
 
-      older : (j : ℕ) → j < k → (getD marks j 0 ≡ markOf (follows (drop j ts))) ⊎ Open false d starts marks j → Right j
+      older : (j : ℕ) → j < k → (getD marks j 0 ≡ markOf (follows (drop j sorts))) ⊎ Open false d starts marks j → Right j
       older j h (inl e) = inl (same-mark j h ∙ e)
       older j h (inr (i, g, e, z)) = inr (i, still i g, kept i g ∙ e, same-mark j h ∙ z)
 
@@ -99,25 +98,25 @@ module _ (ts : List Token) (t : Token) (rest : List Token) (k d : ℕ) (starts m
   marked : Bool → List ℕ
   marked b = ifElse b (set (set marks k 0) (getD starts d 0) 1) (set marks k 0)
 
-  step-had : Marking ts (t ∷ rest) k d true starts marks → Marking ts rest (suc k) (depthAfter role d) (hadAfter role) starts (marked (isBetween role))
-  unfolding Walks follows past marked
+  step-had : Marking sorts (s ∷ rest) k d true starts marks → Marking sorts rest (suc k) (depthAfter role d) (hadAfter role) starts (marked (isBetween role))
+  unfolding Walks follows followedPast marked
   step-had m = record { left = left-after (m .left); walks = m .walks .1; begun = begun; right = right }
     where
       may : MayStand true d role
       may = m .walks .0
 
-      lately : (getD starts d 0 < k) × (follows (drop (getD starts d 0) ts) ≡ past (d - d) (t ∷ rest))
+      lately : (getD starts d 0 < k) × (follows (drop (getD starts d 0) sorts) ≡ followedPast (d - d) (s ∷ rest))
       lately = m .begun d (omega arith)
 
       -- an operator follows the operand that has been read, or none does, or it goes on
-      told : follows (drop (getD starts d 0) ts) ≡ pastToken role 0 (λ e. past e rest)
-      told = let e : d - d ≡ 0 = omega arith in lately .1 ∙ ap (λ (x : ℕ). past x (t ∷ rest)) e
+      told : follows (drop (getD starts d 0) sorts) ≡ pastToken role 0 (λ e. followedPast e rest)
+      told = let e : d - d ≡ 0 = omega arith in lately .1 ∙ ap (λ (x : ℕ). followedPast x (s ∷ rest)) e
 
       Goal : ℕ → Type 0
-      Goal i = (getD starts i 0 < suc k) × (follows (drop (getD starts i 0) ts) ≡ past (depthAfter role d - i) rest)
+      Goal i = (getD starts i 0 < suc k) × (follows (drop (getD starts i 0) sorts) ≡ followedPast (depthAfter role d - i) rest)
 
       first : (l : Bool) → lasts role ≡ l → (i : ℕ) → i < opened l d → Dec (i < d) → Goal i
-      first l q i h (yes g) = let (a, b) = m .begun i (omega (arith, g)) in (omega (arith, a), b ∙ past-below t rest d i g)
+      first l q i h (yes g) = let (a, b) = m .begun i (omega (arith, g)) in (omega (arith, a), b ∙ past-below s rest d i g)
       first true q i h (no g) = let e : d ≡ i = omega (arith, h, g) in subst Goal e (let a = lately .0 in omega (arith, a), told ∙ goes-on rest d role may q)
       first false q i h (no g) = absurd (g h)
 
@@ -125,7 +124,7 @@ module _ (ts : List Token) (t : Token) (rest : List Token) (k d : ℕ) (starts m
       begun i h = first (lasts role) refl i (subst (λ (x : ℕ). i < x) (opened-after role true d may) h) (decLt i d)
 
       Right : List ℕ → ℕ → Type 0
-      Right ms j = (getD ms j 0 ≡ markOf (follows (drop j ts))) ⊎ Open (hadAfter role) (depthAfter role d) starts ms j
+      Right ms j = (getD ms j 0 ≡ markOf (follows (drop j sorts))) ⊎ Open (hadAfter role) (depthAfter role d) starts ms j
 
       still : (i : ℕ) → i < opened (lasts role) d → i < opened (hadAfter role) (depthAfter role d)
       still i h = subst (λ (x : ℕ). i < x) (sym (opened-after role true d may)) h
@@ -146,10 +145,10 @@ module _ (ts : List Token) (t : Token) (rest : List Token) (k d : ℕ) (starts m
       ended true q c z = inr (d, still d (subst (λ (l : Bool). d < opened l d) (sym q) (omega arith)), refl, cleared (getD starts d 0) (lately .0) ∙ z)
       ended false q c z = inl (cleared (getD starts d 0) (lately .0) ∙ z ∙ ap markOf (sym (told ∙ ends-at rest d role may q ∙ c)))
 
-      older : (b : Bool) → isBetween role ≡ b → (j : ℕ) → j < k → (f : Bool) → eqb j (getD starts d 0) ≡ f → (getD marks j 0 ≡ markOf (follows (drop j ts))) ⊎ Open true d starts marks j → Right (marked b) j
+      older : (b : Bool) → isBetween role ≡ b → (j : ℕ) → j < k → (f : Bool) → eqb j (getD starts d 0) ≡ f → (getD marks j 0 ≡ markOf (follows (drop j sorts))) ⊎ Open true d starts marks j → Right (marked b) j
       older true c j h true q o =
           let a = lately .0 in
-          inl (subst (λ (x : ℕ). getD (marked true) x 0 ≡ markOf (follows (drop x ts))) (sym (eqb-true j (getD starts d 0) q))
+          inl (subst (λ (x : ℕ). getD (marked true) x 0 ≡ markOf (follows (drop x sorts))) (sym (eqb-true j (getD starts d 0) q))
           (getD-set-same (set marks k 0) (getD starts d 0) 1 0 (omega (arith, a, inMarks, length-set marks k 0)) ∙ ap markOf (sym (told ∙ ends-at rest d role may (lasts-between role c) ∙ c))))
       older true c j h false q (inl e) = inl (unset j h q ∙ e)
       older true c j h false q (inr (i, g, e, z)) = go (decLt i d)
@@ -182,25 +181,25 @@ module _ (ts : List Token) (t : Token) (rest : List Token) (k d : ℕ) (starts m
           go (no g) = let e : k ≡ j = omega (arith, h, g) in subst (Right (marked (isBetween role))) e (inl (own (isBetween role) ∙ ap markOf (sym (ap follows (m .left) ∙ after-none rest d role may))))
 
 -- the first token
-pub marks-begin : (ts : List Token) (starts marks : List ℕ) → Walks false 0 ts → Marking ts ts 0 0 false starts marks
-marks-begin ts starts marks w = record { left = refl; walks = w; begun = λ i h. absurd (omega (arith, h)); right = λ j h. absurd (omega (arith, h)) }
+pub marks-begin : (sorts : List ℕ) (starts marks : List ℕ) → Walks false 0 sorts → Marking sorts sorts 0 0 false starts marks
+marks-begin sorts starts marks w = record { left = refl; walks = w; begun = λ i h. absurd (omega (arith, h)); right = λ j h. absurd (omega (arith, h)) }
 
 -- a token
-pub marks-step : (had : Bool) (ts : List Token) (t : Token) (rest : List Token) (k d : ℕ) (starts marks : List ℕ) → d < length starts → k < length marks
-    → Marking ts (t ∷ rest) k d had starts marks
-    → Marking ts rest (suc k) (depthAfter (tokenRole t) d) (hadAfter (tokenRole t)) (startsAfter had k d starts) (marksAfter had (tokenRole t) k d starts marks)
+pub marks-step : (had : Bool) (sorts : List ℕ) (s : ℕ) (rest : List ℕ) (k d : ℕ) (starts marks : List ℕ) → d < length starts → k < length marks
+    → Marking sorts (s ∷ rest) k d had starts marks
+    → Marking sorts rest (suc k) (depthAfter (roleOf s) d) (hadAfter (roleOf s)) (startsAfter had k d starts) (marksAfter had (roleOf s) k d starts marks)
 unfolding startsAfter marksAfter marked
-marks-step false ts t rest k d starts marks h g m = step-wanted ts t rest k d starts marks h g m
-marks-step true ts t rest k d starts marks h g m = step-had ts t rest k d starts marks h g m
+marks-step false sorts s rest k d starts marks h g m = step-wanted sorts s rest k d starts marks h g m
+marks-step true sorts s rest k d starts marks h g m = step-had sorts s rest k d starts marks h g m
 
 -- no token is left
-pub marks-end : (ts : List Token) (k d : ℕ) (had : Bool) (starts marks : List ℕ) → Marking ts [] k d had starts marks → Marked ts marks
-unfolding past
-marks-end ts k d had starts marks m j h = go (m .right j (let l = length-drop k ts in let e : length (drop k ts) ≡ 0 = ap length (m .left) in omega (arith, l, e, h)))
+pub marks-end : (sorts : List ℕ) (k d : ℕ) (had : Bool) (starts marks : List ℕ) → Marking sorts [] k d had starts marks → Marked sorts marks
+unfolding followedPast
+marks-end sorts k d had starts marks m j h = go (m .right j (let l = length-drop k sorts in let e : length (drop k sorts) ≡ 0 = ap length (m .left) in omega (arith, l, e, h)))
   where
-    go : (getD marks j 0 ≡ markOf (follows (drop j ts))) ⊎ Open had d starts marks j → getD marks j 0 ≡ markOf (follows (drop j ts))
+    go : (getD marks j 0 ≡ markOf (follows (drop j sorts))) ⊎ Open had d starts marks j → getD marks j 0 ≡ markOf (follows (drop j sorts))
     go (inl e) = e
-    go (inr (i, g, e, z)) = z ∙ ap markOf (sym (ap (λ (x : ℕ). follows (drop x ts)) (sym e) ∙ m .begun i g .1))
+    go (inr (i, g, e, z)) = z ∙ ap markOf (sym (ap (λ (x : ℕ). follows (drop x sorts)) (sym e) ∙ m .begun i g .1))
 
 -- the lengths stay
 pub starts-length : (had : Bool) (k d : ℕ) (starts : List ℕ) → length (startsAfter had k d starts) ≡ length starts

@@ -5,11 +5,10 @@ use mathlib.Core.List.{List, _∷_}
 use Prim.Native.Nat.{ℕ, zero, suc, _-_, _<_}
 use native.Mathlib.Omega.{arith}
 use Rattle.meaning.specs.Basics.{ifElse}
-use Rattle.grammar.specs.Grammar.{Token}
 use Rattle.read_marks.specs.declared.Role.{Role}
 use Rattle.read_marks.specs.declared.Role.the-variants.{Operand, RoundOpening, SquareOpening, Closing, Between, Other}
-use Rattle.read_marks.specs.Roles.{tokenRole, hadAfter, depthAfter, isBetween}
-use Rattle.read_marks.specs.Follows.{pastToken, past, followsToken}
+use Rattle.read_marks.specs.Roles.{roleOf, hadAfter, depthAfter, isBetween}
+use Rattle.read_marks.specs.Follows.{pastToken, followedPast, followsToken}
 use Rattle.read_marks.proofs.WalkLaws.{MayStand}
 
 -- how many operands are open: one for each open bracket, and the one that has just been read
@@ -34,13 +33,13 @@ below-token Closing x later = refl
 below-token Between x later = refl
 below-token Other x later = refl
 
-pub past-below : (t : Token) (rest : List Token) (d i : ℕ) → i < d → past (d - i) (t ∷ rest) ≡ past (depthAfter (tokenRole t) d - i) rest
-unfolding past
-past-below t rest d i h = go (d - i) refl
+pub past-below : (s : ℕ) (rest : List ℕ) (d i : ℕ) → i < d → followedPast (d - i) (s ∷ rest) ≡ followedPast (depthAfter (roleOf s) d - i) rest
+unfolding followedPast
+past-below s rest d i h = go (d - i) refl
   where
-    go : (x : ℕ) → d - i ≡ x → pastToken (tokenRole t) x (λ e. past e rest) ≡ past (depthAfter (tokenRole t) d - i) rest
+    go : (x : ℕ) → d - i ≡ x → pastToken (roleOf s) x (λ e. followedPast e rest) ≡ followedPast (depthAfter (roleOf s) d - i) rest
     go zero e = absurd (omega (arith, e, h))
-    go (suc x) e = below-token (tokenRole t) x (λ e. past e rest) ∙ ap (λ (y : ℕ). past y rest) (below-depth (tokenRole t) d i x e)
+    go (suc x) e = below-token (roleOf s) x (λ e. followedPast e rest) ∙ ap (λ (y : ℕ). followedPast y rest) (below-depth (roleOf s) d i x e)
 
 -- whether the operand at a token goes on after it
 abbrev pub lasts : Role → Bool
@@ -62,18 +61,18 @@ opened-after Between had d m = refl
 opened-after Other had d m = refl
 
 -- what is said of the operand that begins at, or goes on to, a token
-module _ (rest : List Token) (d : ℕ) where
-  pub goes-on : (r : Role) → MayStand true d r → lasts r ≡ true → pastToken r 0 (λ e. past e rest) ≡ past (depthAfter r d - d) rest
+module _ (rest : List ℕ) (d : ℕ) where
+  pub goes-on : (r : Role) → MayStand true d r → lasts r ≡ true → pastToken r 0 (λ e. followedPast e rest) ≡ followedPast (depthAfter r d - d) rest
   goes-on Operand m l = absurd m
   goes-on RoundOpening m l = absurd m
-  goes-on SquareOpening m l = ap (λ (y : ℕ). past y rest) (omega arith)
+  goes-on SquareOpening m l = ap (λ (y : ℕ). followedPast y rest) (omega arith)
   goes-on Closing m l = absurd (false≢true l)
   goes-on Between m l = absurd (false≢true l)
   goes-on Other m l = absurd (false≢true l)
 
-  pub begins : (r : Role) → MayStand false d r → lasts r ≡ true → followsToken r rest ≡ past (depthAfter r d - d) rest
-  begins Operand m l = ap (λ (y : ℕ). past y rest) (omega arith)
-  begins RoundOpening m l = ap (λ (y : ℕ). past y rest) (omega arith)
+  pub begins : (r : Role) → MayStand false d r → lasts r ≡ true → followsToken r rest ≡ followedPast (depthAfter r d - d) rest
+  begins Operand m l = ap (λ (y : ℕ). followedPast y rest) (omega arith)
+  begins RoundOpening m l = ap (λ (y : ℕ). followedPast y rest) (omega arith)
   begins SquareOpening m l = absurd m
   begins Closing m l = absurd m
   begins Between m l = absurd (false≢true l)
@@ -97,7 +96,7 @@ module _ (rest : List Token) (d : ℕ) where
   after-none Other m = refl
 
   -- where the operand ends
-  pub ends-at : (r : Role) → MayStand true d r → lasts r ≡ false → pastToken r 0 (λ e. past e rest) ≡ isBetween r
+  pub ends-at : (r : Role) → MayStand true d r → lasts r ≡ false → pastToken r 0 (λ e. followedPast e rest) ≡ isBetween r
   ends-at Operand m l = absurd m
   ends-at RoundOpening m l = absurd m
   ends-at SquareOpening m l = absurd (false≢true (sym l))

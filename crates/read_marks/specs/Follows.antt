@@ -1,9 +1,8 @@
--- Whether an operand is followed by an operator between operands, told from its tokens and those after it.
+-- Whether an operand is followed by an operator between operands, told from the sorts of its tokens and of those after it.
 use mathlib.Core.Bool.{Bool, true, false}
 use mathlib.Core.List.{List, [], _∷_}
 use Prim.Native.Nat.{ℕ, zero, suc}
-use Rattle.grammar.specs.Grammar.{Token}
-use Rattle.read_marks.specs.Roles.{tokenRole}
+use Rattle.read_marks.specs.Roles.{roleOf}
 use Rattle.read_marks.specs.declared.Role.{Role}
 use Rattle.read_marks.specs.declared.Role.the-variants.{Operand, RoundOpening, SquareOpening, Closing, Between, Other}
 
@@ -22,20 +21,20 @@ pastToken Other zero later = false
 pastToken Other (suc d) later = later (suc d)
 
 -- whether an operator follows once so many brackets are closed
-unfoldable pub past : ℕ → List Token → Bool
-past d [] = false
-past d (t ∷ ts) = pastToken (tokenRole t) d (λ e. past e ts)
+unfoldable pub followedPast : ℕ → List ℕ → Bool
+followedPast d [] = false
+followedPast d (s ∷ ss) = pastToken (roleOf s) d (λ e. followedPast e ss)
 
 -- an operand that begins with a token
-abbrev pub followsToken : Role → List Token → Bool
-followsToken Operand ts = past 0 ts
-followsToken RoundOpening ts = past 1 ts
-followsToken SquareOpening ts = false
-followsToken Closing ts = false
-followsToken Between ts = false
-followsToken Other ts = false
+abbrev pub followsToken : Role → List ℕ → Bool
+followsToken Operand ss = followedPast 0 ss
+followsToken RoundOpening ss = followedPast 1 ss
+followsToken SquareOpening ss = false
+followsToken Closing ss = false
+followsToken Between ss = false
+followsToken Other ss = false
 
 -- whether an operator follows the operand that some tokens begin with; none does where no operand begins
-unfoldable pub follows : List Token → Bool
+unfoldable pub follows : List ℕ → Bool
 follows [] = false
-follows (t ∷ ts) = followsToken (tokenRole t) ts
+follows (s ∷ ss) = followsToken (roleOf s) ss

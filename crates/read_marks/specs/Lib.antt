@@ -1,4 +1,3 @@
 pub mod Roles
 pub mod Follows
 pub mod Marks
-pub mod PartTokens

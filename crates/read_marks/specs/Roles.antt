@@ -3,9 +3,7 @@ use mathlib.Core.Bool.{Bool, true, false}
 use Prim.Native.Nat.{ℕ, zero, suc}
 use lib.Dec.{eqb}
 use Rattle.meaning.specs.Basics.{ifElse}
-use Rattle.grammar.specs.Grammar.{Token}
 use Rattle.read_tokens.specs.Sorts as sorts
-use Rattle.read_tokens.specs.Lexemes.{tokenLexeme}
 use Rattle.read_marks.specs.declared.Role.{Role}
 use Rattle.read_marks.specs.declared.Role.the-variants.{Operand, RoundOpening, SquareOpening, Closing, Between, Other}
 
@@ -17,10 +15,6 @@ bracketRole s = ifElse (eqb s sorts.roundOpen) RoundOpening (ifElse (eqb s sorts
 unfoldable pub roleOf : ℕ → Role
 roleOf s =
     ifElse (eqb s sorts.name) Operand (ifElse (eqb s sorts.number) Operand (ifElse (eqb s sorts.minus) Between (ifElse (eqb s sorts.arith) Between (ifElse (eqb s sorts.and) Between (ifElse (eqb s sorts.or) Between (bracketRole s))))))
-
--- the role of a token
-abbrev pub tokenRole : Token → Role
-tokenRole t = roleOf (tokenLexeme t .sort)
 
 -- whether an operand has been read after a token
 abbrev pub hadAfter : Role → Bool

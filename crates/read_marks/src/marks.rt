@@ -3,10 +3,8 @@ ghost use mathlib.Core.Path.{_≡_};
 ghost use mathlib.Core.Bool.{true};
 ghost use Prim.Native.Nat.{_≤_, _<_};
 ghost use lib.ListN.{length, getD};
-ghost use Rattle.meaning.specs.Basics.{isSome};
 ghost use Rattle.read_marks.specs.Roles.{roleOf};
-ghost use Rattle.read_marks.specs.Marks.{Marked, startsAfter, marksAfter};
-ghost use Rattle.read_marks.specs.PartTokens.{tokensIn, orNoTokens, phraseOf};
+ghost use Rattle.read_marks.specs.Marks.{PhraseSorts, Marked, startsAfter, marksAfter};
 use crate::roles;
 
 // Notes token k: as the first of an operand, where one is wanted; an operator marks the operand that has been read.
@@ -24,24 +22,19 @@ fn note(sort: u8, had: bool, depth: usize, k: usize, starts: &mut [u16], marks: 
     }
 }
 
-// Marks each token of a part that begins an operand which an operator follows, and no other. The starts are scratch, and so are the marks past the tokens.
-pub fn mark(part: &[u8], starts: &mut [u16], marks: &mut [u8])
-    requires { ⌜ (isSome (phraseOf (tokensIn (now part))) ≡ true) × (length (now part) ≤ 32768) × (length (now part) ≤ length (now starts)) × (length (now part) ≤ length (now marks)) ⌝ }
-    ensures { λ r. ⌜ (length (now (starts .exit)) ≡ length (now (starts .entry))) × (length (now (marks .exit)) ≡ length (now (marks .entry))) × Marked (orNoTokens (tokensIn (now (part .entry)))) (now (marks .exit)) ⌝ }
+// Marks each token of an expression that begins an operand which an operator follows, and no other. The starts are scratch, and so are the marks past the tokens.
+pub fn mark(sorts: &[u8], starts: &mut [u16], marks: &mut [u8])
+    requires { ⌜ PhraseSorts (now sorts) × (length (now sorts) ≤ 32768) × (length (now sorts) ≤ length (now starts)) × (length (now sorts) ≤ length (now marks)) ⌝ }
+    ensures { λ r. ⌜ (length (now (starts .exit)) ≡ length (now (starts .entry))) × (length (now (marks .exit)) ≡ length (now (marks .entry))) × Marked (now (sorts .entry)) (now (marks .exit)) ⌝ }
 {
     let mut had = false;
     let mut depth: usize = 0;
     let mut k: usize = 0;
-    let mut at: usize = 0;
-    while at < part.len() {
-        let next = read_scan::next_token(part, at);
-        if next.from == next.to {
-            return;
-        }
-        note(next.sort, had, depth, k, starts, marks);
-        had = roles::had_after(next.sort);
-        depth = roles::depth_after(next.sort, depth);
+    while k < sorts.len() {
+        let sort = sorts[k];
+        note(sort, had, depth, k, starts, marks);
+        had = roles::had_after(sort);
+        depth = roles::depth_after(sort, depth);
         k += 1;
-        at = next.to;
     }
 }

@@ -1,1 +1,2 @@
+pub mod KeySteps
 pub mod FindSteps

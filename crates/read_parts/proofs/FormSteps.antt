@@ -1,6 +1,6 @@
 -- The rows of a form written part by part.
 use mathlib.Core.Path.{_≡_, refl, sym, ap, ap₂, subst, _∙_}
-use mathlib.Core.Bool.{true, false, false≢true}
+use mathlib.Core.Bool.{true, false≢true}
 use mathlib.Core.List.{List, [], _∷_, _++_, append-nil}
 use mathlib.Core.Option.{Option, none, some}
 use Prim.Native.Nat.{ℕ, suc, _+_, _*_, _≤_, _<_}
@@ -10,48 +10,44 @@ use lib.ListN.{length, set}
 use Rattle.meaning.specs.Basics.{isSome}
 use Rattle.base_top_down.specs.Forms.{Form, absent, number, row, formSize, writtenField, rowOfB, rowOfC, rowsFrom, isRow}
 use Rattle.base_top_down.proofs.Flat.{flat-length}
-use Rattle.grammar.specs.Grammar.{Syn, literal, bare, at, monadic, dyadic}
+use Rattle.grammar.specs.Grammar.{Token, Syn, literal, bare, at, monadic, dyadic}
 use Rattle.grammar.specs.TextRows.{unused}
-use Rattle.read_classes.specs.Parts.{chunksOf}
+use Rattle.read_resolved.specs.Resolved.{rowNames}
+use Rattle.read_classes.specs.Parts.{Parting}
 use Rattle.read_expressions.specs.Overlay.{overlay}
-use Rattle.read_expressions.specs.Expressions.{expressionIn, formOr, formIn, endOf, withRows}
 use Rattle.read_expressions.proofs.OverlayLaws.{overlay-length, overlay-after, overlay-before}
-use Rattle.read_parts.specs.PartForms.{withForm, FormFits, synOf, isPhrase, isElement, Exchanges, asKind, phraseForm, exchangeForm, whileForm}
+use Rattle.read_expressions.specs.Expressions.{expressionIn, formIn, endOf, withRows, Writable, formOr}
+use Rattle.read_parts.specs.PartForms.{withForm, FormFits, elementSyn, Exchanges, asKind, exchangeForm, whileForm}
 use Rattle.read_parts.proofs.OverlaySteps.{set-first, set-fourth}
-
--- the expression and the form of a part, by its chunks
-pub expression-in : (part : List ℕ) → expressionIn part ≡ synOf (chunksOf part)
-unfolding expressionIn
-expression-in part = refl
-
-pub form-in : (names : List (List ℕ)) (part : List ℕ) → formIn names part ≡ phraseForm names (chunksOf part)
-unfolding formIn expressionIn
-form-in names part = refl
 
 -- rows with those of a form keep their length
 pub form-length : (f : Form) (n : ℕ) (rows : List ℤ) → 4 * (n + formSize f) ≤ length rows → length (withForm f n rows) ≡ length rows
 form-length f n rows h = overlay-length rows (4 * n) (rowsFrom n f) (omega (arith, h, flat-length n f))
 
 -- an element's form has an unused field c
-pub element-form : (names : List (List ℕ)) (o : Option Syn) → isElement o ≡ true → (a : Form) × (b : Form) × (formOr names o ≡ row 11 a b unused)
-element-form names none h = absurd (false≢true h)
-element-form names (some (literal z)) h = absurd (false≢true h)
-element-form names (some (bare n)) h = (_, _, refl)
-element-form names (some (at n e)) h = (_, _, refl)
-element-form names (some (monadic k e)) h = absurd (false≢true h)
-element-form names (some (dyadic k e f)) h = absurd (false≢true h)
+pub element-form : (o : Option Syn) → elementSyn o ≡ true → (a : Form) × (b : Form) × (formOr rowNames o ≡ row 11 a b unused)
+element-form none h = absurd (false≢true h)
+element-form (some (literal z)) h = absurd (false≢true h)
+element-form (some (bare n)) h = (_, _, refl)
+element-form (some (at n e)) h = (_, _, refl)
+element-form (some (monadic k e)) h = absurd (false≢true h)
+element-form (some (dyadic k e f)) h = absurd (false≢true h)
+
+expression-row : (o : Option Syn) → isSome o ≡ true → isRow (formOr rowNames o) ≡ true
+expression-row none h = absurd (false≢true h)
+expression-row (some (literal z)) h = refl
+expression-row (some (bare n)) h = refl
+expression-row (some (at n e)) h = refl
+expression-row (some (monadic k e)) h = refl
+expression-row (some (dyadic k e f)) h = refl
 
 -- an expression's form is a row
-pub phrase-row : (names : List (List ℕ)) (o : Option Syn) → isSome o ≡ true → isRow (formOr names o) ≡ true
-phrase-row names none h = absurd (false≢true h)
-phrase-row names (some (literal z)) h = refl
-phrase-row names (some (bare n)) h = refl
-phrase-row names (some (at n e)) h = refl
-phrase-row names (some (monadic k e)) h = refl
-phrase-row names (some (dyadic k e f)) h = refl
+pub phrase-row : (os : List (Option Token)) → isSome (expressionIn os) ≡ true → isRow (formIn os) ≡ true
+unfolding formIn
+phrase-row os h = expression-row (expressionIn os) h
 
 -- an element is an expression
-pub element-some : (o : Option Syn) → isElement o ≡ true → isSome o ≡ true
+element-some : (o : Option Syn) → elementSyn o ≡ true → isSome o ≡ true
 element-some none h = absurd (false≢true h)
 element-some (some e) h = refl
 
@@ -81,16 +77,16 @@ module _ (k : ℕ) (a b C : Form) (n : ℕ) (rows : List ℤ) (there : isRow C �
       ∙ set-fourth rows (4 * n) (pos k) _ _ (pos 0) (pos m) ((own ++ []) ++ rest) (omega (arith, h))
       ∙ ap₂ (λ (w : ℤ) (l : List ℤ). overlay rows (4 * n) (pos k ∷ writtenField (suc n) a ∷ writtenField (rowOfB n a) b ∷ w ∷ (l ++ rest))) (sym (row-written C m there)) (append-nil own)
 
-module _ (names : List (List ℕ)) (k : ℕ) (before after : List ℕ) (n : ℕ) (rows : List ℤ) (x : Exchanges (chunksOf before) (chunksOf after))
-    (f : FormFits (exchangeForm names k (chunksOf before) (chunksOf after)) n rows) where
+module _ (k : ℕ) (p : Parting) (n : ℕ) (rows : List ℤ) (x : Exchanges p) (f : FormFits (exchangeForm k p) n rows) where
   abbrev A : Form
-  A = phraseForm names (chunksOf before)
+  A = formIn (p .before)
 
   abbrev C : Form
-  C = phraseForm names (chunksOf after)
+  C = formIn (p .after)
 
-  abbrev parts : (a : Form) × (b : Form) × (A ≡ row 11 a b unused)
-  parts = element-form names (synOf (chunksOf before)) (x .0)
+  parts : (a : Form) × (b : Form) × (A ≡ row 11 a b unused)
+  unfolding formIn
+  parts = element-form (expressionIn (p .before)) (x .0)
 
   size-first : formSize A ≡ suc (formSize (parts .0) + formSize (parts .1) + 0)
   unfolding formSize
@@ -101,45 +97,35 @@ module _ (names : List (List ℕ)) (k : ℕ) (before after : List ℕ) (n : ℕ)
   size-both = ap (λ (g : Form). formSize (asKind k g C)) (parts .2)
 
   -- the element can be written
-  pub first-fits : (isSome (expressionIn before) ≡ true) × (endOf names before n ≤ 1024) × (4 * endOf names before n ≤ length rows)
-  first-fits =
-      let e : formSize (formIn names before) ≡ formSize A = ap formSize (form-in names before) in
-      (ap isSome (expression-in before) ∙ element-some (synOf (chunksOf before)) (x .0), omega (arith, f .0, size-first, size-both, e), omega (arith, f .1, size-first, size-both, e))
+  pub first-fits : Writable (p .before) n rows
+  first-fits = (element-some (expressionIn (p .before)) (x .0), omega (arith, f .0, size-first, size-both), omega (arith, f .1, size-first, size-both))
 
-  module _ (m : ℕ) (one : List ℤ) (em : m ≡ endOf names before n) (e1 : one ≡ withRows names before n rows) where
+  module _ (m : ℕ) (one : List ℤ) (em : m ≡ endOf (p .before) n) (e1 : one ≡ withRows (p .before) n rows) where
     length-one : length one ≡ length rows
-    length-one =
-        ap length e1 ∙ form-length (formIn names before) n rows (first-fits .2)
+    length-one = ap length e1 ∙ form-length A n rows (first-fits .2)
 
     -- then what stands after the mark
-    pub second-fits : (isSome (expressionIn after) ≡ true) × (endOf names after m ≤ 1024) × (4 * endOf names after m ≤ length one)
-    second-fits =
-        let e : formSize (formIn names before) ≡ formSize A = ap formSize (form-in names before) in
-        let g : formSize (formIn names after) ≡ formSize C = ap formSize (form-in names after) in
-        (ap isSome (expression-in after) ∙ x .1, omega (arith, f .0, size-first, size-both, e, g, em), omega (arith, f .1, size-first, size-both, e, g, em, length-one))
+    pub second-fits : Writable (p .after) m one
+    second-fits = (x .1, omega (arith, f .0, size-first, size-both, em), omega (arith, f .1, size-first, size-both, em, length-one))
 
-    module _ (r : ℕ) (two : List ℤ) (er : r ≡ endOf names after m) (e2 : two ≡ withRows names after m one) where
+    module _ (r : ℕ) (two : List ℤ) (er : r ≡ endOf (p .after) m) (e2 : two ≡ withRows (p .after) m one) where
       -- the element's row can be stored again
       pub amend-fits : (m ≤ 1024) × (4 * n + 4 ≤ length two) × (n < 1024)
       amend-fits =
-          let e : formSize (formIn names before) ≡ formSize A = ap formSize (form-in names before) in
-          let l = ap length e2 ∙ form-length (formIn names after) m one (second-fits .2) ∙ length-one in
-          (omega (arith, f .0, size-first, size-both, e, em), omega (arith, f .1, size-both, l), omega (arith, f .0, size-both))
+          let l = ap length e2 ∙ form-length C m one (second-fits .2) ∙ length-one in
+          (omega (arith, f .0, size-first, size-both, em), omega (arith, f .1, size-both, l), omega (arith, f .0, size-both))
 
       -- and the rows are those of both
       pub exchange-laid : (r ≡ n + formSize (asKind k A C)) × (set (set two (4 * n) (pos k)) (4 * n + 3) (pos m) ≡ withForm (asKind k A C) n rows)
       exchange-laid =
           let (a, b, q) = parts in
-          let e : formSize (formIn names before) ≡ formSize A = ap formSize (form-in names before) in
-          let g : formSize (formIn names after) ≡ formSize C = ap formSize (form-in names after) in
-          let em' : m ≡ rowOfC n a b = omega (arith, em, e, size-first) in
+          let em' : m ≡ rowOfC n a b = omega (arith, em, size-first) in
           let long : 4 * (n + formSize (row k a b C)) ≤ length rows = subst (λ (h : Form). 4 * (n + formSize (asKind k h C)) ≤ length rows) q (f .1) in
-          let o1 : one ≡ withForm (row 11 a b unused) n rows = e1 ∙ ap (λ (h : Form). withForm h n rows) (form-in names before ∙ q) in
-          let o2 : two ≡ withForm C (rowOfC n a b) (withForm (row 11 a b unused) n rows) =
-          e2 ∙ ap (λ (h : Form). withForm h m one) (form-in names after) ∙ ap₂ (λ (d : ℕ) (l : List ℤ). withForm C d l) em' o1 in (
-            omega (arith, er, em, e, g, size-first, size-both),
+          let o1 : one ≡ withForm (row 11 a b unused) n rows = e1 ∙ ap (λ (h : Form). withForm h n rows) q in
+          let o2 : two ≡ withForm C (rowOfC n a b) (withForm (row 11 a b unused) n rows) = e2 ∙ ap₂ (λ (d : ℕ) (l : List ℤ). withForm C d l) em' o1 in (
+            omega (arith, er, em, size-first, size-both),
             ap₂ (λ (l : List ℤ) (d : ℕ). set (set l (4 * n) (pos k)) (4 * n + 3) (pos d)) o2 em'
-                ∙ again k a b C n rows (phrase-row names (synOf (chunksOf after)) (x .1)) long
+                ∙ again k a b C n rows (phrase-row (p .after) (x .1)) long
                 ∙ ap (λ (h : Form). withForm (asKind k h C) n rows) (sym q),
           )
 
@@ -152,39 +138,34 @@ row-before rows laid out n a b c d xs h e f =
     let g : 4 * (n + 1) ≡ 4 * n + 4 = omega arith in
     f ∙ ap (λ (l : List ℤ). overlay l (4 * n) (a ∷ b ∷ c ∷ d ∷ [])) (e ∙ ap (λ (i : ℕ). overlay rows i xs) g) ∙ overlay-before rows (4 * n) (a ∷ b ∷ c ∷ d ∷ []) xs h
 
-module _ (names : List (List ℕ)) (after : List ℕ) (n : ℕ) (rows : List ℤ) (x : isPhrase (chunksOf after) ≡ true) (f : FormFits (whileForm names (chunksOf after) absent) n rows) where
+module _ (p : Parting) (n : ℕ) (rows : List ℤ) (x : isSome (expressionIn (p .after)) ≡ true) (f : FormFits (whileForm p absent) n rows) where
   abbrev E : Form
-  E = phraseForm names (chunksOf after)
+  E = formIn (p .after)
 
-  size-while : formSize (whileForm names (chunksOf after) absent) ≡ suc (formSize E + 0 + 0)
+  size-while : formSize (whileForm p absent) ≡ suc (formSize E + 0 + 0)
   unfolding formSize
   size-while = refl
 
   -- the expression of WHILE can be written
-  pub while-fits : (isSome (expressionIn after) ≡ true) × (endOf names after (n + 1) ≤ 1024) × (4 * endOf names after (n + 1) ≤ length rows)
-  while-fits =
-      let e : formSize (formIn names after) ≡ formSize E = ap formSize (form-in names after) in
-      (ap isSome (expression-in after) ∙ x, omega (arith, f .0, size-while, e), omega (arith, f .1, size-while, e))
+  pub while-fits : Writable (p .after) (n + 1) rows
+  while-fits = (x, omega (arith, f .0, size-while), omega (arith, f .1, size-while))
 
-  module _ (r : ℕ) (laid : List ℤ) (er : r ≡ endOf names after (n + 1)) (e1 : laid ≡ withRows names after (n + 1) rows) where
-    pub while-end : r ≡ n + formSize (whileForm names (chunksOf after) absent)
-    while-end =
-        let e : formSize (formIn names after) ≡ formSize E = ap formSize (form-in names after) in
-        omega (arith, er, e, size-while)
+  module _ (r : ℕ) (laid : List ℤ) (er : r ≡ endOf (p .after) (n + 1)) (e1 : laid ≡ withRows (p .after) (n + 1) rows) where
+    pub while-end : r ≡ n + formSize (whileForm p absent)
+    while-end = omega (arith, er, size-while)
 
     pub while-room : (r ≤ 2048) × (n < 1024) × (4 * n + 4 ≤ length laid)
     while-room =
-        let l = ap length e1 ∙ form-length (formIn names after) (n + 1) rows (while-fits .2) in
+        let l = ap length e1 ∙ form-length E (n + 1) rows (while-fits .2) in
         (omega (arith, er, while-fits .1), omega (arith, f .0, size-while), omega (arith, f .1, size-while, l))
 
     -- WHILE before its expression
-    pub while-laid : (z : ℤ) (out : List ℤ) → out ≡ overlay laid (4 * n) (pos 33 ∷ pos (n + 1) ∷ z ∷ pos 0 ∷ []) → out ≡ withForm (whileForm names (chunksOf after) (number z)) n rows
+    pub while-laid : (z : ℤ) (out : List ℤ) → out ≡ overlay laid (4 * n) (pos 33 ∷ pos (n + 1) ∷ z ∷ pos 0 ∷ []) → out ≡ withForm (whileForm p (number z)) n rows
     unfolding rowsFrom formSize
     while-laid z out e2 =
         let s : n + 1 ≡ suc n = omega arith in
         let l = flat-length (n + 1) E in
-        let o1 : laid ≡ overlay rows (4 * (n + 1)) (rowsFrom (n + 1) E) = e1 ∙ ap (λ (h : Form). withForm h (n + 1) rows) (form-in names after) in
-        row-before rows laid out n (pos 33) (pos (n + 1)) z (pos 0) (rowsFrom (n + 1) E) (omega (arith, f .1, size-while, l)) o1 e2
+        row-before rows laid out n (pos 33) (pos (n + 1)) z (pos 0) (rowsFrom (n + 1) E) (omega (arith, f .1, size-while, l)) e1 e2
         ∙ ap₂ (λ (w : ℤ) (m : List ℤ). overlay rows (4 * n) (pos 33 ∷ w ∷ z ∷ pos 0 ∷ m))
-        (ap pos s ∙ sym (row-written E (suc n) (phrase-row names (synOf (chunksOf after)) x)))
+        (ap pos s ∙ sym (row-written E (suc n) (phrase-row (p .after) x)))
         (ap (λ (i : ℕ). rowsFrom i E) s ∙ sym (append-nil (rowsFrom (suc n) E ++ []) ∙ append-nil (rowsFrom (suc n) E)))

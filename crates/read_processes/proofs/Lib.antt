@@ -1,4 +1,6 @@
 pub mod OnwardLaws
+pub mod ResolvedLines
+pub mod TextStands
+pub mod PlaceSteps
 pub mod WriteSteps
 pub mod WholeText
-pub mod LineWritten

@@ -20,8 +20,8 @@ use Rattle.read_counts.proofs.OwnSizes.{line-size}
 use Rattle.read_layout.specs.Layout.{processSize, rowBeneath, rowAfter}
 use Rattle.read_layout.proofs.LinePut.{starts-declares}
 use Rattle.read_layout.proofs.BlockRoom.{declaration-none}
-use Rattle.read_sizes.proofs.TextMeasured.{class-starts}
-use Rattle.read_processes.specs.LineRows.{partRowsAt, onwardTo, onwardOf}
+use Rattle.read_sizes.proofs.MeasuredLaws.{class-starts}
+use Rattle.read_processes.specs.Onwards.{partRowsAt, onwardTo, onwardOf}
 
 -- no more than the line makes itself
 pub part-less : (n own : ℕ) → partRowsAt n own ≤ own
@@ -32,7 +32,7 @@ part-less n own = go (eqb n 5)
     go false = omega arith
 
 -- a declaration is told by its class
-class-declares : (x : OutlineLine) → leb (numberOf (classOf x)) 2 ≡ isDeclaration x
+pub class-declares : (x : OutlineLine) → leb (numberOf (classOf x)) 2 ≡ isDeclaration x
 class-declares (declare (variable z n)) = refl
 class-declares (declare (channel z n)) = refl
 class-declares (declare (source n)) = refl

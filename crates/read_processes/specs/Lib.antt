@@ -1,2 +1,2 @@
-pub mod LineRows
+pub mod Onwards
 pub mod Written

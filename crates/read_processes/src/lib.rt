@@ -1,22 +1,12 @@
 // The rows of a text's process, written line by line where they go.
 ghost use mathlib.Core.Path.{_≡_};
 ghost use mathlib.Core.Bool.{_&&_};
-ghost use mathlib.Core.List.{map};
-ghost use Prim.Native.Nat.{_*_, _/_, _%_, _≤_};
+ghost use Prim.Native.Nat.{_/_, _%_, _≤_, _<_};
 ghost use lib.Dec.{eqb, leb};
 ghost use lib.ListN.{length};
-ghost use Rattle.meaning.specs.Rows.{rowCount};
-ghost use Rattle.grammar.specs.Names.{nameOf};
-ghost use Rattle.grammar.specs.TextRows.{declarations, textLines, textRows};
-ghost use Rattle.read_levels.specs.Kinds.{Outlined};
-ghost use Rattle.read_names.specs.Listed.{namesAt};
-ghost use Rattle.read_expressions.specs.Overlay.{overlay};
-ghost use Rattle.read_processes.specs.LineRows.{laidBy, onwardBy, partRowsAt, onwardOf, Standable};
-ghost use Rattle.read_processes.specs.Written.{Sized, processRows, processLaid};
-
-mod line; // line.rt: the rows of one line
-
-use line::lay_line;
+ghost use Rattle.read_levels.specs.Listing.{listing};
+ghost use Rattle.read_processes.specs.Onwards.{partRowsAt, onwardOf};
+ghost use Rattle.read_processes.specs.Written.{spotAt, SomePlaceable, StartsTold, SomePlaced, RowsLaid, SomeReady, RowsWritten};
 use read_classes::classes;
 use read_rows::Spot;
 
@@ -108,34 +98,60 @@ fn next_places(kind: u8, own: usize, row: usize, beneath: usize) -> Onward
     }
 }
 
-// Writes the rows of a line; where the lines beneath it and after it go.
-fn write_line(
-    kind: u8,
-    body: &[u8],
-    text: &[u8],
-    froms: &[u16],
-    sizes: &[u8],
-    spot: Spot,
-    marks: &mut [u8],
-    stack: &mut [u16],
-    rows: &mut [i32],
-) -> Onward
-    requires { ⌜ Standable (namesAt (now text) (now froms) (now sizes)) kind (now body) spot (now rows) × (length (now froms) ≤ 32768) × (32768 ≤ length (now marks)) × (32768 ≤ length (now stack)) ⌝ }
-    ensures { λ r. ⌜ (length (now (marks .exit)) ≡ length (now (marks .entry))) × (length (now (stack .exit)) ≡ length (now (stack .entry))) × (r ≡ onwardBy (namesAt (now (text .entry)) (now (froms .entry)) (now (sizes .entry))) kind (now (body .entry)) spot) × (now (rows .exit) ≡ laidBy (namesAt (now (text .entry)) (now (froms .entry)) (now (sizes .entry))) kind (now (body .entry)) spot (now (rows .entry))) ⌝ }
+// The row where the form of each line begins, by the rows that it makes itself and the rows beneath it; the first goes after those that are declared.
+fn place_lines(
+    kinds: &[u8],
+    count: usize,
+    levels: &[u16],
+    owns: &[usize; 1024],
+    beneath: &[usize; 1024],
+    declared: usize,
+    starts: &mut [usize; 1024],
+)
+    requires { ⌜ SomePlaceable declared (now kinds) count (now levels) (now owns) (now beneath) ⌝ }
+    ensures { λ _. ⌜ StartsTold declared (now (kinds .entry)) count (now (levels .entry)) (now (owns .entry)) (now (beneath .entry)) (now (starts .entry)) (now (starts .exit)) ⌝ }
 {
-    let row = spot.row;
-    let beneath = spot.beneath;
-    lay_line(kind, body, text, froms, sizes, spot, marks, stack, rows);
-    let own = read_counts::line_rows(kind, body) as usize;
-    next_places(kind, own, row, beneath)
+    let mut places = [0usize; 1025];
+    places[0] = declared;
+    let mut line: usize = 0;
+    while line < count {
+        let level = levels[line] as usize;
+        let row = places[level];
+        let onward = next_places(kinds[line], owns[line], row, beneath[line]);
+        starts[line] = row;
+        places[level + 1] = onward.beneath;
+        places[level] = onward.later;
+        line += 1;
+    }
+}
+
+// Where the form of a line goes, and the rows beneath it and after it.
+fn spot_of(
+    starts: &[usize; 1024],
+    beneath: &[usize; 1024],
+    after: &[usize; 1024],
+    rest: &[usize; 1024],
+    line: usize,
+) -> Spot
+    requires { ⌜ line < 1024 ⌝ }
+    ensures { λ r. ⌜ r ≡ spotAt (now (starts .entry)) (now (beneath .entry)) (now (after .entry)) (now (rest .entry)) line ⌝ }
+{
+    Spot {
+        row: starts[line],
+        beneath: beneath[line],
+        later: after[line],
+        rest: rest[line],
+    }
 }
 
 // Writes the rows of all lines, each where its form goes.
 fn write_lines(
-    text: &[u8],
     kinds: &[u8],
-    froms: &[u16],
-    sizes: &[u8],
+    count: usize,
+    ends: &[u16],
+    sorts: &[u8],
+    values: &[i32],
+    starts: &[usize; 1024],
     beneath: &[usize; 1024],
     after: &[usize; 1024],
     rest: &[usize; 1024],
@@ -143,63 +159,72 @@ fn write_lines(
     stack: &mut [u16],
     rows: &mut [i32],
 )
-    requires { ⌜ Sized (now text) (now kinds) (now froms) (now sizes) (now beneath) (now after) (now rest) × (4096 ≤ length (now rows)) × (32768 ≤ length (now marks)) × (32768 ≤ length (now stack)) ⌝ }
-    ensures { λ _. ⌜ (length (now (marks .exit)) ≡ length (now (marks .entry))) × (length (now (stack .exit)) ≡ length (now (stack .entry))) × (now (rows .exit) ≡ processLaid (now (text .entry)) (now (froms .entry)) (now (sizes .entry)) (now (rows .entry))) ⌝ }
+    requires { ⌜ SomePlaced count (listing (now kinds) (now ends) (now sorts) (now values)) (now starts) (now beneath) (now after) (now rest) × (4096 ≤ length (now rows)) × (length (now sorts) ≤ length (now marks)) × (length (now sorts) ≤ length (now stack)) ⌝ }
+    ensures { λ _. ⌜ RowsLaid count (listing (now (kinds .entry)) (now (ends .entry)) (now (sorts .entry)) (now (values .entry))) (now (starts .entry)) (now (beneath .entry)) (now (after .entry)) (now (rest .entry)) (now (rows .entry)) (now (rows .exit)) ⌝ }
 {
-    let mut places = [0usize; 1025];
-    places[0] = froms.len();
-    let mut at: usize = 0;
-    let mut seen: usize = 0;
-    while at < text.len() {
-        let line = read_lines::line_at(text, at);
-        let from = line.from;
-        let to = line.to;
-        let level = line.level;
-        let spot = Spot {
-            row: places[level],
-            beneath: beneath[seen],
-            later: after[seen],
-            rest: rest[seen],
-        };
-        let onward = write_line(
-            kinds[seen],
-            &text[from..to],
-            text,
-            froms,
-            sizes,
+    let mut first: usize = 0;
+    let mut line: usize = 0;
+    while line < count {
+        let end = ends[line] as usize;
+        let spot = spot_of(starts, beneath, after, rest, line);
+        read_rows::write_line(
+            kinds[line],
+            &sorts[first..end],
+            &values[first..end],
             spot,
             marks,
             stack,
             rows,
         );
-        places[level + 1] = onward.beneath;
-        places[level] = onward.later;
-        at = line.next;
-        seen += 1;
+        first = end;
+        line += 1;
     }
 }
 
-// Writes the rows of a text's process after those of its declarations, the names of which are listed.
-pub fn write_process(text: &[u8], kinds: &[u8], froms: &[u16], sizes: &[u8], rows: &mut [i32])
-    requires { ⌜ Outlined (now text) (now kinds) × (rowCount (textRows (now text)) ≤ 1024) × (namesAt (now text) (now froms) (now sizes) ≡ map nameOf (declarations (textLines (now text)))) × (length (now froms) ≡ length (declarations (textLines (now text)))) × (4096 ≤ length (now rows)) ⌝ }
-    ensures { λ _. ⌜ now (rows .exit) ≡ overlay (now (rows .entry)) (4 * length (now (froms .entry))) (processRows (now (text .entry))) ⌝ }
+// Writes the rows of a text's process after those that it declares.
+pub fn write_process(
+    kinds: &[u8],
+    count: usize,
+    levels: &[u16],
+    ends: &[u16],
+    sorts: &[u8],
+    values: &[i32],
+    declared: usize,
+    marks: &mut [u8],
+    stack: &mut [u16],
+    rows: &mut [i32],
+)
+    requires { ⌜ SomeReady declared count (now levels) (listing (now kinds) (now ends) (now sorts) (now values)) × (4096 ≤ length (now rows)) × (length (now sorts) ≤ length (now marks)) × (length (now sorts) ≤ length (now stack)) ⌝ }
+    ensures { λ _. ⌜ RowsWritten declared count (now (levels .entry)) (listing (now (kinds .entry)) (now (ends .entry)) (now (sorts .entry)) (now (values .entry))) (now (rows .entry)) (now (rows .exit)) ⌝ }
 {
+    let mut owns = [0usize; 1024];
     let mut beneath = [0usize; 1024];
     let mut after = [0usize; 1024];
     let mut rest = [0usize; 1024];
-    read_sizes::measure(text, kinds, &mut beneath, &mut after, &mut rest);
-    let mut marks = [0u8; 32768];
-    let mut stack = [0u16; 32769];
-    write_lines(
-        text,
+    let mut starts = [0usize; 1024];
+    read_counts::own_rows(kinds, count, ends, sorts, &mut owns);
+    read_sizes::measure(
         kinds,
-        froms,
-        sizes,
+        count,
+        levels,
+        &owns,
+        &mut beneath,
+        &mut after,
+        &mut rest,
+    );
+    place_lines(kinds, count, levels, &owns, &beneath, declared, &mut starts);
+    write_lines(
+        kinds,
+        count,
+        ends,
+        sorts,
+        values,
+        &starts,
         &beneath,
         &after,
         &rest,
-        &mut marks,
-        &mut stack,
+        marks,
+        stack,
         rows,
     );
 }

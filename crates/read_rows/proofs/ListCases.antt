@@ -11,22 +11,23 @@ use lib.Seq.{sets, length-sets}
 use Rattle.meaning.specs.Basics.{ifElse, isSome}
 use Rattle.base_top_down.specs.Forms.{Form, number, formSize, rowsFrom}
 use Rattle.base_top_down.proofs.Flat.{flat-length}
+use Rattle.grammar.specs.Grammar.{Token}
 use Rattle.grammar.specs.Outline.{Declaration, members, choices, options, nothing, one-member, processBeneath, expectedBeneath, expectedAfter}
 use Rattle.grammar.specs.TextRows.{blockForm, testForm, guardForm}
-use Rattle.read_classes.specs.Parts.{chunksOf, partAtMark}
-use Rattle.read_declared.specs.Declarations.{declarationOn}
+use Rattle.read_resolved.specs.Resolved.{rowNames}
+use Rattle.read_classes.specs.Parts.{partAtMark}
 use Rattle.read_layout.specs.Layout.{linkTo, listedRow, processSize, processRows, blockRow, memberRows, memberBlock}
 use Rattle.read_expressions.specs.Overlay.{overlay}
-use Rattle.read_expressions.specs.Expressions.{expressionIn, formIn, endOf, withRows}
+use Rattle.read_expressions.specs.Expressions.{formIn, withRows, Writable}
 use Rattle.read_expressions.proofs.OverlayLaws.{overlay-length}
 use Rattle.read_rows.specs.declared.Spot.{Spot}
-use Rattle.read_parts.specs.PartForms.{withForm, FormFits, processLaid, sizeBy, guardBy, ProcessWritable, GuardRead}
+use Rattle.read_parts.specs.PartForms.{withForm, FormFits, declarationListed, partLaid, sizeBy, guardBy, ProcessWritable, GuardWritable}
 use Rattle.read_rows.specs.LinesLaid.{laidBy}
 use Rattle.read_parts.proofs.OverlaySteps.{sets-laid}
-use Rattle.read_parts.proofs.FormSteps.{expression-in, form-in, row-before}
+use Rattle.read_parts.proofs.FormSteps.{row-before}
 use Rattle.read_rows.proofs.LineTold.{ProcessTold, line-process, line-guard, line-test}
 use Rattle.read_rows.proofs.StandSteps.{At, rows-length, process-writable, process-rows, process-end}
-use Rattle.read_rows.proofs.LineCases.{block-length, declares-some, starts, starts-not, on-body}
+use Rattle.read_rows.proofs.LineCases.{block-length, declares-some, starts, starts-not, on-os}
 
 -- Choices and options -------------------------------------------------------------------------------------------------------------------
 
@@ -55,72 +56,72 @@ module _ (k : ℕ) (F : Form) (p b t limit : ℕ) (rows : List ℤ) (f : suc p +
         e ∙ ap₂ (λ (m : ℕ) (l : List ℤ). withForm F m l) n q
         ∙ sym (sets-laid w (4 * (suc p + b + t)) (rowsFrom (suc p + b + t) F) (omega (arith, f, long, length-sets rows (4 * p) (listedRow k p b t), flat-length (suc p + b + t) F)))
 
-module _ (names : List (List ℕ)) (kind : ℕ) (body : List ℕ) (spot : Spot) (rows : List ℤ) where
+module _ (kind : ℕ) (os : List (Option Token)) (spot : Spot) (rows : List ℤ) where
   abbrev place : ℕ
   place = spot .row + 1 + spot .beneath + spot .later
 
-  module _ (a : At names kind body spot rows choices) where
+  module _ (a : At kind os spot rows choices) where
     abbrev Test : Form
-    Test = testForm names (a .line)
+    Test = testForm rowNames (a .line)
 
-    test-in : Test ≡ formIn names body
+    test-in : Test ≡ formIn os
     unfolding expectedBeneath
-    test-in = line-test names body (a .line) (a .is-line) (a .under) (a .may-stand) .0 ∙ sym (form-in names body)
+    test-in = line-test os (a .line) (a .is-line) (a .under) (a .may-stand) .0
 
     pub choice-room : (spot .row + spot .beneath + spot .later < 1024) × (4 * spot .row + 4 ≤ length rows)
     choice-room = listed-room 41 Test (spot .row) (spot .beneath) (spot .later) (a .limit) rows (a .room .ends) (a .few) (a .long)
 
     module _ (one : List ℤ) (e1 : one ≡ overlay rows (4 * spot .row) (listedRow 41 (spot .row) (spot .beneath) (spot .later))) where
-      pub choice-fits : (isSome (expressionIn body) ≡ true) × (endOf names body place ≤ 1024) × (4 * endOf names body place ≤ length one)
+      pub choice-fits : Writable os place one
       unfolding expectedBeneath
       choice-fits =
           let g = listed-fits 41 Test (spot .row) (spot .beneath) (spot .later) (a .limit) rows (a .room .ends) (a .few) (a .long) one e1 in
-          let s : formSize Test ≡ formSize (formIn names body) = ap formSize test-in in
-          (ap isSome (expression-in body) ∙ line-test names body (a .line) (a .is-line) (a .under) (a .may-stand) .1, omega (arith, g .0, s), omega (arith, g .1, s))
+          let s : formSize Test ≡ formSize (formIn os) = ap formSize test-in in
+          (line-test os (a .line) (a .is-line) (a .under) (a .may-stand) .1, omega (arith, g .0, s), omega (arith, g .1, s))
 
-      pub choice-laid : (out : List ℤ) → out ≡ withRows names body place one → out ≡ laidBy names kind body spot rows
+      pub choice-laid : (out : List ℤ) → out ≡ withRows os place one → out ≡ laidBy kind os spot rows
       choice-laid out e =
           a .laid out (listed-laid 41 Test (spot .row) (spot .beneath) (spot .later) (a .limit) rows (a .room .ends) (a .few) (a .long) one e1 out
           (e ∙ ap (λ (f : Form). withForm f place one) (sym test-in)))
 
-  module _ (a : At names kind body spot rows options) where
+  module _ (a : At kind os spot rows options) where
     abbrev Guard : Form
-    Guard = guardForm names (a .line)
+    Guard = guardForm rowNames (a .line)
 
-    guard-in : Guard ≡ guardBy names (partAtMark (chunksOf body))
+    guard-in : Guard ≡ guardBy (partAtMark os)
     unfolding expectedBeneath
-    guard-in = line-guard names body (a .line) (a .is-line) (a .under) (a .may-stand) .0
+    guard-in = line-guard os (a .line) (a .is-line) (a .under) (a .may-stand) .0
 
     pub option-room : (spot .row + spot .beneath + spot .later < 1024) × (4 * spot .row + 4 ≤ length rows)
     option-room = listed-room 42 Guard (spot .row) (spot .beneath) (spot .later) (a .limit) rows (a .room .ends) (a .few) (a .long)
 
     module _ (one : List ℤ) (e1 : one ≡ overlay rows (4 * spot .row) (listedRow 42 (spot .row) (spot .beneath) (spot .later))) where
-      pub option-fits : GuardRead (partAtMark (chunksOf body)) × FormFits (guardBy names (partAtMark (chunksOf body))) place one
+      pub option-fits : GuardWritable (partAtMark os) place one
       unfolding expectedBeneath
       option-fits = (
-        line-guard names body (a .line) (a .is-line) (a .under) (a .may-stand) .1,
+        line-guard os (a .line) (a .is-line) (a .under) (a .may-stand) .1,
         subst (λ (f : Form). FormFits f place one) guard-in (listed-fits 42 Guard (spot .row) (spot .beneath) (spot .later) (a .limit) rows (a .room .ends) (a .few) (a .long) one e1),
       )
 
-      pub option-laid : (out : List ℤ) → out ≡ withForm (guardBy names (partAtMark (chunksOf body))) place one → out ≡ laidBy names kind body spot rows
+      pub option-laid : (out : List ℤ) → out ≡ withForm (guardBy (partAtMark os)) place one → out ≡ laidBy kind os spot rows
       option-laid out e =
           a .laid out (listed-laid 42 Guard (spot .row) (spot .beneath) (spot .later) (a .limit) rows (a .room .ends) (a .few) (a .long) one e1 out
           (e ∙ ap (λ (f : Form). withForm f place one) (sym guard-in)))
 
   -- Members -------------------------------------------------------------------------------------------------------------------------
 
-  module _ (a : At names kind body spot rows members) where
+  module _ (a : At kind os spot rows members) where
     -- a block among members
     module _ (h : kind % 16 ≡ 1) where
       block-ends : suc (spot .row) + spot .later ≤ a .limit
-      block-ends = subst (λ (t : Bool). ifElse t (suc (spot .row) + spot .later) (suc (spot .row) + processSize names (a .line) + spot .beneath + spot .later) ≤ a .limit) (starts names kind body spot rows a h) (a .room .ends)
+      block-ends = subst (λ (t : Bool). ifElse t (suc (spot .row) + spot .later) (suc (spot .row) + processSize rowNames (a .line) + spot .beneath + spot .later) ≤ a .limit) (starts kind os spot rows a h) (a .room .ends)
 
       block-follows : (1 ≤ spot .later) × (spot .rest ≤ spot .later)
       unfolding expectedAfter
-      block-follows = a .room .follows (starts names kind body spot rows a h) (ap (λ (t : Bool). ifElse t one-member members) (starts names kind body spot rows a h))
+      block-follows = a .room .follows (starts kind os spot rows a h) (ap (λ (t : Bool). ifElse t one-member members) (starts kind os spot rows a h))
 
-      pub member-declares : isSome (declarationOn body) ≡ true
-      member-declares = declares-some body (a .line) (on-body names kind body spot rows a) (starts names kind body spot rows a h)
+      pub member-declares : isSome (declarationListed os) ≡ true
+      member-declares = declares-some os (a .line) (on-os kind os spot rows a) (starts kind os spot rows a h)
 
       pub member-low : (spot .row + 1 + spot .later ≤ 1024) × (spot .row + 1 < 1024) × (4 * (spot .row + 1) + 4 ≤ length rows) × (spot .rest ≤ spot .later)
       member-low =
@@ -128,69 +129,69 @@ module _ (names : List (List ℕ)) (kind : ℕ) (body : List ℕ) (spot : Spot) 
           let g = block-follows in
           (omega (arith, f, a .few), omega (arith, f, g .0, a .few), omega (arith, f, g .0, a .long), g .1)
 
-      module _ (one : List ℤ) (e1 : one ≡ withForm (blockForm names (declarationOn body) (number (pos (suc (spot .row + 1))))) (spot .row + 1) rows) where
-        one-is : one ≡ overlay rows (4 * (spot .row + 1)) (blockRow names (a .line) (spot .row + 1))
-        one-is = e1 ∙ ap (λ (o : Option Declaration). withForm (blockForm names o (number (pos (suc (spot .row + 1))))) (spot .row + 1) rows) (on-body names kind body spot rows a)
+      module _ (one : List ℤ) (e1 : one ≡ withForm (blockForm rowNames (declarationListed os) (number (pos (suc (spot .row + 1))))) (spot .row + 1) rows) where
+        one-is : one ≡ overlay rows (4 * (spot .row + 1)) (blockRow rowNames (a .line) (spot .row + 1))
+        one-is = e1 ∙ ap (λ (o : Option Declaration). withForm (blockForm rowNames o (number (pos (suc (spot .row + 1))))) (spot .row + 1) rows) (on-os kind os spot rows a)
 
         pub member-block-room : 4 * spot .row + 4 ≤ length one
         member-block-room =
-            let l = block-length names (a .line) (spot .row + 1) (starts names kind body spot rows a h) in
-            let m = ap length one-is ∙ overlay-length rows (4 * (spot .row + 1)) (blockRow names (a .line) (spot .row + 1)) (omega (arith, l, member-low .2)) in
+            let l = block-length (a .line) (spot .row + 1) (starts kind os spot rows a h) in
+            let m = ap length one-is ∙ overlay-length rows (4 * (spot .row + 1)) (blockRow rowNames (a .line) (spot .row + 1)) (omega (arith, l, member-low .2)) in
             omega (arith, m, member-low .2)
 
         pub member-block-laid : (out : List ℤ) → out ≡ overlay one (4 * spot .row) (pos 40 ∷ pos (spot .row + 1) ∷ linkTo (spot .rest) (spot .row + 1 + spot .later - spot .rest) ∷ pos 0 ∷ [])
-            → out ≡ laidBy names kind body spot rows
+            → out ≡ laidBy kind os spot rows
         member-block-laid out e =
             let s : spot .row + 1 ≡ suc (spot .row) = omega arith in
-            let d = starts names kind body spot rows a h in
-            let l = block-length names (a .line) (suc (spot .row)) d in
-            let l1 = block-length names (a .line) (spot .row + 1) d in
-            a .laid out (row-before rows one out (spot .row) (pos 40) _ _ (pos 0) (blockRow names (a .line) (spot .row + 1)) (omega (arith, l1, member-low .2)) one-is e
-            ∙ ap (λ (m : ℕ). overlay rows (4 * spot .row) (pos 40 ∷ pos m ∷ linkTo (spot .rest) (m + spot .later - spot .rest) ∷ pos 0 ∷ blockRow names (a .line) m)) s
-            ∙ sym (sets-laid rows (4 * spot .row) (memberBlock names (a .line) (spot .row) (spot .later) (spot .rest)) (omega (arith, l, member-low .2)))
-            ∙ ap (λ (t : Bool). sets rows (4 * spot .row) (ifElse t (memberBlock names (a .line) (spot .row) (spot .later) (spot .rest)) (memberRows names (a .line) (spot .row) (spot .beneath) (spot .later)))) (sym d))
+            let d = starts kind os spot rows a h in
+            let l = block-length (a .line) (suc (spot .row)) d in
+            let l1 = block-length (a .line) (spot .row + 1) d in
+            a .laid out (row-before rows one out (spot .row) (pos 40) _ _ (pos 0) (blockRow rowNames (a .line) (spot .row + 1)) (omega (arith, l1, member-low .2)) one-is e
+            ∙ ap (λ (m : ℕ). overlay rows (4 * spot .row) (pos 40 ∷ pos m ∷ linkTo (spot .rest) (m + spot .later - spot .rest) ∷ pos 0 ∷ blockRow rowNames (a .line) m)) s
+            ∙ sym (sets-laid rows (4 * spot .row) (memberBlock rowNames (a .line) (spot .row) (spot .later) (spot .rest)) (omega (arith, l, member-low .2)))
+            ∙ ap (λ (t : Bool). sets rows (4 * spot .row) (ifElse t (memberBlock rowNames (a .line) (spot .row) (spot .later) (spot .rest)) (memberRows rowNames (a .line) (spot .row) (spot .beneath) (spot .later)))) (sym d))
 
     -- a process among them
     module _ (h : kind % 16 ≡ 1 → ⊥) where
-      process-ends : suc (spot .row) + processSize names (a .line) + spot .beneath + spot .later ≤ a .limit
-      process-ends = subst (λ (t : Bool). ifElse t (suc (spot .row) + spot .later) (suc (spot .row) + processSize names (a .line) + spot .beneath + spot .later) ≤ a .limit) (starts-not names kind body spot rows a h) (a .room .ends)
+      process-ends : suc (spot .row) + processSize rowNames (a .line) + spot .beneath + spot .later ≤ a .limit
+      process-ends = subst (λ (t : Bool). ifElse t (suc (spot .row) + spot .later) (suc (spot .row) + processSize rowNames (a .line) + spot .beneath + spot .later) ≤ a .limit) (starts-not kind os spot rows a h) (a .room .ends)
 
       may-be : processBeneath (a .line) ≡ some (a .under)
       unfolding expectedBeneath
-      may-be = ap (λ (t : Bool). ifElse t (some nothing) (processBeneath (a .line))) (sym (starts-not names kind body spot rows a h)) ∙ a .may-stand
+      may-be = ap (λ (t : Bool). ifElse t (some nothing) (processBeneath (a .line))) (sym (starts-not kind os spot rows a h)) ∙ a .may-stand
 
-      told : ProcessTold names (a .line) (partAtMark (chunksOf body))
-      told = line-process names body (a .line) (a .is-line) (a .under) may-be
+      told : ProcessTold (a .line) (partAtMark os)
+      told = line-process os (a .line) (a .is-line) (a .under) may-be
 
-      pub member-writable : ProcessWritable names (partAtMark (chunksOf body)) (spot .row + 1) (spot .beneath) rows
-      member-writable = process-writable names body (a .line) told (spot .row + 1) (spot .beneath) rows (a .limit) (a .few) (a .long) (omega (arith, process-ends))
+      pub member-writable : ProcessWritable (partAtMark os) (spot .row + 1) (spot .beneath) rows
+      member-writable = process-writable os (a .line) told (spot .row + 1) (spot .beneath) rows (a .limit) (a .few) (a .long) (omega (arith, process-ends))
 
       pub member-small : spot .row + 1 < 1025
       member-small = omega (arith, process-ends, a .few)
 
-      module _ (r : ℕ) (one : List ℤ) (er : r ≡ spot .row + 1 + sizeBy names (partAtMark (chunksOf body))) (e1 : one ≡ processLaid names (partAtMark (chunksOf body)) (spot .row + 1) (spot .beneath) rows) where
-        end-is : r ≡ spot .row + 1 + processSize names (a .line)
-        end-is = process-end names body (a .line) told (spot .row + 1) (spot .beneath) rows r er
+      module _ (r : ℕ) (one : List ℤ) (er : r ≡ spot .row + 1 + sizeBy (partAtMark os)) (e1 : one ≡ partLaid (partAtMark os) (spot .row + 1) (spot .beneath) rows) where
+        end-is : r ≡ spot .row + 1 + processSize rowNames (a .line)
+        end-is = process-end os (a .line) told (spot .row + 1) (spot .beneath) rows r er
 
-        first-is : one ≡ overlay rows (4 * (spot .row + 1)) (processRows names (a .line) (spot .row + 1) (spot .beneath))
-        first-is = process-rows names body (a .line) told (spot .row + 1) (spot .beneath) rows one e1
+        first-is : one ≡ overlay rows (4 * (spot .row + 1)) (processRows rowNames (a .line) (spot .row + 1) (spot .beneath))
+        first-is = process-rows os (a .line) told (spot .row + 1) (spot .beneath) rows one e1
 
         pub member-room : (r + spot .beneath ≤ 1024) × (spot .row < 1024) × (4 * spot .row + 4 ≤ length one)
         member-room =
             let f = process-ends in
-            let l = rows-length names (a .line) (spot .row + 1) (spot .beneath) in
-            let m = ap length first-is ∙ overlay-length rows (4 * (spot .row + 1)) (processRows names (a .line) (spot .row + 1) (spot .beneath)) (omega (arith, l, f, a .long)) in
+            let l = rows-length (a .line) (spot .row + 1) (spot .beneath) in
+            let m = ap length first-is ∙ overlay-length rows (4 * (spot .row + 1)) (processRows rowNames (a .line) (spot .row + 1) (spot .beneath)) (omega (arith, l, f, a .long)) in
             (omega (arith, f, end-is, a .few), omega (arith, f, a .few), omega (arith, f, a .long, m))
 
-        pub member-laid : (out : List ℤ) → out ≡ overlay one (4 * spot .row) (pos 40 ∷ pos (spot .row + 1) ∷ linkTo (spot .later) (r + spot .beneath) ∷ pos 0 ∷ []) → out ≡ laidBy names kind body spot rows
+        pub member-laid : (out : List ℤ) → out ≡ overlay one (4 * spot .row) (pos 40 ∷ pos (spot .row + 1) ∷ linkTo (spot .later) (r + spot .beneath) ∷ pos 0 ∷ []) → out ≡ laidBy kind os spot rows
         member-laid out e =
             let s : spot .row + 1 ≡ suc (spot .row) = omega arith in
-            let d = starts-not names kind body spot rows a h in
+            let d = starts-not kind os spot rows a h in
             let f = process-ends in
-            let l1 = rows-length names (a .line) (spot .row + 1) (spot .beneath) in
-            let l = rows-length names (a .line) (suc (spot .row)) (spot .beneath) in
-            a .laid out (row-before rows one out (spot .row) (pos 40) _ _ (pos 0) (processRows names (a .line) (spot .row + 1) (spot .beneath)) (omega (arith, l1, f, a .long)) first-is e
-            ∙ ap (λ (m : ℕ). overlay rows (4 * spot .row) (pos 40 ∷ pos (spot .row + 1) ∷ linkTo (spot .later) (m + spot .beneath) ∷ pos 0 ∷ processRows names (a .line) (spot .row + 1) (spot .beneath))) end-is
-            ∙ ap (λ (m : ℕ). overlay rows (4 * spot .row) (pos 40 ∷ pos m ∷ linkTo (spot .later) (m + processSize names (a .line) + spot .beneath) ∷ pos 0 ∷ processRows names (a .line) m (spot .beneath))) s
-            ∙ sym (sets-laid rows (4 * spot .row) (memberRows names (a .line) (spot .row) (spot .beneath) (spot .later)) (omega (arith, l, f, a .long)))
-            ∙ ap (λ (t : Bool). sets rows (4 * spot .row) (ifElse t (memberBlock names (a .line) (spot .row) (spot .later) (spot .rest)) (memberRows names (a .line) (spot .row) (spot .beneath) (spot .later)))) (sym d))
+            let l1 = rows-length (a .line) (spot .row + 1) (spot .beneath) in
+            let l = rows-length (a .line) (suc (spot .row)) (spot .beneath) in
+            a .laid out (row-before rows one out (spot .row) (pos 40) _ _ (pos 0) (processRows rowNames (a .line) (spot .row + 1) (spot .beneath)) (omega (arith, l1, f, a .long)) first-is e
+            ∙ ap (λ (m : ℕ). overlay rows (4 * spot .row) (pos 40 ∷ pos (spot .row + 1) ∷ linkTo (spot .later) (m + spot .beneath) ∷ pos 0 ∷ processRows rowNames (a .line) (spot .row + 1) (spot .beneath))) end-is
+            ∙ ap (λ (m : ℕ). overlay rows (4 * spot .row) (pos 40 ∷ pos m ∷ linkTo (spot .later) (m + processSize rowNames (a .line) + spot .beneath) ∷ pos 0 ∷ processRows rowNames (a .line) m (spot .beneath))) s
+            ∙ sym (sets-laid rows (4 * spot .row) (memberRows rowNames (a .line) (spot .row) (spot .beneath) (spot .later)) (omega (arith, l, f, a .long)))
+            ∙ ap (λ (t : Bool). sets rows (4 * spot .row) (ifElse t (memberBlock rowNames (a .line) (spot .row) (spot .later) (spot .rest)) (memberRows rowNames (a .line) (spot .row) (spot .beneath) (spot .later)))) (sym d))

@@ -2,7 +2,7 @@
 use mathlib.Core.Path.{_≡_, refl, sym, ap, ap₂, subst, _∙_}
 use mathlib.Core.List.{List}
 use mathlib.Core.Option.{Option, some}
-use Prim.Native.Nat.{ℕ, _+_, _-_, _*_, _/_, _%_, _≤_}
+use Prim.Native.Nat.{ℕ, _+_, _*_, _/_, _%_, _≤_}
 use native.Mathlib.Omega.{arith}
 use lib.IntN.{ℤ}
 use lib.ListN.{length}
@@ -10,18 +10,19 @@ use lib.Seq.{sets}
 use lib.Dec.{eqb, leb}
 use Rattle.base_top_down.specs.Forms.{Form, absent, number, formSize}
 use Rattle.base_top_down.proofs.Flat.{flat-length}
+use Rattle.grammar.specs.Grammar.{Token}
 use Rattle.grammar.specs.Outline.{variable, channel, source, sink, OutlineLine, declare, skip, stop, assign, input, output, seq, par, ifs, alts, while, test, guarded, allowed, Expect, members, choices, options, nothing, one-process, one-member, heads, isDeclaration, startsBlock, expectedBeneath}
 use Rattle.grammar.specs.Classes.{Class, variable-line, other-declaration, leaf, input-line, member-lines, choice-lines, option-lines, while-line, test-line, guard-line, classOf}
 use Rattle.grammar.specs.TextRows.{processForm}
 use Rattle.read_classes.specs.ClassNumbers.{numberOf}
-use Rattle.read_classes.specs.Parts.{chunksOf, partAtMark}
-use Rattle.read_classes.specs.LineClasses.{lineOf}
+use Rattle.read_classes.specs.Parts.{partAtMark}
+use Rattle.read_resolved.specs.Resolved.{rowNames}
 use Rattle.read_levels.specs.Kinds.{expectNumber}
 use Rattle.read_layout.specs.Layout.{linkTo, processSize, processRows, lineLaid}
 use Rattle.read_layout.specs.Room.{LineRoom}
 use Rattle.read_expressions.specs.Overlay.{overlay}
 use Rattle.read_rows.specs.declared.Spot.{Spot}
-use Rattle.read_parts.specs.PartForms.{withForm, processBy, sizeBy, processLaid, ProcessWritable}
+use Rattle.read_parts.specs.PartForms.{withForm, lineListed, processBy, sizeBy, partLaid, ProcessWritable}
 use Rattle.read_rows.specs.LinesLaid.{expectOf, Standable, laidAs, laidBy}
 use Rattle.read_parts.proofs.OverlaySteps.{sets-laid}
 use Rattle.read_rows.proofs.LineTold.{ProcessTold}
@@ -40,7 +41,8 @@ number-small while-line = omega arith
 number-small test-line = omega arith
 number-small guard-line = omega arith
 
-expect-back : (e : Expect) → expectOf (expectNumber e) ≡ e
+-- what is expected, by its number
+pub expect-back : (e : Expect) → expectOf (expectNumber e) ≡ e
 unfolding expectOf
 expect-back members = refl
 expect-back choices = refl
@@ -90,21 +92,21 @@ declares-told (guarded e c a) = refl
 declares-told (allowed e) = refl
 
 -- a line that stands where something is expected
-pub record At (names : List (List ℕ)) (kind : ℕ) (body : List ℕ) (spot : Spot) (rows : List ℤ) (e : Expect) : Type 0 where
+pub record At (kind : ℕ) (os : List (Option Token)) (spot : Spot) (rows : List ℤ) (e : Expect) : Type 0 where
   pub line : OutlineLine
   pub under : Expect
   pub limit : ℕ
-  pub is-line : lineOf body ≡ some line
+  pub is-line : lineListed os ≡ some line
   pub is-class : kind % 16 ≡ numberOf (classOf line)
   pub may-stand : expectedBeneath e line ≡ some under
-  pub room : LineRoom names limit e line (spot .row) (spot .beneath) (spot .later) (spot .rest)
+  pub room : LineRoom rowNames limit e line (spot .row) (spot .beneath) (spot .later) (spot .rest)
   pub few : limit ≤ 1024
   pub long : 4 * limit ≤ length rows
-  pub laid : (out : List ℤ) → out ≡ lineLaid names e line (spot .row) (spot .beneath) (spot .later) (spot .rest) rows → out ≡ laidBy names kind body spot rows
+  pub laid : (out : List ℤ) → out ≡ lineLaid rowNames e line (spot .row) (spot .beneath) (spot .later) (spot .rest) rows → out ≡ laidBy kind os spot rows
 
-pub stands-at : (names : List (List ℕ)) (kind : ℕ) (body : List ℕ) (spot : Spot) (rows : List ℤ) → Standable names kind body spot rows → (e : Expect) → expectOf (kind / 16) ≡ e → At names kind body spot rows e
+pub stands-at : (kind : ℕ) (os : List (Option Token)) (spot : Spot) (rows : List ℤ) → Standable kind os spot rows → (e : Expect) → expectOf (kind / 16) ≡ e → At kind os spot rows e
 unfolding laidBy
-stands-at names kind body spot rows s e h =
+stands-at kind os spot rows s e h =
     let small = number-small (classOf (s .line)) in
     let d : kind / 16 ≡ expectNumber (s .expected) = omega (arith, s .is-kind, small) in
     let q : s .expected ≡ e = sym (expect-back (s .expected)) ∙ ap expectOf (sym d) ∙ h in
@@ -115,51 +117,51 @@ stands-at names kind body spot rows s e h =
       is-line = s .is-line;
       is-class = omega (arith, s .is-kind, small);
       may-stand = subst (λ (w : Expect). expectedBeneath w (s .line) ≡ some (s .under)) q (s .may-stand);
-      room = subst (λ (w : Expect). LineRoom names (s .limit) w (s .line) (spot .row) (spot .beneath) (spot .later) (spot .rest)) q (s .room);
+      room = subst (λ (w : Expect). LineRoom rowNames (s .limit) w (s .line) (spot .row) (spot .beneath) (spot .later) (spot .rest)) q (s .room);
       few = s .few;
       long = s .long;
-      laid = λ out k. k ∙ ap₂ (λ (w : Expect) (o : Option OutlineLine). laidAs names w o spot rows) (sym h) (sym (s .is-line));
+      laid = λ out k. k ∙ ap₂ (λ (w : Expect) (o : Option OutlineLine). laidAs w o spot rows) (sym h) (sym (s .is-line));
     }
 
 -- Processes ---------------------------------------------------------------------------------------------------------------------------
 
 -- a reference instead of what stands beneath adds no row
-size-number : (names : List (List ℕ)) (x : OutlineLine) (z : ℤ) → formSize (processForm names x (number z)) ≡ processSize names x
+size-number : (x : OutlineLine) (z : ℤ) → formSize (processForm rowNames x (number z)) ≡ processSize rowNames x
 unfolding formSize
-size-number names (declare d) z = refl
-size-number names skip z = refl
-size-number names stop z = refl
-size-number names (assign a e) z = refl
-size-number names (input c a) z = refl
-size-number names (output c e) z = refl
-size-number names seq z = refl
-size-number names par z = refl
-size-number names ifs z = refl
-size-number names alts z = refl
-size-number names (while e) z = refl
-size-number names (test e) z = refl
-size-number names (guarded e c a) z = refl
-size-number names (allowed e) z = refl
+size-number (declare d) z = refl
+size-number skip z = refl
+size-number stop z = refl
+size-number (assign a e) z = refl
+size-number (input c a) z = refl
+size-number (output c e) z = refl
+size-number seq z = refl
+size-number par z = refl
+size-number ifs z = refl
+size-number alts z = refl
+size-number (while e) z = refl
+size-number (test e) z = refl
+size-number (guarded e c a) z = refl
+size-number (allowed e) z = refl
 
-pub rows-length : (names : List (List ℕ)) (x : OutlineLine) (n b : ℕ) → length (processRows names x n b) ≡ 4 * processSize names x
-rows-length names x n b = flat-length n (processForm names x (number (linkTo b (n + processSize names x)))) ∙ ap (λ (s : ℕ). 4 * s) (size-number names x (linkTo b (n + processSize names x)))
+pub rows-length : (x : OutlineLine) (n b : ℕ) → length (processRows rowNames x n b) ≡ 4 * processSize rowNames x
+rows-length x n b = flat-length n (processForm rowNames x (number (linkTo b (n + processSize rowNames x)))) ∙ ap (λ (s : ℕ). 4 * s) (size-number x (linkTo b (n + processSize rowNames x)))
 
-module _ (names : List (List ℕ)) (body : List ℕ) (x : OutlineLine) (told : ProcessTold names x (partAtMark (chunksOf body))) (n b : ℕ) (rows : List ℤ) where
-  same-size : sizeBy names (partAtMark (chunksOf body)) ≡ processSize names x
+module _ (os : List (Option Token)) (x : OutlineLine) (told : ProcessTold x (partAtMark os)) (n b : ℕ) (rows : List ℤ) where
+  same-size : sizeBy (partAtMark os) ≡ processSize rowNames x
   same-size = sym (ap formSize (told .0 absent))
 
   -- a process can be written where it fits
-  pub process-writable : (limit : ℕ) → limit ≤ 1024 → 4 * limit ≤ length rows → n + processSize names x + b ≤ limit → ProcessWritable names (partAtMark (chunksOf body)) n b rows
+  pub process-writable : (limit : ℕ) → limit ≤ 1024 → 4 * limit ≤ length rows → n + processSize rowNames x + b ≤ limit → ProcessWritable (partAtMark os) n b rows
   process-writable limit h k f = record { read = told .1; few = omega (arith, h, f, same-size); long = omega (arith, k, f, same-size) }
 
   -- and its rows are those of the line
-  pub process-rows : (out : List ℤ) → out ≡ processLaid names (partAtMark (chunksOf body)) n b rows → out ≡ overlay rows (4 * n) (processRows names x n b)
+  pub process-rows : (out : List ℤ) → out ≡ partLaid (partAtMark os) n b rows → out ≡ overlay rows (4 * n) (processRows rowNames x n b)
   process-rows out e =
-      e ∙ ap (λ (m : ℕ). withForm (processBy names (partAtMark (chunksOf body)) (number (linkTo b (n + m)))) n rows) same-size
-      ∙ ap (λ (f : Form). withForm f n rows) (sym (told .0 (number (linkTo b (n + processSize names x)))))
+      e ∙ ap (λ (m : ℕ). withForm (processBy (partAtMark os) (number (linkTo b (n + m)))) n rows) same-size
+      ∙ ap (λ (f : Form). withForm f n rows) (sym (told .0 (number (linkTo b (n + processSize rowNames x)))))
 
-  pub process-end : (r : ℕ) → r ≡ n + sizeBy names (partAtMark (chunksOf body)) → r ≡ n + processSize names x
+  pub process-end : (r : ℕ) → r ≡ n + sizeBy (partAtMark os) → r ≡ n + processSize rowNames x
   process-end r e = omega (arith, e, same-size)
 
-  pub process-sets : (limit : ℕ) → 4 * limit ≤ length rows → n + processSize names x + b ≤ limit → (out : List ℤ) → out ≡ processLaid names (partAtMark (chunksOf body)) n b rows → out ≡ sets rows (4 * n) (processRows names x n b)
-  process-sets limit k f out e = process-rows out e ∙ sym (sets-laid rows (4 * n) (processRows names x n b) (omega (arith, k, f, rows-length names x n b)))
+  pub process-sets : (limit : ℕ) → 4 * limit ≤ length rows → n + processSize rowNames x + b ≤ limit → (out : List ℤ) → out ≡ partLaid (partAtMark os) n b rows → out ≡ sets rows (4 * n) (processRows rowNames x n b)
+  process-sets limit k f out e = process-rows out e ∙ sym (sets-laid rows (4 * n) (processRows rowNames x n b) (omega (arith, k, f, rows-length x n b)))

@@ -2,10 +2,10 @@
 ghost use mathlib.Core.Path.{_≡_};
 ghost use Prim.Native.Nat.{_+_, _*_, _/_, _≤_, _<_};
 ghost use lib.ListN.{length};
-ghost use Rattle.read_names.specs.Listed.{namesAt};
+ghost use Rattle.read_tokens.specs.Held.{tokensResolved};
 ghost use Rattle.read_expressions.specs.Overlay.{overlay};
 ghost use Rattle.read_layout.specs.Layout.{listedRow};
-ghost use Rattle.read_parts.specs.PartForms.{Scratch};
+ghost use Rattle.read_expressions.specs.Expressions.{Scratch, ScratchKept};
 ghost use Rattle.read_rows.specs.LinesLaid.{Standable, laidBy};
 use crate::Spot;
 use read_classes::classes;
@@ -16,7 +16,7 @@ fn write_listed(kind: u8, n: usize, beneath: usize, later: usize, rows: &mut [i3
     ensures { λ _. ⌜ now (rows .exit) ≡ overlay (now (rows .entry)) (4 * n) (listedRow kind n beneath later) ⌝ }
 {
     let next = n + 1 + beneath;
-    read_parts::write_four(
+    read_expressions::write_row(
         rows,
         n,
         kind as i32,
@@ -29,29 +29,25 @@ fn write_listed(kind: u8, n: usize, beneath: usize, later: usize, rows: &mut [i3
 // Writes a member: a process, or the block of one.
 pub fn write_member(
     kind: u8,
-    body: &[u8],
-    text: &[u8],
-    froms: &[u16],
-    sizes: &[u8],
+    sorts: &[u8],
+    values: &[i32],
     spot: Spot,
     marks: &mut [u8],
     stack: &mut [u16],
     rows: &mut [i32],
 )
-    requires { ⌜ (kind / 16 ≡ 0) × Standable (namesAt (now text) (now froms) (now sizes)) kind (now body) spot (now rows) × (length (now froms) ≤ 32768) × Scratch (now body) (now marks) (now stack) ⌝ }
-    ensures { λ _. ⌜ (length (now (marks .exit)) ≡ length (now (marks .entry))) × (length (now (stack .exit)) ≡ length (now (stack .entry))) × (now (rows .exit) ≡ laidBy (namesAt (now (text .entry)) (now (froms .entry)) (now (sizes .entry))) kind (now (body .entry)) spot (now (rows .entry))) ⌝ }
+    requires { ⌜ (kind / 16 ≡ 0) × Standable kind (tokensResolved (now sorts) (now values)) spot (now rows) × Scratch (now sorts) (now values) (now marks) (now stack) ⌝ }
+    ensures { λ _. ⌜ ScratchKept (now (marks .entry)) (now (stack .entry)) (now (marks .exit)) (now (stack .exit)) × (now (rows .exit) ≡ laidBy kind (tokensResolved (now (sorts .entry)) (now (values .entry))) spot (now (rows .entry))) ⌝ }
 {
     if kind % 16 == classes::VARIABLE_LINE {
-        read_parts::write_block(body, text, froms, sizes, spot.row + 1, rows);
+        read_parts::write_block(sorts, values, spot.row + 1, rows);
         let rest = read_parts::link_to(spot.rest, spot.row + 1 + spot.later - spot.rest);
-        read_parts::write_four(rows, spot.row, 40, (spot.row + 1) as i32, rest, 0);
+        read_expressions::write_row(rows, spot.row, 40, (spot.row + 1) as i32, rest, 0);
         return;
     }
     let end = read_parts::write_process(
-        body,
-        text,
-        froms,
-        sizes,
+        sorts,
+        values,
         spot.row + 1,
         spot.beneath,
         marks,
@@ -59,108 +55,80 @@ pub fn write_member(
         rows,
     );
     let later = read_parts::link_to(spot.later, end + spot.beneath);
-    read_parts::write_four(rows, spot.row, 40, (spot.row + 1) as i32, later, 0);
+    read_expressions::write_row(rows, spot.row, 40, (spot.row + 1) as i32, later, 0);
 }
 
 // Writes a choice, with its boolean behind the rows after it.
 pub fn write_choice(
     kind: u8,
-    body: &[u8],
-    text: &[u8],
-    froms: &[u16],
-    sizes: &[u8],
+    sorts: &[u8],
+    values: &[i32],
     spot: Spot,
     marks: &mut [u8],
     stack: &mut [u16],
     rows: &mut [i32],
 )
-    requires { ⌜ (kind / 16 ≡ 1) × Standable (namesAt (now text) (now froms) (now sizes)) kind (now body) spot (now rows) × (length (now froms) ≤ 32768) × Scratch (now body) (now marks) (now stack) ⌝ }
-    ensures { λ _. ⌜ (length (now (marks .exit)) ≡ length (now (marks .entry))) × (length (now (stack .exit)) ≡ length (now (stack .entry))) × (now (rows .exit) ≡ laidBy (namesAt (now (text .entry)) (now (froms .entry)) (now (sizes .entry))) kind (now (body .entry)) spot (now (rows .entry))) ⌝ }
+    requires { ⌜ (kind / 16 ≡ 1) × Standable kind (tokensResolved (now sorts) (now values)) spot (now rows) × Scratch (now sorts) (now values) (now marks) (now stack) ⌝ }
+    ensures { λ _. ⌜ ScratchKept (now (marks .entry)) (now (stack .entry)) (now (marks .exit)) (now (stack .exit)) × (now (rows .exit) ≡ laidBy kind (tokensResolved (now (sorts .entry)) (now (values .entry))) spot (now (rows .entry))) ⌝ }
 {
     write_listed(41, spot.row, spot.beneath, spot.later, rows);
     let n = spot.row + 1 + spot.beneath + spot.later;
-    read_expressions::write_phrase(body, text, froms, sizes, n, marks, stack, rows);
+    read_expressions::write_phrase(sorts, values, n, marks, stack, rows);
 }
 
 // Writes an option, with its guard behind the rows after it.
 pub fn write_option(
     kind: u8,
-    body: &[u8],
-    text: &[u8],
-    froms: &[u16],
-    sizes: &[u8],
+    sorts: &[u8],
+    values: &[i32],
     spot: Spot,
     marks: &mut [u8],
     stack: &mut [u16],
     rows: &mut [i32],
 )
-    requires { ⌜ (kind / 16 ≡ 2) × Standable (namesAt (now text) (now froms) (now sizes)) kind (now body) spot (now rows) × (length (now froms) ≤ 32768) × Scratch (now body) (now marks) (now stack) ⌝ }
-    ensures { λ _. ⌜ (length (now (marks .exit)) ≡ length (now (marks .entry))) × (length (now (stack .exit)) ≡ length (now (stack .entry))) × (now (rows .exit) ≡ laidBy (namesAt (now (text .entry)) (now (froms .entry)) (now (sizes .entry))) kind (now (body .entry)) spot (now (rows .entry))) ⌝ }
+    requires { ⌜ (kind / 16 ≡ 2) × Standable kind (tokensResolved (now sorts) (now values)) spot (now rows) × Scratch (now sorts) (now values) (now marks) (now stack) ⌝ }
+    ensures { λ _. ⌜ ScratchKept (now (marks .entry)) (now (stack .entry)) (now (marks .exit)) (now (stack .exit)) × (now (rows .exit) ≡ laidBy kind (tokensResolved (now (sorts .entry)) (now (values .entry))) spot (now (rows .entry))) ⌝ }
 {
     write_listed(42, spot.row, spot.beneath, spot.later, rows);
     let n = spot.row + 1 + spot.beneath + spot.later;
-    read_parts::write_guard(body, text, froms, sizes, n, marks, stack, rows);
+    read_parts::write_guard(sorts, values, n, marks, stack, rows);
 }
 
 // Writes the process after the declarations; the declarations have no row here.
 pub fn write_head(
     kind: u8,
-    body: &[u8],
-    text: &[u8],
-    froms: &[u16],
-    sizes: &[u8],
+    sorts: &[u8],
+    values: &[i32],
     spot: Spot,
     marks: &mut [u8],
     stack: &mut [u16],
     rows: &mut [i32],
 )
-    requires { ⌜ (kind / 16 ≡ 6) × Standable (namesAt (now text) (now froms) (now sizes)) kind (now body) spot (now rows) × (length (now froms) ≤ 32768) × Scratch (now body) (now marks) (now stack) ⌝ }
-    ensures { λ _. ⌜ (length (now (marks .exit)) ≡ length (now (marks .entry))) × (length (now (stack .exit)) ≡ length (now (stack .entry))) × (now (rows .exit) ≡ laidBy (namesAt (now (text .entry)) (now (froms .entry)) (now (sizes .entry))) kind (now (body .entry)) spot (now (rows .entry))) ⌝ }
+    requires { ⌜ (kind / 16 ≡ 6) × Standable kind (tokensResolved (now sorts) (now values)) spot (now rows) × Scratch (now sorts) (now values) (now marks) (now stack) ⌝ }
+    ensures { λ _. ⌜ ScratchKept (now (marks .entry)) (now (stack .entry)) (now (marks .exit)) (now (stack .exit)) × (now (rows .exit) ≡ laidBy kind (tokensResolved (now (sorts .entry)) (now (values .entry))) spot (now (rows .entry))) ⌝ }
 {
     if kind % 16 <= classes::OTHER_DECLARATION {
         return;
     }
-    read_parts::write_process(
-        body,
-        text,
-        froms,
-        sizes,
-        spot.row,
-        spot.beneath,
-        marks,
-        stack,
-        rows,
-    );
+    read_parts::write_process(sorts, values, spot.row, spot.beneath, marks, stack, rows);
 }
 
 // Writes a process that must come, or the block of one.
 pub fn write_single(
     kind: u8,
-    body: &[u8],
-    text: &[u8],
-    froms: &[u16],
-    sizes: &[u8],
+    sorts: &[u8],
+    values: &[i32],
     spot: Spot,
     marks: &mut [u8],
     stack: &mut [u16],
     rows: &mut [i32],
 )
-    requires { ⌜ (kind / 16 ≡ 0 → ⊥) × (kind / 16 ≡ 1 → ⊥) × (kind / 16 ≡ 2 → ⊥) × (kind / 16 ≡ 6 → ⊥) × Standable (namesAt (now text) (now froms) (now sizes)) kind (now body) spot (now rows) × (length (now froms) ≤ 32768) × Scratch (now body) (now marks) (now stack) ⌝ }
-    ensures { λ _. ⌜ (length (now (marks .exit)) ≡ length (now (marks .entry))) × (length (now (stack .exit)) ≡ length (now (stack .entry))) × (now (rows .exit) ≡ laidBy (namesAt (now (text .entry)) (now (froms .entry)) (now (sizes .entry))) kind (now (body .entry)) spot (now (rows .entry))) ⌝ }
+    requires { ⌜ (kind / 16 ≡ 0 → ⊥) × (kind / 16 ≡ 1 → ⊥) × (kind / 16 ≡ 2 → ⊥) × (kind / 16 ≡ 6 → ⊥) × Standable kind (tokensResolved (now sorts) (now values)) spot (now rows) × Scratch (now sorts) (now values) (now marks) (now stack) ⌝ }
+    ensures { λ _. ⌜ ScratchKept (now (marks .entry)) (now (stack .entry)) (now (marks .exit)) (now (stack .exit)) × (now (rows .exit) ≡ laidBy kind (tokensResolved (now (sorts .entry)) (now (values .entry))) spot (now (rows .entry))) ⌝ }
 {
     if kind % 16 == classes::VARIABLE_LINE {
-        read_parts::write_block(body, text, froms, sizes, spot.row, rows);
+        read_parts::write_block(sorts, values, spot.row, rows);
         return;
     }
-    read_parts::write_process(
-        body,
-        text,
-        froms,
-        sizes,
-        spot.row,
-        spot.beneath,
-        marks,
-        stack,
-        rows,
-    );
+    read_parts::write_process(sorts, values, spot.row, spot.beneath, marks, stack, rows);
 }

@@ -1,13 +1,15 @@
 -- A token's last byte tells whether it is a word or number.
 use mathlib.Core.Path.{_≡_, refl, sym, ap, subst, _∙_}
-use mathlib.Core.Bool.{Bool, true, false, _&&_, _||_, false≢true, or-true, and-true, and-false, or-false}
+use mathlib.Core.Bool.{Bool, true, false, _||_, false≢true, or-true}
 use mathlib.Core.List.{List, [], _∷_}
 use mathlib.Core.Option.{Option, none, some, Option·none-ne-some, Option·some-injective}
-use Prim.Native.Nat.{ℕ, suc, _+_, _-_, _*_}
+use Prim.Native.Nat.{ℕ, suc, _+_, _-_, _*_, _≤_, _<_}
 use lib.IntN.{ℤ}
 use native.Mathlib.Omega.{arith}
-use lib.ListN.{length, getD}
+use lib.ListN.{length, getD, take, drop, length-drop}
+use lib.Seq.{length-take-le, getD-take, getD-drop}
 use lib.Dec.{eqb, leb}
+use borrow.Author.Tests.{leb-true}
 use Rattle.meaning.specs.Basics.{ifElse}
 use Rattle.meaning.specs.Texts.{hyphen, digit0}
 use Rattle.meaning.specs.Lines.{same}
@@ -16,19 +18,12 @@ use Rattle.meaning.specs.Numerals as numerals
 use Rattle.meaning.proofs.NumeralForm.{let-through}
 use Rattle.meaning.proofs.NoFault.{same-is}
 use Rattle.grammar.specs.Grammar.{Token, name, number, minus, not-word, given, arith as operator, joins, round-open, round-close, square-open, square-close, mark}
-use Rattle.grammar.specs.Tokens.{isLetter, isWordByte, hang, TokenEntry, tokenSpelt, words, symbols, allWordBytes, isWord, orName, orNumber, tokenOf, isWordlike}
+use Rattle.grammar.specs.Tokens.{isLetter, isWordByte, TokenEntry, tokenSpelt, words, symbols, allWordBytes, isWord, orName, orNumber, tokenOf, isWordlike}
 use Rattle.grammar.proofs.LinesSound.{split-and}
-use Rattle.read_scan.specs.Places.{lastOf, endsLikeWord, LastTells}
-
--- a byte hangs together with a letter before it exactly if it goes on a word
-pub goes-on-word : (c : ℕ) → hang 97 c ≡ isWordByte c
-goes-on-word c = go (isWordByte c) (isDigit c) (eqb c 61) (eqb c 62)
-  where
-    go : (w d e m : Bool) → ((w && true) || ((d && false) || ((e && false) || (m && false)))) ≡ w
-    go w d e m = simp (and-false, and-true, or-false)
+use Rattle.read_scan.specs.LastBytes.{lastOf, endsLikeWord, LastTells}
 
 -- the byte before the end is the last
-pub last-at : (s : List ℕ) → getD s (length s - 1) 0 ≡ lastOf s
+last-at : (s : List ℕ) → getD s (length s - 1) 0 ≡ lastOf s
 unfolding lastOf
 last-at [] = refl
 last-at (b ∷ bs) = let e : suc (length bs) - 1 ≡ length bs = omega arith in ap (λ (n : ℕ). getD (b ∷ bs) n 0) e ∙ go b bs
@@ -36,6 +31,19 @@ last-at (b ∷ bs) = let e : suc (length bs) - 1 ≡ length bs = omega arith in 
     go : (c : ℕ) (cs : List ℕ) → getD (c ∷ cs) (length cs) 0 ≡ lastOf (c ∷ cs)
     go c [] = refl
     go c (d ∷ ds) = go d ds
+
+-- the last byte of a part of a line
+pub part-last : (line : List ℕ) (a b : ℕ) → a < b → b ≤ length line → lastOf (take (b - a) (drop a line)) ≡ getD line (b - 1) 0
+part-last line a b h k =
+    let s = take (b - a) (drop a line) in
+    let i : b - a ≤ length (drop a line) = let j = length-drop a line in omega arith in
+    let l : length s - 1 ≡ b - a - 1 = ap (λ (n : ℕ). n - 1) (length-take-le (b - a) (drop a line) i) in
+    let e : a + (b - a - 1) ≡ b - 1 = omega arith in
+    sym (last-at s)
+    ∙ ap (λ (n : ℕ). getD s n 0) l
+    ∙ getD-take (b - a) (drop a line) (b - a - 1) 0 (omega arith)
+    ∙ getD-drop a line (b - a - 1) 0
+    ∙ ap (λ (n : ℕ). getD line n 0) e
 
 -- Words and numbers -------------------------------------------------------------------------------------------------------------
 
@@ -136,17 +144,13 @@ symbols-tell : Each Tells symbols
 unfolding symbols lastOf
 symbols-tell = ((refl, refl), ((refl, refl), ((refl, refl), ((refl, refl), ((refl, refl), ((refl, refl), ((refl, refl), ((refl, refl), ((refl, refl), ((refl, refl), ((refl, refl), ((refl, refl), ((refl, refl), ((refl, refl), ((refl, refl), ((refl, refl), ((refl, refl), ((refl, refl), ((refl, refl), tt)))))))))))))))))))
 
--- what is no word of the grammar is a name
-named-tells : (s : List ℕ) (t : Token) → ifElse (leb (length s) 31) (some (name s)) none ≡ some t → t ≡ name s
-named-tells s t h = go (leb (length s) 31) h
-  where
-    go : (b : Bool) → ifElse b (some (name s)) none ≡ some t → t ≡ name s
-    go true h = sym (Option·some-injective (name s) t h)
-    go false h = absurd (Option·none-ne-some t h)
+-- what is no word of the grammar is a name, which is not too long
+named-tells : (s : List ℕ) (t : Token) → ifElse (leb (length s) 31) (some (name s)) none ≡ some t → (t ≡ name s) × (length s ≤ 31)
+named-tells s t h = let (l, e) = let-through (leb (length s) 31) (some (name s)) t h in (sym (Option·some-injective (name s) t e), leb-true (length s) 31 l)
 
 -- the last byte tells, and a name is the bytes
 abbrev Known : List ℕ → Token → Type 0
-Known s t = (isWordlike t ≡ endsLikeWord s) × ((b : List ℕ) → t ≡ name b → b ≡ s)
+Known s t = (isWordlike t ≡ endsLikeWord s) × ((b : List ℕ) → t ≡ name b → (b ≡ s) × (length s ≤ 31))
 
 nameless : (s : List ℕ) (t : Token) → Tells s t → Known s t
 nameless s t h = (h .0, λ b e. absurd (false≢true (sym (ap isNameless e) ∙ h .1)))
@@ -157,8 +161,8 @@ token-known s t h = go (isWord s) refl h
   where
     one : (o : Option Token) → tokenSpelt words s ≡ o → isWord s ≡ true → orName o s ≡ some t → Known s t
     one none q w h =
-        let e = named-tells s t h in
-        (ap isWordlike e ∙ sym (is-word-last s w), λ b f. let i : name b ≡ name s = sym f ∙ e in cc)
+        let (e, l) = named-tells s t h in
+        (ap isWordlike e ∙ sym (is-word-last s w), λ b f. let i : name b ≡ name s = sym f ∙ e in (cc, l))
     one (some u) q w h = nameless s t (entry-has Tells words s t words-tell (q ∙ h))
 
     other : (o : Option Token) (z : Option ℤ) → tokenSpelt symbols s ≡ o → numerals.number s ≡ z → orNumber o z ≡ some t → Known s t
@@ -175,6 +179,6 @@ token-known s t h = go (isWord s) refl h
 pub last-tells : LastTells
 last-tells s t h = token-known s t h .0
 
--- a name is the bytes that spell it
-pub name-is : (s b : List ℕ) → tokenOf s ≡ some (name b) → b ≡ s
+-- a name is the bytes that spell it, at most 31
+pub name-is : (s b : List ℕ) → tokenOf s ≡ some (name b) → (b ≡ s) × (length s ≤ 31)
 name-is s b h = token-known s (name b) h .1 b refl

@@ -1,4 +1,2 @@
 pub mod Nexts
-pub mod Cuts
-pub mod Places
-pub mod Indents
+pub mod LastBytes

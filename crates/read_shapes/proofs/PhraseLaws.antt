@@ -1,46 +1,32 @@
--- The recogniser of chunks decides phrases and elements.
+-- The recogniser of sorts decides phrases and elements.
 use mathlib.Core.Path.{_≡_, refl, sym, ap, subst, _∙_}
-use mathlib.Core.Bool.{false}
 use mathlib.Core.List.{List, [], _∷_, map}
 use mathlib.Core.Option.{Option, none, some}
-use Prim.Native.Nat.{ℕ, _≤_, _<_}
-use lib.ListN.{length}
-use borrow.Author.Tests.{le-leb, lt-leb}
 use Rattle.meaning.specs.Basics.{isSome}
 use Rattle.grammar.specs.Grammar.{Token, given, Syn, monadic}
 use Rattle.grammar.specs.Machine.{behind-given, want, ifFirst, begin, feed, step, reach, close, phrase, operandOf, elementOf}
-use Rattle.grammar.specs.Scan.{items}
-use Rattle.grammar.specs.Shapes.{Kind, initial, element, OperandShape, ifInitial, shapeAfter, move, goes, shapeComplete, isPhrase}
+use Rattle.grammar.specs.Shapes.{OperandShape, ifInitial, shapeAfter, move, goes, shapeComplete, isPhrase}
 use Rattle.grammar.proofs.ShapesDecide.{shapes-decide}
 use Rattle.grammar.proofs.Sound.{element-sound}
-use Rattle.read_tokens.specs.Chunks.{itemsOf}
-use Rattle.read_scan.specs.Nexts.{tokenList}
-use Rattle.read_shapes.specs.Phrases.{shapeOver, phraseIn, partText, PartTexts, PhraseTold, PhraseRead, ElementRead, PartIsPhrase, PartIsElement}
+use Rattle.read_tokens.specs.Held.{tokenSort}
+use Rattle.read_shapes.specs.Phrases.{moveBySort, shapeOver, phraseIn, PhraseTold, ElementRead}
+use Rattle.read_shapes.proofs.SortTells.{sort-tells}
 
-pub part-texts : PartTexts
-part-texts part h = rw (le-leb (length part) 32768 h)
-
--- a part of a text is read as its bytes
-pub part-read : (k : Kind) (part : List ℕ) → length part ≤ 32768 → phraseIn k (tokenList (itemsOf part)) ≡ phraseIn k (tokenList (itemsOf (partText part)))
-part-read k part h = ap (λ (bs : List ℕ). phraseIn k (tokenList (itemsOf bs))) (sym (part-texts part h))
-
--- a longer part as no bytes
-pub part-too-long : (k : Kind) (part : List ℕ) → 32768 < length part → false ≡ phraseIn k (tokenList (itemsOf (partText part)))
-unfolding phraseIn shapeOver shapeComplete tokenList items
-part-too-long k part h = rw (lt-leb (length part) 32768 h)
+-- a token by its sort
+move-told : (q : Option OperandShape) (t : Token) → moveBySort q (tokenSort t) ≡ move q t
+unfolding moveBySort move
+move-told none t = refl
+move-told (some q) t = sym (sort-tells q t)
 
 -- tokens one by one
-over-goes : (q : Option OperandShape) (ts : List Token) → shapeOver q (map some ts) ≡ goes q ts
+over-goes : (q : Option OperandShape) (ts : List Token) → shapeOver q (map tokenSort ts) ≡ goes q ts
 unfolding shapeOver goes
 over-goes q [] = refl
-over-goes q (t ∷ ts) = over-goes (move q t) ts
+over-goes q (t ∷ ts) = over-goes (moveBySort q (tokenSort t)) ts ∙ ap (λ (r : Option OperandShape). goes r ts) (move-told q t)
 
 pub phrase-told : PhraseTold
 unfolding phraseIn isPhrase
 phrase-told ts = ap shapeComplete (over-goes _ ts)
-
-pub phrase-read : PhraseRead
-phrase-read ts = phrase-told ts ∙ sym (shapes-decide ts)
 
 -- an element is what stands after GIVEN
 given-told : (ts : List Token) → isPhrase (given ∷ ts) ≡ isSome (close (reach (some (want behind-given [])) ts))
@@ -59,9 +45,3 @@ operand-there ts = go (close (reach (some (want behind-given [])) ts)) (λ r q. 
 pub element-read : ElementRead
 unfolding phraseIn isPhrase goes move shapeAfter ifInitial
 element-read ts = ap shapeComplete (over-goes _ ts) ∙ given-told ts ∙ operand-there ts
-
-pub part-is-phrase : PartIsPhrase
-part-is-phrase part ts h e = sym (part-read initial part h) ∙ ap (phraseIn initial) e ∙ phrase-read ts
-
-pub part-is-element : PartIsElement
-part-is-element part ts h e = sym (part-read element part h) ∙ ap (phraseIn element) e ∙ element-read ts

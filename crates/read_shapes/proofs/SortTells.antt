@@ -1,12 +1,11 @@
 -- What a token does depends on its sort alone.
-use mathlib.Core.Path.{_≡_, refl, sym, ap, _∙_}
+use mathlib.Core.Path.{_≡_, refl}
 use mathlib.Core.Bool.{Bool, true}
-use mathlib.Core.List.{List, [], _∷_}
-use mathlib.Core.Option.{Option, none, some}
-use Rattle.grammar.specs.Grammar.{both, either, Mark, a-skip, a-stop, a-seq, a-par, an-if, an-alt, a-while, becomes, asks, tells, ampersand, an-int, a-chan, a-hostin, a-hostout, colon, unused, Token, name, number, minus, not-word, given, arith, joins, round-open, round-close, square-open, square-close, mark}
-use Rattle.grammar.specs.Shapes.{Kind, Opening, OperandShape, wants, has, shapeAfter, move}
-use Rattle.read_tokens.specs.Lexemes.{markLexeme, lexemeOf}
-use Rattle.read_shapes.specs.Phrases.{shapeOver}
+use mathlib.Core.List.{List}
+use mathlib.Core.Option.{none}
+use Rattle.grammar.specs.Grammar.{both, either, Mark, a-skip, a-stop, a-seq, a-par, an-if, an-alt, a-while, becomes, asks, tells, ampersand, an-int, a-chan, a-hostin, a-hostout, colon, unused, name, number, minus, not-word, given, arith, joins, round-open, round-close, square-open, square-close, mark}
+use Rattle.grammar.specs.Shapes.{Kind, Opening, wants, has, shapeAfter}
+use Rattle.read_tokens.specs.Lexemes.{markLexeme}
 use Rattle.read_shapes.specs.Turns.{shapeBySort, SortTells}
 
 -- a mark stands in no phrase
@@ -58,21 +57,3 @@ sort-tells (has k os f) round-close = refl
 sort-tells (has k os f) square-open = refl
 sort-tells (has k os f) square-close = refl
 sort-tells (has k os f) (mark m) = mark-stops k os f m .1
-
--- what has failed stays so
-pub failed-stays : (os : List (Option Token)) → shapeOver none os ≡ none
-unfolding shapeOver move
-failed-stays [] = refl
-failed-stays (none ∷ os) = refl
-failed-stays (some t ∷ os) = failed-stays os
-
-nothing-sorts : (q : OperandShape) → shapeBySort q 0 ≡ none
-unfolding shapeBySort
-nothing-sorts (wants k os) = refl
-nothing-sorts (has k os f) = refl
-
--- a chunk, by the sort of its token
-pub over-step : (q : OperandShape) (o : Option Token) (os : List (Option Token)) → shapeOver (some q) (o ∷ os) ≡ shapeOver (shapeBySort q (lexemeOf o .sort)) os
-unfolding shapeOver move
-over-step q none os = sym (ap (λ (r : Option OperandShape). shapeOver r os) (nothing-sorts q) ∙ failed-stays os)
-over-step q (some t) os = ap (λ (r : Option OperandShape). shapeOver r os) (sort-tells q t)

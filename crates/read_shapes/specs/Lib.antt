@@ -1,3 +1,3 @@
-pub mod Phrases
 pub mod Numbers
 pub mod Turns
+pub mod Phrases

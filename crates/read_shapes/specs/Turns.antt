@@ -9,7 +9,7 @@ use Rattle.meaning.specs.Basics.{ifElse}
 use Rattle.grammar.specs.Grammar.{both, either, Token}
 use Rattle.grammar.specs.Shapes.{initial, final, element, round-in, OperandShape, wants, has, unlessElement, ifInitial, chainOn, roundOff, squareOff, squareOn, shapeAfter}
 use Rattle.read_tokens.specs.Sorts as sorts
-use Rattle.read_tokens.specs.Lexemes.{tokenLexeme}
+use Rattle.read_tokens.specs.Held.{tokenSort}
 use Rattle.read_shapes.specs.Numbers.{wanting, having, havingName, stop}
 use Rattle.read_shapes.specs.declared.Turn.{Turn}
 
@@ -31,7 +31,7 @@ shapeBySort (has k os f) s = byHad s (ifInitial k (wants final os)) (chainOn bot
 
 -- a token's sort says all
 abbrev pub SortTells : Type 0
-SortTells = (q : OperandShape) (t : Token) → shapeAfter q t ≡ shapeBySort q (tokenLexeme t .sort)
+SortTells = (q : OperandShape) (t : Token) → shapeAfter q t ≡ shapeBySort q (tokenSort t)
 
 -- another mode and kind
 abbrev pub kept : ℕ → ℕ → ℕ → Turn

@@ -1,11 +1,9 @@
-// The recogniser of expressions: a loop over the tokens of a part of a line, with a stack of bytes for the open brackets.
+// The recogniser of expressions: a loop over the sorts of tokens, with a stack of bytes for the open brackets.
 ghost use mathlib.Core.Path.{_≡_};
 ghost use Prim.Native.Nat.{_≤_, _<_};
 ghost use lib.ListN.{length};
 ghost use Rattle.grammar.specs.Shapes.{initial, element};
-ghost use Rattle.read_tokens.specs.Chunks.{itemsOf};
-ghost use Rattle.read_scan.specs.Nexts.{tokenList};
-ghost use Rattle.read_shapes.specs.Phrases.{phraseIn, partText};
+ghost use Rattle.read_shapes.specs.Phrases.{phraseIn};
 ghost use Rattle.read_shapes.specs.Numbers.{kindAt, completeAt};
 
 mod numbers; // numbers.rt: states and kinds by number
@@ -31,21 +29,17 @@ fn complete(mode: u8, depth: usize) -> bool
     depth == 0
 }
 
-// Whether the tokens of a part go from an operand's place to its end. The stack has a byte more than the part: the lowest is unused.
-fn recognise(first: u8, part: &[u8], stack: &mut [u8]) -> bool
-    requires { ⌜ (first < 8) × (length (now part) ≤ 32768) × (length (now part) < length (now stack)) ⌝ }
-    ensures { λ r. ⌜ r ≡ phraseIn (kindAt first) (tokenList (itemsOf (now (part .entry)))) ⌝ }
+// Whether tokens of some sorts go from an operand's place to its end. The stack has a byte more than there are tokens: the lowest is unused.
+fn recognise(first: u8, sorts: &[u8], stack: &mut [u8]) -> bool
+    requires { ⌜ (first < 8) × (length (now sorts) ≤ 32768) × (length (now sorts) < length (now stack)) ⌝ }
+    ensures { λ r. ⌜ r ≡ phraseIn (kindAt first) (now (sorts .entry)) ⌝ }
 {
     let mut mode: u8 = WANTS;
     let mut kind: u8 = first;
     let mut depth: usize = 0;
     let mut at: usize = 0;
-    while at < part.len() {
-        let next = read_scan::next_token(part, at);
-        if next.from == next.to {
-            return complete(mode, depth);
-        }
-        let turn = turns::turn(mode, kind, depth, stack[depth], next.sort);
+    while at < sorts.len() {
+        let turn = turns::turn(mode, kind, depth, stack[depth], sorts[at]);
         if turn.mode == STOPPED {
             return false;
         }
@@ -53,53 +47,52 @@ fn recognise(first: u8, part: &[u8], stack: &mut [u8]) -> bool
         mode = turn.mode;
         kind = turn.kind;
         depth = turn.depth;
-        at = next.to;
+        at += 1;
     }
     complete(mode, depth)
 }
 
 // The recogniser with a small stack.
-fn recognise_short(first: u8, part: &[u8]) -> bool
-    requires { ⌜ (first < 8) × (length (now part) ≤ 120) ⌝ }
-    ensures { λ r. ⌜ r ≡ phraseIn (kindAt first) (tokenList (itemsOf (now (part .entry)))) ⌝ }
+fn recognise_short(first: u8, sorts: &[u8]) -> bool
+    requires { ⌜ (first < 8) × (length (now sorts) ≤ 60) ⌝ }
+    ensures { λ r. ⌜ r ≡ phraseIn (kindAt first) (now (sorts .entry)) ⌝ }
 {
-    let mut stack = [0u8; 128];
-    recognise(first, part, &mut stack)
+    let mut stack = [0u8; 64];
+    recognise(first, sorts, &mut stack)
 }
 
-// The recogniser with a stack for the longest part.
-fn recognise_long(first: u8, part: &[u8]) -> bool
-    requires { ⌜ (first < 8) × (length (now part) ≤ 32768) ⌝ }
-    ensures { λ r. ⌜ r ≡ phraseIn (kindAt first) (tokenList (itemsOf (now (part .entry)))) ⌝ }
+// The recogniser with a stack for the most tokens.
+fn recognise_long(first: u8, sorts: &[u8]) -> bool
+    requires { ⌜ (first < 8) × (length (now sorts) ≤ 32768) ⌝ }
+    ensures { λ r. ⌜ r ≡ phraseIn (kindAt first) (now (sorts .entry)) ⌝ }
 {
     let mut stack = [0u8; 32769];
-    recognise(first, part, &mut stack)
+    recognise(first, sorts, &mut stack)
 }
 
-// The recogniser for any part; one of more than 32,768 bytes is in no text.
-fn recognise_part(first: u8, part: &[u8]) -> bool
-    requires { ⌜ first < 8 ⌝ }
-    ensures { λ r. ⌜ r ≡ phraseIn (kindAt first) (tokenList (itemsOf (partText (now (part .entry))))) ⌝ }
+// The recogniser, with a stack by the number of tokens.
+fn recognise_part(first: u8, sorts: &[u8]) -> bool
+    requires { ⌜ (first < 8) × (length (now sorts) ≤ 32768) ⌝ }
+    ensures { λ r. ⌜ r ≡ phraseIn (kindAt first) (now (sorts .entry)) ⌝ }
 {
-    if part.len() <= 120 {
-        return recognise_short(first, part);
+    if sorts.len() <= 60 {
+        return recognise_short(first, sorts);
     }
-    if part.len() <= 32768 {
-        return recognise_long(first, part);
-    }
-    false
+    recognise_long(first, sorts)
 }
 
-// Whether a part is an expression.
-pub fn is_phrase(part: &[u8]) -> bool
-    ensures { λ r. ⌜ r ≡ phraseIn initial (tokenList (itemsOf (partText (now (part .entry))))) ⌝ }
+// Whether tokens of some sorts are an expression.
+pub fn is_phrase(sorts: &[u8]) -> bool
+    requires { ⌜ length (now sorts) ≤ 32768 ⌝ }
+    ensures { λ r. ⌜ r ≡ phraseIn initial (now (sorts .entry)) ⌝ }
 {
-    recognise_part(INITIAL, part)
+    recognise_part(INITIAL, sorts)
 }
 
-// Whether a part is an element.
-pub fn is_element(part: &[u8]) -> bool
-    ensures { λ r. ⌜ r ≡ phraseIn element (tokenList (itemsOf (partText (now (part .entry))))) ⌝ }
+// Whether they are an element.
+pub fn is_element(sorts: &[u8]) -> bool
+    requires { ⌜ length (now sorts) ≤ 32768 ⌝ }
+    ensures { λ r. ⌜ r ≡ phraseIn element (now (sorts .entry)) ⌝ }
 {
-    recognise_part(ELEMENT, part)
+    recognise_part(ELEMENT, sorts)
 }

@@ -1,4 +1,3 @@
 pub mod SumSteps
-pub mod LeftLines
 pub mod LineSteps
-pub mod TextMeasured
+pub mod MeasuredLaws

@@ -72,6 +72,7 @@ pub record LineMeasured (kinds levels owns : List ℕ) (j : ℕ) (y : Standing) 
 pub record Measured (kinds : List ℕ) (count : ℕ) (levels owns : List ℕ) (ys : List Standing) : Type 0 where
   pub counted : count ≡ length ys
   pub few : count ≤ 1024
+  pub long : count ≤ length levels
   pub line : (j : ℕ) (y : Standing) (zs : List Standing) → drop j ys ≡ y ∷ zs → LineMeasured kinds levels owns j y zs
 
 -- some lines are so measured

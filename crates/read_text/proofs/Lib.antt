@@ -1,3 +1,3 @@
 pub mod ReadingLaws
+pub mod NamingLaws
 pub mod RowsLaws
-pub mod GatheredLaws

@@ -1,13 +1,12 @@
 -- Lent rows that are cleared up to the limit, and then hold the declarations and the process of a text.
 use mathlib.Core.Path.{_≡_, refl, sym, ap, _∙_}
-use mathlib.Core.Option.{Option, some}
 use mathlib.Core.List.{List, [], _∷_, _++_, map, flatten, append-assoc}
 use Prim.Native.Nat.{ℕ, zero, suc, _+_, _-_, _*_, _≤_, _<_}
 use native.Mathlib.Nat.{zero-add}
 use native.Mathlib.Numerals.{add-one}
 use native.Mathlib.Omega.{arith}
 use lib.IntN.{ℤ, pos}
-use lib.ListN.{length, getD, set, drop, replicate, length-append, length-replicate, replicate-append-replicate, length-map, length-drop}
+use lib.ListN.{length, getD, set, take, drop, replicate, length-take, length-append, length-replicate, replicate-append-replicate}
 use lib.Seq.{drop-cons, drop-append-le, drop-append-seam, append-snoc, set-at}
 use Rattle.meaning.specs.Rows.{rowCount}
 use Rattle.meaning.specs.Buffers.{lent}
@@ -18,8 +17,6 @@ use Rattle.grammar.specs.Outline.{Declaration, grown, heads}
 use Rattle.grammar.specs.Names.{nameOf}
 use Rattle.grammar.specs.TextRows.{declarationRow, declarations, treesForm, linesRows, textLines, textRows}
 use Rattle.grammar.proofs.RowsRead.{rows-sized}
-use Rattle.read_declared.specs.Declarations.{declarationAt, rowsAt, EachDeclares}
-use Rattle.read_declared.proofs.RowSteps.{listed-declares}
 use Rattle.read_expressions.specs.Overlay.{overlay}
 use Rattle.read_expressions.proofs.OverlayLaws.{overlay-after}
 use Rattle.read_table.specs.TableRead.{past}
@@ -111,31 +108,24 @@ declared-few text few =
     let (k, b) = process-whole text in
     omega (arith, rows-sized ds, b, ap (λ (l : List ℤ). length l) (parted text) ∙ length-append (flatten (map declarationRow ds)) (processRows text), few)
 
--- as many are listed as there are
-pub as-many : (text : List ℕ) (ds : List Declaration) (starts : List ℕ) → map (declarationAt text) starts ≡ map some ds → length starts ≡ length ds
-as-many text ds starts e = sym (length-map starts (declarationAt text)) ∙ ap (λ (l : List (Option Declaration)). length l) e ∙ length-map ds some
-
 -- the lent rows while they are written: cleared, with the declarations, with the process
-module _ (text starts : List ℕ) (old : List ℤ) (listed : map (declarationAt text) starts ≡ map some (declarations (textLines text))) (few : rowCount (textRows text) ≤ 1024) (long : 4096 ≤ length old)
-    (none-held : List ℤ) (is-cleared : none-held ≡ cleared old) where
+module _ (text : List ℕ) (old : List ℤ) (few : rowCount (textRows text) ≤ 1024) (long : 4096 ≤ length old) (none-held : List ℤ) (is-cleared : none-held ≡ cleared old) where
   abbrev ds : List Declaration
   ds = declarations (textLines text)
 
   cleared-room : 4096 ≤ length none-held
   cleared-room = omega (arith, ap (λ (l : List ℤ). length l) is-cleared, cleared-length old long, long)
 
-  pub may-put : EachDeclares text starts × (4 * length starts ≤ length none-held)
-  may-put = (listed-declares text ds starts listed .0, omega (arith, as-many text ds starts listed, declared-few text few, cleared-room))
+  pub may-put : 4 * length ds ≤ length none-held
+  may-put = omega (arith, declared-few text few, cleared-room)
 
-  module _ (put : List ℤ) (is-put : put ≡ past (rowsAt text starts) none-held) where
-    pub put-room : 4096 ≤ length put
-    put-room =
-        let rows = rowsAt text starts in
-        let e = ap (λ (l : List ℤ). length l) (listed-declares text ds starts listed .1) ∙ rows-sized ds in
-        omega (arith, e, declared-few text few, ap (λ (l : List ℤ). length l) is-put, length-append rows (drop (length rows) none-held), length-drop (length rows) none-held, cleared-room)
-
+  module _ (put : List ℤ) (is-put : put ≡ past (flatten (map declarationRow ds)) none-held) where
     pub rows-written : (d : ℕ) → d ≡ length ds → (wrote : List ℤ) → wrote ≡ overlay put (4 * d) (processRows text) → wrote ≡ rowsIn (textRows text) old
     rows-written d e wrote w =
         w
-        ∙ ap (λ (l : List ℤ). overlay l (4 * d) (processRows text)) (is-put ∙ ap (past (rowsAt text starts)) is-cleared ∙ ap (λ (rows : List ℤ). past rows (cleared old)) (listed-declares text ds starts listed .1))
+        ∙ ap (λ (l : List ℤ). overlay l (4 * d) (processRows text)) (is-put ∙ ap (past (flatten (map declarationRow ds))) is-cleared)
         ∙ all-written text old d e few long
+
+-- the first r of a list are r
+pub all-taken : (r : ℕ) (l : List ℕ) → r ≤ length l → r ≡ length (take r l)
+all-taken r l h = omega (arith, length-take r l, h)

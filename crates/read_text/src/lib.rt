@@ -2,12 +2,16 @@
 ghost use mathlib.Core.Path.{_≡_};
 ghost use Prim.Native.Nat.{_≤_};
 ghost use lib.ListN.{length};
-ghost use Rattle.meaning.specs.Rows.{rowCount};
-ghost use Rattle.grammar.specs.TextRows.{textRows};
-ghost use Rattle.read_levels.specs.Kinds.{Outlined};
-ghost use Rattle.read_declared.specs.Declarations.{TextListed, Roomy, lists};
-ghost use Rattle.read_text.specs.Reading.{rowsIn, cleared, textRead};
-use read_levels::Place;
+ghost use Rattle.grammar.specs.TextRows.{textLines};
+ghost use Rattle.read_levels.specs.Listing.{listing, TextListed, LevelsListed};
+ghost use Rattle.read_levels.specs.Outlines.{Room};
+ghost use Rattle.read_text.specs.Reading.{textRead};
+
+mod names; // names.rt: its names resolved
+mod rows; // rows.rt: its rows written
+
+use names::Named;
+use read_levels::Outlined;
 
 // What reading comes to: so many rows are read, or the text is refused.
 pub enum TextRead {
@@ -15,92 +19,94 @@ pub enum TextRead {
     Refused(u8, u32),
 }
 
-// The first 4,096 of lent numbers set to 0.
-fn clear(rows: &mut [i32])
-    requires { ⌜ 4096 ≤ length (now rows) ⌝ }
-    ensures { λ _. ⌜ now (rows .exit) ≡ cleared (now (rows .entry)) ⌝ }
+// The rows of a text of the grammar, in lent rows, from its lines as they are listed: its names are resolved, then the number of its rows looked at.
+fn read_listed(
+    text: &[u8],
+    kinds: &[u8],
+    count: usize,
+    levels: &[u16],
+    ends: &[u16],
+    sorts: &[u8],
+    values: &mut [i32],
+    rows: &mut [i32],
+) -> TextRead
+    requires { ⌜ TextListed (now text) count (listing (now kinds) (now ends) (now sorts) (now values)) × LevelsListed (textLines (now text)) count (now levels) × (length (now kinds) ≤ 32768) × (4096 ≤ length (now rows)) ⌝ }
+    ensures { λ r. ⌜ (r, now (rows .exit)) ≡ textRead (now (text .entry)) (now (rows .entry)) ⌝ }
 {
-    let mut i: usize = 0;
-    while i < 4096 {
-        rows[i] = 0;
-        i += 1;
+    match names::resolve(text, kinds, count, ends, sorts, values) {
+        Named::Fault(line) => TextRead::Refused(13, line),
+        Named::Declared(declared) => {
+            let made = read_counts::count_rows(kinds, count, ends, sorts);
+            if 1024 < made {
+                return TextRead::Refused(3, 1024);
+            }
+            rows::write_rows(kinds, count, levels, ends, sorts, values, declared, rows);
+            TextRead::Rows(made as usize)
+        }
     }
 }
 
-// Writes the rows of a text that is not refused, with its declarations listed.
-fn write_rows(
+// The rows of a text, in lent rows, with lists for its lines and tokens.
+fn read_with(
     text: &[u8],
-    kinds: &[u8],
-    froms: &[u16],
-    sizes: &[u8],
-    starts: &[u16],
-    rows: &mut [i32],
-)
-    requires { ⌜ Outlined (now text) (now kinds) × TextListed (now text) (now froms) (now sizes) (now starts) × (length (now froms) ≡ length (now starts)) × (rowCount (textRows (now text)) ≤ 1024) × (4096 ≤ length (now rows)) ⌝ }
-    ensures { λ _. ⌜ now (rows .exit) ≡ rowsIn (textRows (now (text .entry))) (now (rows .entry)) ⌝ }
-{
-    clear(rows);
-    read_declared::put_rows(text, starts, rows);
-    read_processes::write_process(text, kinds, froms, sizes, rows);
-}
-
-// The rows of a text whose lines are of the grammar, in lent rows: its declarations are listed, then its names and the number of its rows looked at.
-fn read_named(
-    text: &[u8],
-    kinds: &[u8],
-    froms: &mut [u16],
-    sizes: &mut [u8],
-    starts: &mut [u16],
+    kinds: &mut [u8],
+    levels: &mut [u16],
+    ends: &mut [u16],
+    sorts: &mut [u8],
+    values: &mut [i32],
     rows: &mut [i32],
 ) -> TextRead
-    requires { ⌜ Outlined (now text) (now kinds) × Roomy (lists (now froms) (now sizes) (now starts)) × (4096 ≤ length (now rows)) ⌝ }
+    requires { ⌜ Room (length (now text)) (now levels) (listing (now kinds) (now ends) (now sorts) (now values)) × (length (now kinds) ≤ 32768) × (4096 ≤ length (now rows)) ⌝ }
     ensures { λ r. ⌜ (r, now (rows .exit)) ≡ textRead (now (text .entry)) (now (rows .entry)) ⌝ }
 {
-    let count = read_declared::gather(text, kinds, froms, sizes, starts);
-    read_listed(
+    match read_levels::outline(text, kinds, levels, ends, sorts, values) {
+        Outlined::Fault(line) => TextRead::Refused(12, line),
+        Outlined::Lines(count) => {
+            read_listed(text, kinds, count, levels, ends, sorts, values, rows)
+        }
+    }
+}
+
+// The same of a text of at most 4,096 bytes, with lists for so many.
+fn read_short(text: &[u8], rows: &mut [i32]) -> TextRead
+    requires { ⌜ (length (now text) ≤ 4096) × (4096 ≤ length (now rows)) ⌝ }
+    ensures { λ r. ⌜ (r, now (rows .exit)) ≡ textRead (now (text .entry)) (now (rows .entry)) ⌝ }
+{
+    let mut kinds = [0u8; 4096];
+    let mut levels = [0u16; 4096];
+    let mut ends = [0u16; 4096];
+    let mut sorts = [0u8; 4096];
+    let mut values = [0i32; 4096];
+    read_with(
         text,
-        kinds,
-        &froms[..count],
-        &sizes[..count],
-        &starts[..count],
+        &mut kinds,
+        &mut levels,
+        &mut ends,
+        &mut sorts,
+        &mut values,
         rows,
     )
 }
 
-// The same, with lists for the declarations.
-fn read_outlined(text: &[u8], kinds: &[u8], rows: &mut [i32]) -> TextRead
-    requires { ⌜ Outlined (now text) (now kinds) × (4096 ≤ length (now rows)) ⌝ }
+// The same of a text of at most 32,768 bytes.
+fn read_long(text: &[u8], rows: &mut [i32]) -> TextRead
+    requires { ⌜ (length (now text) ≤ 32768) × (4096 ≤ length (now rows)) ⌝ }
     ensures { λ r. ⌜ (r, now (rows .exit)) ≡ textRead (now (text .entry)) (now (rows .entry)) ⌝ }
 {
-    let mut froms = [0u16; 32768];
-    let mut sizes = [0u8; 32768];
-    let mut starts = [0u16; 32768];
-    read_named(text, kinds, &mut froms, &mut sizes, &mut starts, rows)
-}
-
-// The same, with its declarations listed.
-fn read_listed(
-    text: &[u8],
-    kinds: &[u8],
-    froms: &[u16],
-    sizes: &[u8],
-    starts: &[u16],
-    rows: &mut [i32],
-) -> TextRead
-    requires { ⌜ Outlined (now text) (now kinds) × TextListed (now text) (now froms) (now sizes) (now starts) × (length (now froms) ≡ length (now starts)) × (4096 ≤ length (now rows)) ⌝ }
-    ensures { λ r. ⌜ (r, now (rows .exit)) ≡ textRead (now (text .entry)) (now (rows .entry)) ⌝ }
-{
-    match read_uses::names_fault(text, kinds, froms, sizes, starts) {
-        Place::Line(line) => TextRead::Refused(13, line),
-        Place::Nowhere => {
-            let made = read_counts::count_rows(text, kinds);
-            if 1024 < made {
-                return TextRead::Refused(3, 1024);
-            }
-            write_rows(text, kinds, froms, sizes, starts, rows);
-            TextRead::Rows(made as usize)
-        }
-    }
+    let mut kinds = [0u8; 32768];
+    let mut levels = [0u16; 32768];
+    let mut ends = [0u16; 32768];
+    let mut sorts = [0u8; 32768];
+    let mut values = [0i32; 32768];
+    read_with(
+        text,
+        &mut kinds,
+        &mut levels,
+        &mut ends,
+        &mut sorts,
+        &mut values,
+        rows,
+    )
 }
 
 // The rows of a text, in lent rows of 4,096 numbers; unused ones hold 0.
@@ -110,9 +116,11 @@ pub fn read_text(text: &[u8], rows: &mut [i32]) -> TextRead
     if rows.len() < 4096 {
         return TextRead::Refused(1, 0);
     }
-    let mut kinds = [0u8; 32768];
-    match read_levels::outline(text, &mut kinds) {
-        Place::Line(line) => TextRead::Refused(12, line),
-        Place::Nowhere => read_outlined(text, &kinds, rows),
+    if 32768 < text.len() {
+        return TextRead::Refused(12, 0);
     }
+    if text.len() <= 4096 {
+        return read_short(text, rows);
+    }
+    read_long(text, rows)
 }

@@ -2,7 +2,7 @@
 use mathlib.Core.Path.{_≡_, refl, sym, ap, _∙_}
 use mathlib.Core.Bool.{true, false}
 use mathlib.Core.List.{List}
-use mathlib.Core.Option.{Option, none, some}
+use mathlib.Core.Option.{Option, none, some, Option·none-ne-some}
 use Prim.Native.Nat.{ℕ, _≤_, _<_}
 use native.Mathlib.Omega.{arith}
 use lib.IntN.{ℤ, pos}
@@ -14,16 +14,17 @@ use Rattle.base_numbers.specs.Reading.{parsedOf}
 use Rattle.grammar.specs.Grammar.{Token}
 use Rattle.grammar.specs.Tokens.{words, symbols, tokenSpelt, isWord, orName, orNumber, tokenOf}
 use Rattle.read_tokens.specs.Sorts as sorts
-use Rattle.read_tokens.specs.Lexemes.{valued, lexemeOf}
+use Rattle.read_tokens.specs.Lexemes.{valued, tokenLexeme, lexemeOf, Unnamed}
 use Rattle.read_tokens.specs.declared.Lexeme.{Lexeme}
-use Rattle.read_tokens.proofs.Told.{none-told, token-told, tokenTold}
+use Rattle.read_tokens.specs.Held.{tokenBy}
+use Rattle.read_tokens.proofs.HeldLaws.{none-told, held-told}
 
 -- only no token has the sort of none
-no-token : (o : Option Token) → lexemeOf o .sort ≡ sorts.noToken → o ≡ none
-no-token o e =
-    sym (token-told o (λ n q. let z : _≡_ {A = ℕ} 0 1 = sym e ∙ ap (λ (p : Option Token). lexemeOf p .sort) q in omega arith))
-    ∙ ap (λ (k : ℕ). tokenTold (valued k (lexemeOf o .value))) e
-    ∙ none-told (lexemeOf o .value)
+pub no-token : (o : Option Token) → lexemeOf o .sort ≡ sorts.noToken → o ≡ none
+no-token none e = refl
+no-token (some t) e =
+    let u : Unnamed (some t) = λ n q. let z : _≡_ {A = ℕ} 0 1 = sym e ∙ ap (λ (o : Option Token). lexemeOf o .sort) q in omega arith in
+    absurd (Option·none-ne-some t (sym (none-told (tokenLexeme t .value)) ∙ sym (ap (λ (k : ℕ). tokenBy (λ n. none) k (tokenLexeme t .value)) e) ∙ held-told (λ n. none) t u))
 
 -- what is found stays
 name-after : (o : Option Token) (s : List ℕ) → (lexemeOf o .sort ≡ sorts.noToken → ⊥) → lexemeOf o ≡ lexemeOf (orName o s)

@@ -11,7 +11,7 @@ use borrow.Author.Tests.{ne-eqb, leb-true, leb-false, le-leb, lt-leb}
 use Rattle.meaning.specs.Basics.{ifElse}
 use Rattle.meaning.specs.Lines.{same}
 use Rattle.meaning.proofs.NoFault.{same-is}
-use Rattle.grammar.specs.Tokens.{TokenEntry, tokenSpelt, words}
+use Rattle.grammar.specs.Tokens.{TokenEntry, tokenSpelt, words, symbols}
 use Rattle.grammar.proofs.LinesSound.{split-and}
 use Rattle.read_tokens.specs.Table.{mayBeWord}
 
@@ -32,6 +32,14 @@ too-long (e ∷ es) h s l = go (same s (e .spelling)) refl (too-long es (parts .
     go true q i = let k = ap (λ (t : List ℕ). length t) (same-is s (e .spelling) q) in let m = leb-true (length (e .spelling)) 7 (parts .0) in absurd (omega (arith, l, k, m))
     go false q i = i
 
+pub words-short : (s : List ℕ) → 7 < length s → tokenSpelt words s ≡ none
+unfolding words allWithin
+words-short s l = too-long words refl s l
+
+pub symbols-short : (s : List ℕ) → 7 < length s → tokenSpelt symbols s ≡ none
+unfolding symbols allWithin
+symbols-short s l = too-long symbols refl s l
+
 -- a first byte that is no capital letter
 late-first : (b : ℕ) (s : List ℕ) → 90 < b → tokenSpelt words (b ∷ s) ≡ none
 unfolding tokenSpelt words same
@@ -42,14 +50,14 @@ late-first b s h = rw (other 73 (omega arith), other 67 (omega arith), other 72 
 
 -- bytes that the test passes over
 pub no-word : (s : List ℕ) → mayBeWord s ≡ false → tokenSpelt words s ≡ none
-unfolding mayBeWord tokenSpelt words same allWithin
+unfolding mayBeWord tokenSpelt words same
 no-word [] h = refl
 no-word (b ∷ s) h = go (leb (length (b ∷ s)) 7) refl (leb b 90) refl h
   where
     go : (t : Bool) → leb (length (b ∷ s)) 7 ≡ t → (u : Bool) → leb b 90 ≡ u → (t && u) ≡ false → tokenSpelt words (b ∷ s) ≡ none
     go true e true f h = absurd (false≢true (sym h))
     go true e false f h = late-first b s (leb-false b 90 f)
-    go false e u f h = too-long words refl (b ∷ s) (leb-false (length (b ∷ s)) 7 e)
+    go false e u f h = words-short (b ∷ s) (leb-false (length (b ∷ s)) 7 e)
 
 -- the test, step by step
 pub too-long-tested : (s : List ℕ) → 7 < length s → false ≡ mayBeWord s

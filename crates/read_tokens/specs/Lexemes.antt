@@ -61,7 +61,3 @@ lexemeOf (some t) = tokenLexeme t
 -- no name
 abbrev pub Unnamed : Option Token → Type 0
 Unnamed o = (n : List ℕ) → o ≡ some (name n) → ⊥
-
--- sort and value tell what is no name
-abbrev pub LexemesTell : Type 0
-LexemesTell = (o p : Option Token) → Unnamed o → Unnamed p → lexemeOf o ≡ lexemeOf p → o ≡ p

@@ -1,5 +1,10 @@
 pub mod UseLaws
 pub mod MisuseLaws
-pub mod UseSteps
-pub mod TokenSteps
+pub mod RoleLaws
+pub mod LetterLaws
+pub mod MarkLaws
+pub mod TokenLaws
+pub mod LineSteps
+pub mod LineLaws
+pub mod PartLaws
 pub mod NameSteps

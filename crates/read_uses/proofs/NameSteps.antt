@@ -1,254 +1,344 @@
 -- Whether names are in order, line by line.
-use mathlib.Core.Path.{_≡_, refl, sym, ap, ap₂, _∙_}
-use mathlib.Core.Bool.{Bool, true, false, _||_, or-false, false≢true}
-use mathlib.Core.List.{List, [], _∷_, _++_, map}
-use mathlib.Core.Option.{Option, none, some, Option·none-ne-some}
-use Prim.Native.Nat.{ℕ, suc, _+_, _%_, _≤_, _<_}
+use mathlib.Core.Path.{_≡_, refl, sym, ap, ap₂, subst, _∙_}
+use mathlib.Core.Bool.{Bool, true, false, false≢true}
+use mathlib.Core.List.{List, _∷_, _++_, map}
+use mathlib.Core.Option.{Option, none, some}
+use Prim.Native.Nat.{ℕ, zero, suc, _+_, _-_, _%_, _≤_, _<_}
 use native.Mathlib.Omega.{arith}
 use native.Mathlib.Numerals.{add-one}
-use lib.ListN.{length, getD, getElem?, length-append}
-use lib.Dec.{leb, ltb}
+use native.Mathlib.Decide.{decLt}
+use lib.IntN.{ℤ}
+use lib.ListN.{length, getD, take, drop, length-drop}
+use lib.Seq.{length-take-le, drop-drop}
+use lib.Dec.{leb}
 use borrow.Author.Tests.{leb-true, leb-false}
-use Rattle.meaning.specs.Basics.{ifElse, isSome, anyPasses, lowestFrom, lowest}
-use Rattle.grammar.specs.Grammar.{Token, name}
-use Rattle.grammar.specs.Outline.{Declaration, OutlineLine, declare, skip, stop, assign, input, output, seq, par, ifs, alts, while, test, guarded, allowed, isDeclaration, Lined, lined}
-use Rattle.grammar.specs.LineBytes.{bodyOf}
-use Rattle.grammar.specs.Names.{Use, usesOf, nameOf, declarationIn, firstDeclared, misused, declaredBefore, declaredAgain, lineMisnamed, misnamed, namesFault}
-use Rattle.grammar.specs.TextBytes.{grammarFault}
-use Rattle.grammar.specs.TextRows.{ifDeclared, nameRow, declarations, textLines}
-use Rattle.grammar.proofs.LineRead.{line-sound}
-use Rattle.read_tokens.specs.Sorts as sorts
-use Rattle.read_scan.specs.declared.Next.{Next}
-use Rattle.read_scan.specs.Cuts.{partOf}
-use Rattle.read_scan.proofs.NextLaws.{start-remains}
-use Rattle.read_classes.specs.Parts.{chunksOf}
-use Rattle.read_classes.specs.LineClasses.{lineOf, lineOfBody}
-use Rattle.read_lines.specs.declared.Line.{Line}
-use Rattle.read_lines.specs.LineParts.{lineIn, bodyIn}
-use Rattle.read_levels.specs.declared.Place.the-variants as place
-use Rattle.read_levels.specs.Kinds.{Outlined}
-use Rattle.read_levels.specs.Places.{placeOf}
-use Rattle.read_declared.specs.Firsts.{firstOf, FirstIs}
-use Rattle.read_declared.specs.Declarations.{inOrder, declarationOf, declarationOn}
-use Rattle.read_declared.proofs.HeaderLaws.{declared-name}
-use Rattle.read_declared.proofs.OrderLaws.{in-order, in-order-append, no-more-than-lines}
+use Rattle.meaning.specs.Basics.{ifElse, lowestFrom, lowest}
+use Rattle.meaning.specs.Lines.{same}
+use Rattle.grammar.specs.Outline.{Declaration, OutlineLine, declare, Lined, lined}
+use Rattle.grammar.specs.Names.{declarationIn, misnamed, namesFault}
+use Rattle.grammar.specs.TextRows.{ifDeclared, declarations, textLines}
+use Rattle.grammar.specs.Classes.{classOf}
+use Rattle.read_tokens.specs.Held.{part, nameHeld, nameOfRow, tokensHeld, tokensResolved, rowLimit}
+use Rattle.read_classes.specs.ClassNumbers.{numberOf}
+use Rattle.read_levels.specs.Listing.{listing, startOf, sortsOn, LineListed, LinesListed, TextListed}
+use Rattle.read_levels.proofs.ListingLaws.{rest-after, starts, starts-first, tokens-counted, line-kept, line-there, line-before, no-line-left, class-at, start-within}
+use Rattle.read_names.specs.Listed.{namesAt}
+use Rattle.read_names.specs.Keys.{Indexed}
+use Rattle.read_resolved.specs.Resolved.{resolvedToken, declaredNames, TextResolved}
+use Rattle.read_declared.specs.Declarations.{inOrder, Declared}
+use Rattle.read_declared.proofs.OrderLaws.{in-order, no-more-than-lines}
 use Rattle.read_declared.proofs.KindLaws.{declares-below, declares-not}
-use Rattle.read_declared.proofs.LineSteps.{Reached, reached-start, NextLine, next-line, line-small, reached-end}
-use Rattle.read_uses.specs.Uses.{usesIn}
-use Rattle.read_uses.specs.Misuses.{misusedIn, lineMisused, nameIn, misnamedIn}
-use Rattle.read_uses.proofs.UseLaws.{uses-told}
-use Rattle.read_uses.proofs.MisuseLaws.{misused-told, again-told}
+use Rattle.read_uses.specs.declared.Place.{Place}
+use Rattle.read_uses.specs.Misuses.{tokensMisnamed}
+use Rattle.read_uses.specs.Places.{placeOf}
+use Rattle.read_uses.specs.Resolving.{resolvedChunk, NamesKnown, LineHeld, LineChecked}
+use Rattle.read_uses.specs.declared.Place.the-variants as place
+use Rattle.read_uses.proofs.PartLaws.{replaced-before, replaced-part, replaced-after, replaced-length}
+use Rattle.read_uses.proofs.LineLaws.{spelt-some, resolved-map, line-told, counted-after}
 
--- One line ----------------------------------------------------------------------------------------------------------------------------
+-- The loop ---------------------------------------------------------------------------------------------------------------------------
 
--- the name that a line declares is the first on it
-pub name-found : (line : List ℕ) (n : Next) → FirstIs line (firstOf sorts.name (chunksOf line)) n → isSome (declarationOn line) ≡ true → partOf line (n .from) (n .to) ≡ nameIn (declarationOn line)
-name-found line n x h = go (declarationOn line) refl h
-  where
-    go : (o : Option Declaration) → declarationOn line ≡ o → isSome o ≡ true → partOf line (n .from) (n .to) ≡ nameIn o
-    go none q h = absurd (false≢true h)
-    go (some d) q h = sym (x .letters (nameOf d) (declared-name line d q) .0)
+abbrev isLine : Place → Bool
+isLine place.Nowhere = false
+isLine (place.Line n) = true
 
--- a line that is no declaration has no use but those told
-spelt-uses : (line : List ℕ) (x : OutlineLine) → lineOf line ≡ some x → isDeclaration x ≡ false → usesIn (chunksOf line) ≡ usesOf x
-spelt-uses line x h d = go (bodyOf line) refl h
-  where
-    go : (o : Option (List Token)) → bodyOf line ≡ o → lineOfBody o ≡ some x → usesIn (chunksOf line) ≡ usesOf x
-    go none q h = absurd (Option·none-ne-some x h)
-    go (some ts) q h = ap usesIn (start-remains line 0 ts q) ∙ uses-told ts x (line-sound ts x h) d
+module _ (text : List ℕ) (count : ℕ) (kinds ends sorts : List ℕ) (vs : List ℤ) where
+  abbrev ls : List Lined
+  ls = textLines text
 
-any-same : (p q : Use → Bool) (us : List Use) → ((u : Use) → p u ≡ q u) → anyPasses p us ≡ anyPasses q us
-unfolding anyPasses
-any-same p q [] h = refl
-any-same p q (u ∷ us) h = ap₂ (λ (a b : Bool). a || b) (h u) (any-same p q us h)
+  abbrev ds : List Declaration
+  ds = declarations ls
 
--- the line after some lines
-there : (passed : List Lined) (y : Lined) (rest : List Lined) → getElem? (passed ++ (y ∷ rest)) (length passed) ≡ some y
-there [] y rest = refl
-there (z ∷ passed) y rest = there passed y rest
+  -- names are in order on the lines before one, and resolved
+  pub record Checking (line first seen : ℕ) (ws : List ℤ) : Type 0 where
+    pub inside : line ≤ count
+    pub begins : first ≡ startOf ends line
+    pub counted : seen ≡ length (inOrder (take line ls))
+    pub fault : namesFault ls ≡ lowestFrom (misnamed ls) (suc line) (length (drop line ls))
+    pub same-length : length ws ≡ length vs
+    pub left : drop first ws ≡ drop first vs
+    pub done : (j l : ℕ) (x : OutlineLine) (rest : List Lined) → drop j ls ≡ lined l x ∷ rest → j < line → LineListed nameOfRow (resolvedToken (declaredNames text)) x j ends sorts ws
+    pub ended : (j : ℕ) → j < line → getD ends j 0 ≤ first
 
--- The loop ----------------------------------------------------------------------------------------------------------------------------
+  module _ (t : TextListed text count (listing kinds ends sorts vs)) where
+    abbrev all : LinesListed (nameHeld text) (λ u. u) ls count (listing kinds ends sorts vs)
+    all = t .lines
 
--- names are in order on the lines up to a place
-pub record Checking (text : List ℕ) (at line count : ℕ) : Type 0 where
-  pub reached : Reached text at line
-  pub counted : count ≡ length (inOrder (reached .passed))
-  pub fault : namesFault (textLines text) ≡ lowestFrom (misnamed (textLines text)) (suc line) (length (reached .left))
-
-pub checking-start : (text : List ℕ) → grammarFault text ≡ none → Checking text 0 0 0
-unfolding inOrder namesFault lowest lowestFrom reached-start
-checking-start text e = record { reached = reached-start text e; counted = refl; fault = refl }
-
-module _ (text kinds : List ℕ) (h : Outlined text kinds) (at line count : ℕ) (g : Checking text at line count) where
-  abbrev all : List Lined
-  all = textLines text
-
-  -- no line is left
-  pub checking-end : length text ≤ at → place.Nowhere ≡ placeOf (namesFault all)
-  unfolding lowestFrom
-  checking-end k =
-      let e = reached-end text kinds h at line (g .reached) k in
-      let w = ap length (g .reached .whole) in
-      let a = length-append (g .reached .passed) (g .reached .left) in
-      let z : length (g .reached .left) ≡ 0 = let p = ap length e in omega (arith, w, a, p) in
-      sym (ap placeOf (g .fault ∙ ap (λ (i : ℕ). lowestFrom (misnamed all) (suc line) i) z))
-
-  module _ (k : at < length text) (n : Line) (is : n ≡ lineIn text at) where
-    abbrev following : NextLine text kinds at line (g .reached) n
-    following = next-line text kinds h at line (g .reached) k n is
-
-    abbrev passed : List Lined
-    passed = g .reached .passed
-
-    abbrev here : OutlineLine
-    here = following .here
-
-    abbrev body : List ℕ
-    body = bodyIn text n
-
-    whole : all ≡ passed ++ (lined (following .level) here ∷ following .rest)
-    whole = g .reached .whole ∙ ap (λ (ls : List Lined). passed ++ ls) (following .first-left)
-
-    ordered : inOrder (passed ++ (lined (following .level) here ∷ following .rest)) ≡ declarations all
-    ordered = sym (ap inOrder whole) ∙ in-order text (h .of-grammar)
-
-    -- the line is the next
-    next-misnamed : misnamed all (suc line) ≡ lineMisnamed all line (some (lined (following .level) here))
-    next-misnamed = ap (lineMisnamed all line) (ap₂ (λ (ls : List Lined) (i : ℕ). getElem? ls i) whole (g .reached .number) ∙ there passed (lined (following .level) here) (following .rest))
-
-    -- a declaration
-    module _ (d : Declaration) (q : here ≡ declare d) where
-      on-line : declarationOn body ≡ some d
-      on-line = ap declarationOf (following .told .spelt) ∙ ap declarationIn q
-
-      declaration-told : ltb (nameRow (map nameOf (declarations all)) (nameIn (declarationOn body))) count ≡ misnamed all (suc line)
-      unfolding anyPasses
-      declaration-told =
-          sym
-          (next-misnamed
-          ∙ ap (λ (x : OutlineLine). lineMisnamed all line (some (lined (following .level) x))) q
-          ∙ or-false (declaredBefore line (firstDeclared (nameOf d) all))
-          ∙ ap₂ (λ (i : ℕ) (ls : List Lined). declaredBefore i (firstDeclared (nameOf d) ls)) (g .reached .number) whole
-          ∙ again-told passed (lined (following .level) here ∷ following .rest) (nameOf d)
-          ∙ ap₂ (λ (ds : List Declaration) (c : ℕ). ltb (nameRow (map nameOf ds) (nameOf d)) c) ordered (sym (g .counted))
-          ∙ ap (λ (o : Option Declaration). ltb (nameRow (map nameOf (declarations all)) (nameIn o)) count) (sym on-line))
-
-    -- another line
-    module _ (q : declarationIn here ≡ none) where
-      no-declaration : (x : OutlineLine) → declarationIn x ≡ none → isDeclaration x ≡ false
-      no-declaration (declare d) e = absurd (Option·none-ne-some d (sym e))
-      no-declaration skip e = refl
-      no-declaration stop e = refl
-      no-declaration (assign a b) e = refl
-      no-declaration (input a b) e = refl
-      no-declaration (output a b) e = refl
-      no-declaration seq e = refl
-      no-declaration par e = refl
-      no-declaration ifs e = refl
-      no-declaration alts e = refl
-      no-declaration (while a) e = refl
-      no-declaration (test a) e = refl
-      no-declaration (guarded a b c) e = refl
-      no-declaration (allowed a) e = refl
-
-      other-told : lineMisused (declarations all) body ≡ misnamed all (suc line)
-      other-told =
-          sym
-          (next-misnamed
-          ∙ ap (λ (o : Option Declaration). declaredAgain all line o || anyPasses (λ u. misused (firstDeclared (u .named) all) u) (usesOf here)) q
-          ∙ any-same (λ u. misused (firstDeclared (u .named) all) u) (misusedIn (declarations all)) (usesOf here)
-          (λ u. misused-told all u ∙ ap (λ (ds : List Declaration). misusedIn ds u) (in-order text (h .of-grammar)))
-          ∙ ap (anyPasses (misusedIn (declarations all))) (sym (spelt-uses body here (following .told .spelt) (no-declaration here q))))
-
-    -- by the line's kind
-    abbrev declares : Bool
-    declares = leb (getD kinds line 0 % 16) 2
-
-    declares-told : declares ≡ true → (d : Declaration) × (here ≡ declare d)
-    declares-told e = let w = following .class in let l = leb-true (getD kinds line 0 % 16) 2 e in declares-below here (omega (arith, w, l))
-
-    declares-nothing : declares ≡ false → declarationIn here ≡ none
-    declares-nothing e = let w = following .class in let l = leb-false (getD kinds line 0 % 16) 2 e in declares-not here (omega (arith, w, l))
-
-    pub body-declares : declares ≡ true → isSome (declarationOn body) ≡ true
-    body-declares e = let (d, q) = declares-told e in ap isSome (on-line d q)
-
-    line-told : misnamedIn (declarations all) count declares body ≡ misnamed all (suc line)
-    line-told = go declares refl
-      where
-        go : (t : Bool) → declares ≡ t → misnamedIn (declarations all) count t body ≡ misnamed all (suc line)
-        go true e = let (d, q) = declares-told e in declaration-told d q
-        go false e = other-told (declares-nothing e)
-
-    -- the places of the line, and numbers that are small
-    pub record AtLine : Type 0 where
-      pub in-kinds : line < length kinds
-      pub begins : n .from ≤ n .to
-      pub ends : n .to ≤ length text
-      pub goes-on : at < n .next
-      pub goes-within : n .next ≤ length text
-      pub small : line < 32768
-      pub few : count ≤ line
-
-    pub at-line : AtLine
-    at-line =
-        let i = following .told .inside in
-        let a = i .ends in
-        let b = i .within in
-        let c = g .counted in
-        let m = no-more-than-lines passed in
-        let e = g .reached .number in
+    pub checking-start : Checking 0 0 0 vs
+    unfolding inOrder namesFault lowest lowestFrom
+    checking-start =
         record {
-          in-kinds = following .in-kinds;
-          begins = i .wide;
-          ends = omega (arith, a, b);
-          goes-on = i .later;
-          goes-within = i .within;
-          small = line-small text kinds h at line (g .reached) k;
-          few = omega (arith, c, m, e);
+          inside = omega arith;
+          begins = sym (starts-first ends);
+          counted = refl;
+          fault = refl;
+          same-length = refl;
+          left = refl;
+          done = λ j l x rest e h. absurd (omega (arith, h));
+          ended = λ j h. absurd (omega (arith, h));
         }
 
-    module _ (t : Bool) (told : t ≡ misnamedIn (declarations all) count declares body) where
-      -- the first line that is misnamed, by this one and those after it
-      fault-next : namesFault all ≡ ifElse t (some (suc line)) (lowestFrom (misnamed all) (suc (suc line)) (length (following .rest)))
+    -- each line has a token
+    later-starts : (j : ℕ) → j ≤ count → j ≤ startOf ends j
+    later-starts zero h = omega arith
+    later-starts (suc j) h =
+        let (l, x, rest, e) = line-there all j (omega arith) in
+        let u = all .line j l x rest e in
+        let n = tokens-counted u in
+        let s = spelt-some (u .tokens) x (u .spelt) in
+        let i = later-starts j (omega arith) in
+        let q = starts ends j in
+        omega (arith, n, s, i, q)
+
+    few-lines : count ≤ 32768
+    few-lines =
+        let a = later-starts count (omega arith) in
+        let b = start-within all count (omega arith) in
+        let c = all .short in
+        omega (arith, a, b, c)
+
+    few-declared : length ds ≤ rowLimit
+    few-declared =
+        let a = ap length (in-order text (t .of-grammar)) in
+        let b = no-more-than-lines ls in
+        let c = all .counted in
+        let d = few-lines in
+        omega (arith, a, b, c, d)
+
+    pub names-known : (froms sizes roles heads nexts : List ℕ) → Declared text froms sizes roles → Indexed (namesAt text froms sizes) heads nexts → NamesKnown text froms sizes roles heads nexts
+    names-known froms sizes roles heads nexts d i = (d, i, few-declared)
+
+    module _ (line first seen : ℕ) (ws : List ℤ) (g : Checking line first seen ws) where
+      -- no line is left
+      pub none-left : count ≤ line → place.Nowhere ≡ placeOf (namesFault ls)
       unfolding lowestFrom
-      fault-next =
-          g .fault
-          ∙ ap (λ (ls : List Lined). lowestFrom (misnamed all) (suc line) (length ls)) (following .first-left)
-          ∙ ap (λ (b : Bool). ifElse b (some (suc line)) (lowestFrom (misnamed all) (suc (suc line)) (length (following .rest)))) (sym (told ∙ line-told))
+      none-left k =
+          let i = g .inside in
+          let e : line ≡ count = omega (arith, i, k) in
+          sym (ap placeOf (g .fault ∙ ap (λ (ms : List Lined). lowestFrom (misnamed ls) (suc line) (length ms)) (ap (λ (n : ℕ). drop n ls) e ∙ no-line-left all)))
 
-      -- names are not in order on it
-      pub fault-here : t ≡ true → place.Line (line + 1) ≡ placeOf (namesFault all)
-      fault-here e =
-          ap place.Line (add-one line)
-          ∙ sym (ap placeOf (fault-next ∙ ap (λ (b : Bool). ifElse b (some (suc line)) (lowestFrom (misnamed all) (suc (suc line)) (length (following .rest)))) e))
+      pub all-resolved : count ≤ line → TextResolved text count (listing kinds ends sorts ws)
+      all-resolved k =
+          let n = g .same-length in
+          let v = all .even in
+          record {
+            of-grammar = t .of-grammar;
+            lines = record {
+              counted = all .counted;
+              kinds-held = all .kinds-held;
+              line = λ j l x rest e. let b = line-before all j l x rest e in g .done j l x rest e (omega (arith, b, k));
+              kinds-long = all .kinds-long;
+              ends-long = all .ends-long;
+              even = omega (arith, v, n);
+              short = all .short;
+            };
+          }
 
-      -- they are
-      fault-later : t ≡ false → namesFault all ≡ lowestFrom (misnamed all) (suc (line + 1)) (length (following .after .left))
-      fault-later e =
-          fault-next
-          ∙ ap (λ (b : Bool). ifElse b (some (suc line)) (lowestFrom (misnamed all) (suc (suc line)) (length (following .rest)))) e
-          ∙ ap₂ (λ (i : ℕ) (ls : List Lined). lowestFrom (misnamed all) (suc i) (length ls)) (sym (add-one line)) (sym (following .left-after))
+      module _ (k : line < count) where
+        abbrev end : ℕ
+        end = getD ends line 0
 
-      -- the declarations up to the next line
-      counted-after : length (inOrder (following .after .passed)) ≡ count + length (ifDeclared (declarationIn here))
-      unfolding inOrder
-      counted-after =
-          let e = ap (λ (ls : List Lined). length (inOrder ls)) (following .passed-after) ∙ ap length (in-order-append passed (lined (following .level) here ∷ [])) in
-          let a = length-append (inOrder passed) (ifDeclared (declarationIn here) ++ []) in
-          let b = length-append (ifDeclared (declarationIn here)) [] in
-          let c = g .counted in
-          omega (arith, e, a, b, c)
+        abbrev level : ℕ
+        level = line-there all line k .0
 
-      pub checking-declared : t ≡ false → declares ≡ true → Checking text (n .next) (line + 1) (count + 1)
-      checking-declared e f =
-          let (d, q) = declares-told f in
-          let c : length (ifDeclared (declarationIn here)) ≡ 1 = ap (λ (x : OutlineLine). length (ifDeclared (declarationIn x))) q in
-          let w = counted-after in
-          record { reached = following .after; counted = omega (arith, c, w); fault = fault-later e }
+        abbrev here : OutlineLine
+        here = line-there all line k .1
 
-      pub checking-other : t ≡ false → declares ≡ false → Checking text (n .next) (line + 1) count
-      checking-other e f =
-          let c : length (ifDeclared (declarationIn here)) ≡ 0 = ap (λ (o : Option Declaration). length (ifDeclared o)) (declares-nothing f) in
-          let w = counted-after in
-          record { reached = following .after; counted = omega (arith, c, w); fault = fault-later e }
+        abbrev rest : List Lined
+        rest = line-there all line k .2
+
+        there-is : drop line ls ≡ lined level here ∷ rest
+        there-is = line-there all line k .3
+
+        listed : LineListed (nameHeld text) (λ u. u) here line ends sorts vs
+        listed = all .line line level here rest there-is
+
+        -- the places of the line, and numbers that are small
+        pub record AtLine : Type 0 where
+          pub in-kinds : line < length kinds
+          pub in-ends : line < length ends
+          pub begins : first ≤ end
+          pub in-sorts : end ≤ length sorts
+          pub in-values : end ≤ length ws
+          pub early : first ≤ 32768
+          pub small : line < 32768
+          pub few : seen ≤ line
+
+        pub at-line : AtLine
+        at-line =
+            let a = all .kinds-long in
+            let b = all .ends-long in
+            let c = listed .begins in
+            let d = g .begins in
+            let e = listed .within in
+            let f = all .even in
+            let i = g .same-length in
+            let l = few-lines in
+            let m = no-more-than-lines (take line ls) in
+            let n = length-take-le line ls (let q = all .counted in omega (arith, q, k)) in
+            let s = g .counted in
+            record {
+              in-kinds = omega (arith, a, k);
+              in-ends = omega (arith, b, k);
+              begins = omega (arith, c, d);
+              in-sorts = e;
+              in-values = omega (arith, e, f, i);
+              early = let r = all .short in omega (arith, c, d, e, r);
+              small = omega (arith, l, k);
+              few = omega (arith, m, n, s);
+            }
+
+        -- its tokens
+        abbrev ss : List ℕ
+        ss = part sorts first end
+
+        abbrev us : List ℤ
+        us = part ws first end
+
+        sorts-here : ss ≡ sortsOn ends sorts line
+        sorts-here = ap (λ (a : ℕ). part sorts a end) (g .begins)
+
+        held-here : tokensHeld text ss us ≡ map some (listed .tokens)
+        held-here = ap₂ (tokensHeld text) sorts-here (ap (take (end - first)) (g .left) ∙ ap (λ (a : ℕ). part vs a end) (g .begins)) ∙ listed .values-held
+
+        values-length : length us ≡ end - first
+        values-length =
+            let f = at-line in
+            let b = f .begins in
+            let i = f .in-values in
+            length-take-le (end - first) (drop first ws) (let l = length-drop first ws in omega (arith, l, i, b))
+
+        sorts-length : length ss ≡ end - first
+        sorts-length =
+            let f = at-line in
+            let b = f .begins in
+            let i = f .in-sorts in
+            length-take-le (end - first) (drop first sorts) (let l = length-drop first sorts in omega (arith, l, i, b))
+
+        pub line-held : LineHeld text ss us
+        line-held = (sorts-length ∙ sym values-length, (listed .tokens, held-here))
+
+        -- by the line's kind
+        abbrev declaring : Bool
+        declaring = leb (getD kinds line 0 % 16) 2
+
+        class-here : getD kinds line 0 % 16 ≡ numberOf (classOf here)
+        class-here = class-at all line level here rest there-is
+
+        declares-told : declaring ≡ true → (d : Declaration) × (here ≡ declare d)
+        declares-told e = let w = class-here in let l = leb-true (getD kinds line 0 % 16) 2 e in declares-below here (omega (arith, w, l))
+
+        declares-nothing : declaring ≡ false → declarationIn here ≡ none
+        declares-nothing e = let w = class-here in let l = leb-false (getD kinds line 0 % 16) 2 e in declares-not here (omega (arith, w, l))
+
+        misnamed-here : tokensMisnamed ds declaring seen (map some (listed .tokens)) ≡ misnamed ls (suc line)
+        misnamed-here =
+            line-told text (t .of-grammar) line seen level here rest there-is (g .counted) (listed .tokens) (listed .spelt) declaring declares-told declares-nothing
+
+        declared-more : length (inOrder (take (suc line) ls)) ≡ seen + length (ifDeclared (declarationIn here))
+        declared-more = counted-after text (t .of-grammar) line seen level here rest there-is (g .counted) (listed .tokens) (listed .spelt)
+
+        module _ (b : Bool) (ys : List ℤ) (r : LineChecked text declaring seen ss us b ys) where
+          -- the first line that is misnamed, by this one and those after it
+          fault-next : namesFault ls ≡ ifElse b (some (suc line)) (lowestFrom (misnamed ls) (suc (suc line)) (length rest))
+          unfolding lowestFrom
+          fault-next =
+              g .fault
+              ∙ ap (λ (ms : List Lined). lowestFrom (misnamed ls) (suc line) (length ms)) there-is
+              ∙ ap (λ (p : Bool). ifElse p (some (suc line)) (lowestFrom (misnamed ls) (suc (suc line)) (length rest)))
+              (sym (r .told ∙ ap (tokensMisnamed ds declaring seen) held-here ∙ misnamed-here))
+
+          -- names are not in order on it
+          pub fault-here : b ≡ true → place.Line (line + 1) ≡ placeOf (namesFault ls)
+          fault-here e =
+              ap place.Line (add-one line)
+              ∙ sym (ap placeOf (fault-next ∙ ap (λ (p : Bool). ifElse p (some (suc line)) (lowestFrom (misnamed ls) (suc (suc line)) (length rest))) e))
+
+          abbrev new : List ℤ
+          new = take first ws ++ (ys ++ drop (end - first) (drop first ws))
+
+          part-length : length ys ≡ end - first
+          part-length = r .same-length ∙ values-length
+
+          pub new-length : length new ≡ length vs
+          new-length = let f = at-line in replaced-length ws ys first end (f .begins) (f .in-values) part-length ∙ g .same-length
+
+          -- they are: its names are resolved
+          resolved-here : b ≡ false → LineListed nameOfRow (resolvedToken (declaredNames text)) here line ends sorts new
+          resolved-here e =
+              let f = at-line in
+              record {
+                tokens = listed .tokens;
+                spelt = listed .spelt;
+                sorts-held = listed .sorts-held;
+                values-held =
+                    ap₂ tokensResolved (sym sorts-here) (ap (λ (a : ℕ). part new a end) (sym (g .begins)) ∙ replaced-part ws ys first end (f .begins) (f .in-values) part-length)
+                    ∙ r .resolved e
+                    ∙ ap (map (resolvedChunk (declaredNames text))) held-here
+                    ∙ resolved-map (declaredNames text) (listed .tokens);
+                begins = listed .begins;
+                within = listed .within;
+              }
+
+          resolved-each : b ≡ false → (j l : ℕ) (x : OutlineLine) (later : List Lined) → drop j ls ≡ lined l x ∷ later → j < suc line
+              → LineListed nameOfRow (resolvedToken (declaredNames text)) x j ends sorts new
+          resolved-each e j l x later q i = go (decLt j line)
+            where
+              go : Dec (j < line) → LineListed nameOfRow (resolvedToken (declaredNames text)) x j ends sorts new
+              go (yes h) =
+                  let f = at-line in
+                  line-kept (g .done j l x later q h) ends sorts new refl refl first (g .ended j h) refl (replaced-before ws ys first end (f .begins) (f .in-values) part-length) refl
+              go (no h) =
+                  let same : j ≡ line = omega (arith, h, i) in
+                  let z : here ≡ x = same-line (sym there-is ∙ ap (λ (n : ℕ). drop n ls) (sym same) ∙ q) in
+                  subst (λ (n : ℕ). LineListed nameOfRow (resolvedToken (declaredNames text)) x n ends sorts new) (sym same)
+                  (subst (λ (y : OutlineLine). LineListed nameOfRow (resolvedToken (declaredNames text)) y line ends sorts new) z (resolved-here e))
+                where
+                  same-line : {l m : ℕ} {x y : OutlineLine} {ps qs : List Lined} → lined l x ∷ ps ≡ lined m y ∷ qs → x ≡ y
+                  same-line e = cc
+
+          -- what is left
+          next : b ≡ false → (n : ℕ) → n ≡ length (inOrder (take (suc line) ls)) → Checking (line + 1) end n new
+          next e n c =
+              let f = at-line in
+              subst (λ (i : ℕ). Checking i end n new) (sym (add-one line))
+              (record {
+                inside = k;
+                begins = sym (starts ends line);
+                counted = c;
+                fault =
+                    fault-next
+                    ∙ ap (λ (p : Bool). ifElse p (some (suc line)) (lowestFrom (misnamed ls) (suc (suc line)) (length rest))) e
+                    ∙ ap (λ (ms : List Lined). lowestFrom (misnamed ls) (suc (suc line)) (length ms)) (sym (rest-after ls line (lined level here) rest there-is));
+                same-length = new-length;
+                left =
+                    replaced-after ws ys first end (f .begins) (f .in-values) part-length ∙ later-left (f .begins);
+                done = resolved-each e;
+                ended = λ j h. ended-by j h (decLt j line);
+              })
+            where
+              later-left : first ≤ end → drop end ws ≡ drop end vs
+              later-left h =
+                  let q : first + (end - first) ≡ end = omega (arith, h) in
+                  ap (λ (m : ℕ). drop m ws) (sym q) ∙ sym (drop-drop (end - first) first ws) ∙ ap (drop (end - first)) (g .left) ∙ drop-drop (end - first) first vs ∙ ap (λ (m : ℕ). drop m vs) q
+
+              ended-by : (j : ℕ) → j < suc line → Dec (j < line) → getD ends j 0 ≤ end
+              ended-by j h (yes i) = let a = g .ended j i in let w = at-line .begins in omega (arith, a, w)
+              ended-by j h (no i) = let same : j ≡ line = omega (arith, h, i) in let z = ap (λ (m : ℕ). getD ends m 0) same in omega (arith, z)
+
+          pub checking-declared : b ≡ false → declaring ≡ true → Checking (line + 1) end (seen + 1) new
+          checking-declared e f =
+              let (d, q) = declares-told f in
+              let c : length (ifDeclared (declarationIn here)) ≡ 1 = ap (λ (x : OutlineLine). length (ifDeclared (declarationIn x))) q in
+              let w = declared-more in
+              next e (seen + 1) (omega (arith, c, w))
+
+          pub checking-other : b ≡ false → declaring ≡ false → Checking (line + 1) end seen new
+          checking-other e f =
+              let c : length (ifDeclared (declarationIn here)) ≡ 0 = ap (λ (o : Option Declaration). length (ifDeclared o)) (declares-nothing f) in
+              let w = declared-more in
+              next e seen (omega (arith, c, w))
+
+-- a line is not nowhere
+pub line-somewhere : {A : Type 0} (n : ℕ) → place.Line n ≡ place.Nowhere → A
+line-somewhere n e = absurd (false≢true (sym (ap isLine e)))

@@ -14,7 +14,7 @@ use Rattle.read_tokens.specs.Sorts as sorts
 use Rattle.read_classes.specs.Parts.{partAtMark}
 use Rattle.read_uses.specs.Uses.{sortBy, markAhead, bareBefore, chunkUse, usesFrom, markAfter, usesIn, UsesTold}
 
--- Tokens before chunks --------------------------------------------------------------------------------------------------------------
+-- Tokens before chunks ---------------------------------------------------------------------------------------------------------------
 
 -- tokens, and then chunks
 abbrev onto : List Token → List (Option Token) → List (Option Token)
@@ -54,7 +54,7 @@ unfolding partAtMark usesFrom
 joins-quiet both = record { ahead = λ os. refl; unused = λ os. refl; bare = λ os. refl }
 joins-quiet either = record { ahead = λ os. refl; unused = λ os. refl; bare = λ os. refl }
 
--- Expressions -----------------------------------------------------------------------------------------------------------------------
+-- Expressions ------------------------------------------------------------------------------------------------------------------------
 
 -- the uses of tokens that spell an expression, before chunks that begin with no subscript
 record Told (ts : List Token) (e : Syn) : Type 0 where
@@ -138,7 +138,7 @@ element-told : {ts : List Token} {a : Syn} → Element ts a → ElementTold ts a
 element-told (alone {n}) = alone-told n
 element-told (subscripted {n} {ts} {e} p) = subscripted-told n ts e (phrase-told p)
 
--- Lines -----------------------------------------------------------------------------------------------------------------------------
+-- Lines ------------------------------------------------------------------------------------------------------------------------------
 
 -- only what the first name is used as matters of the mark
 same-sort : (m k : ℕ) (os : List (Option Token)) → sortBy m ≡ sortBy k → usesFrom m os ≡ usesFrom k os

@@ -1,2 +1,4 @@
 pub mod Uses
 pub mod Misuses
+pub mod Places
+pub mod Resolving

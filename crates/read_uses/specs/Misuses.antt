@@ -1,24 +1,23 @@
 -- Which names are not in order, by the declarations in the order of the lines.
 use mathlib.Core.Path.{_≡_}
-use mathlib.Core.Bool.{Bool, true, false, not, _&&_, _||_}
-use mathlib.Core.List.{List, [], _++_, map}
+use mathlib.Core.Bool.{Bool, true, not, _&&_, _||_}
+use mathlib.Core.List.{List, _++_, map}
 use mathlib.Core.Option.{Option, none, some}
-use Prim.Native.Nat.{ℕ}
-use lib.IntN.{ℤ, pos}
-use lib.ListN.{length, getElem?}
+use Prim.Native.Nat.{ℕ, suc, _%_}
+use lib.IntN.{pos}
+use lib.ListN.{length, getD, getElem?, drop}
 use lib.Dec.{eqb, leb, ltb}
 use Rattle.meaning.specs.Basics.{ifElse, eqZ, anyPasses}
+use Rattle.grammar.specs.Grammar.{Token}
 use Rattle.grammar.specs.Outline.{Declaration, Lined}
-use Rattle.grammar.specs.Names.{Sort, as-variable, as-input, as-output, Use, useOf, nameOf, sizeOf, serves, firstDeclared, misused, declaredBefore}
+use Rattle.grammar.specs.Names.{Sort, as-variable, as-input, as-output, Use, nameOf, sizeOf, serves, firstDeclared, misused, declaredBefore}
 use Rattle.grammar.specs.TextRows.{nameRow}
 use Rattle.read_tokens.specs.Sorts as sorts
-use Rattle.read_scan.specs.Nexts.{listFrom}
-use Rattle.read_scan.specs.Cuts.{partOf}
-use Rattle.read_classes.specs.Parts.{chunksOf}
-use Rattle.read_declared.specs.Declarations.{inOrder, declarationOn}
-use Rattle.read_uses.specs.Uses.{sortBy, markAhead, bareBefore, usesIn}
+use Rattle.read_classes.specs.Parts.{markAt}
+use Rattle.read_declared.specs.Declarations.{inOrder}
+use Rattle.read_uses.specs.Uses.{usesIn}
 
--- Uses ------------------------------------------------------------------------------------------------------------------------------
+-- Uses -------------------------------------------------------------------------------------------------------------------------------
 
 -- whether a use is not in order, by the declaration of its name, if there is one
 abbrev pub unfit : Option Declaration → Use → Bool
@@ -33,42 +32,51 @@ misusedIn ds u = unfit (getElem? ds (nameRow (map nameOf ds) (u .named))) u
 abbrev pub MisusedTold : Type 0
 MisusedTold = (ls : List Lined) (u : Use) → misused (firstDeclared (u .named) ls) u ≡ misusedIn (inOrder ls) u
 
--- whether a token of a sort, from a place to a place of a line, is a name that is not in order, where it stands first before a mark
-abbrev pub tokenMisused : List Declaration → List ℕ → ℕ → ℕ → ℕ → ℕ → Bool
-tokenMisused ds line sort from to mark = ifElse (eqb sort sorts.name) (misusedIn ds (useOf (partOf line from to) (bareBefore (listFrom line to)) (sortBy mark))) false
-
--- the mark that the token after a token of a sort stands first before, 0 if it does not stand first
-abbrev pub markPast : List ℕ → ℕ → ℕ → ℕ
-markPast line sort to = ifElse (leb sorts.skip sort) (markAhead (listFrom line to)) sorts.noToken
-
--- whether a use in a line is not in order
-abbrev pub lineMisused : List Declaration → List ℕ → Bool
-lineMisused ds line = anyPasses (misusedIn ds) (usesIn (chunksOf line))
-
--- Declarations ----------------------------------------------------------------------------------------------------------------------
-
 -- a name is declared on an earlier line if one of the declarations there has it
 abbrev pub AgainTold : Type 0
 AgainTold = (passed left : List Lined) (n : List ℕ)
     → declaredBefore (length passed) (firstDeclared n (passed ++ left)) ≡ ltb (nameRow (map nameOf (inOrder (passed ++ left))) n) (length (inOrder passed))
 
--- the name that a line declares
-abbrev pub nameIn : Option Declaration → List ℕ
-nameIn none = []
-nameIn (some d) = nameOf d
+-- Lines ------------------------------------------------------------------------------------------------------------------------------
 
--- Rows and lines --------------------------------------------------------------------------------------------------------------------
+-- whether a name that means a row is not in order: on a declaration, after so many others, one declared on an earlier line; elsewhere a use
+abbrev pub misnamedAs : Bool → ℕ → ℕ → Option Declaration → Use → Bool
+misnamedAs declares seen row none u = true
+misnamedAs declares seen row (some d) u = ifElse declares (ltb row seen) (unfit (some d) u)
 
--- whether a declaration serves, by its row's kind and role
-abbrev pub servesRow : ℤ → ℤ → Sort → Bool
-servesRow kind role as-variable = eqZ kind (pos 1)
-servesRow kind role as-input = eqZ kind (pos 2) && not (eqZ role (pos 2))
-servesRow kind role as-output = eqZ kind (pos 2) && not (eqZ role (pos 1))
+abbrev pub misnamedIn : List Declaration → Bool → ℕ → Use → Bool
+misnamedIn ds declares seen u = let row = nameRow (map nameOf ds) (u .named) in misnamedAs declares seen row (getElem? ds row) u
 
--- whether a use is not in order, by the row's kind, size and role
-abbrev pub unfitRow : ℤ → ℤ → ℤ → Bool → Sort → Bool
-unfitRow kind size role b s = not (servesRow kind role s) || (b && not (eqZ size (pos 1)))
+-- whether names are not in order on a line, by its tokens
+abbrev pub tokensMisnamed : List Declaration → Bool → ℕ → List (Option Token) → Bool
+tokensMisnamed ds declares seen os = anyPasses (misnamedIn ds declares seen) (usesIn os)
 
--- whether names are not in order on a line, by its bytes after the indentation and how many declarations stand before it
-abbrev pub misnamedIn : List Declaration → ℕ → Bool → List ℕ → Bool
-misnamedIn ds count declares line = ifElse declares (ltb (nameRow (map nameOf ds) (nameIn (declarationOn line))) count) (lineMisused ds line)
+-- Roles ------------------------------------------------------------------------------------------------------------------------------
+
+-- whether a declaration serves, by its role without its size
+abbrev pub servesRole : ℕ → Sort → Bool
+servesRole role as-variable = eqb role 0
+servesRole role as-input = eqb role 1 || eqb role 2
+servesRole role as-output = eqb role 1 || eqb role 3
+
+-- whether a use is not in order, by the role of its declaration
+abbrev pub unfitRole : ℕ → Bool → Sort → Bool
+unfitRole role b s = not (servesRole (role % 4) s) || (b && leb 4 role)
+
+-- whether a name that means a row is not in order, by the roles of the declarations
+abbrev pub misnamedBy : Bool → ℕ → ℕ → List ℕ → Bool → Sort → Bool
+misnamedBy declares seen row roles b s = ifElse (leb (length roles) row) true (ifElse declares (ltb row seen) (unfitRole (getD roles row 0) b s))
+
+-- Sorts ------------------------------------------------------------------------------------------------------------------------------
+
+-- the sort of the first mark, 0 if there is none
+abbrev pub markIn : List ℕ → ℕ
+markIn ss = getD ss (markAt ss) sorts.noToken
+
+-- the mark that the token after a token stands first before, 0 if it does not stand first
+abbrev pub markPast : List ℕ → ℕ → ℕ
+markPast ss at = ifElse (leb sorts.skip (getD ss at 0)) (markIn (drop (suc at) ss)) sorts.noToken
+
+-- whether no subscript begins at a place
+abbrev pub bareAt : List ℕ → ℕ → Bool
+bareAt ss at = not (eqb (getD ss at 0) sorts.squareOpen)

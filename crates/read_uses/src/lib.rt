@@ -1,205 +1,223 @@
-// Whether the names of a text are in order. Refusal 13.
+// Whether the names of a text are in order, and the rows that they mean. Refusal 13.
 ghost use mathlib.Core.Path.{_≡_};
-ghost use mathlib.Core.Bool.{true};
-ghost use Prim.Native.Nat.{_≤_};
+ghost use Prim.Native.Nat.{ℕ, _≤_, _<_};
+ghost use lib.IntN.{pos};
 ghost use lib.ListN.{length};
 ghost use lib.Dec.{ltb};
-ghost use Rattle.meaning.specs.Basics.{isSome};
-ghost use Rattle.grammar.specs.Names.{useOf, namesFault};
-ghost use Rattle.grammar.specs.TextRows.{nameRow, declarations, textLines};
-ghost use Rattle.read_levels.specs.Kinds.{Outlined};
-ghost use Rattle.read_levels.specs.Places.{placeOf};
+ghost use Rattle.meaning.specs.Basics.{ifElse};
+ghost use Rattle.meaning.specs.Rows.{naturalOf};
+ghost use Rattle.grammar.specs.Names.{namesFault};
+ghost use Rattle.grammar.specs.TextRows.{nameRow, textLines};
+ghost use Rattle.read_tokens.specs.Held.{lettersAt};
+ghost use Rattle.read_levels.specs.Listing.{listing, TextListed};
 ghost use Rattle.read_names.specs.Listed.{namesAt};
-ghost use Rattle.read_declared.specs.Declarations.{declarationOn, TextListed};
+ghost use Rattle.read_names.specs.Keys.{Indexed};
+ghost use Rattle.read_resolved.specs.Resolved.{TextResolved};
+ghost use Rattle.read_declared.specs.Declarations.{Declared};
+ghost use Rattle.read_uses.specs.declared.Place.the-variants.{Nowhere};
 ghost use Rattle.read_uses.specs.Uses.{sortBy};
-ghost use Rattle.read_uses.specs.Misuses.{nameIn, misnamedIn, misusedIn, tokenMisused, markPast, lineMisused, servesRow, unfitRow};
+ghost use Rattle.read_uses.specs.Misuses.{servesRole, unfitRole, misnamedBy, markIn, markPast, bareAt};
+ghost use Rattle.read_uses.specs.Places.{placeOf};
+ghost use Rattle.read_uses.specs.Resolving.{NamesKnown, LineHeld, LineChecked};
 use read_classes::classes;
-use read_levels::Place;
 use read_tokens::sorts;
 
-// Whether a row's name serves where it stands first before a mark: before `?` no output of the host, before `!` no input of it, else a variable.
-fn serves(kind: i32, role: i32, mark: u8) -> bool
-    ensures { λ r. ⌜ r ≡ servesRow kind role (sortBy mark) ⌝ }
+// Where names are not in order: nowhere, or first at a line.
+pub enum Place {
+    Nowhere,
+    Line(u32),
+}
+
+// Whether a name of a role serves where it stands first before a mark: before `?` no output of the host, before `!` no input of it, else a variable.
+fn serves(role: u8, mark: u8) -> bool
+    ensures { λ r. ⌜ r ≡ servesRole role (sortBy mark) ⌝ }
 {
     match mark {
         sorts::ASKS => {
-            if kind != 2 {
-                return false;
+            if role == 1 {
+                return true;
             }
-            role != 2
+            role == 2
         }
         sorts::TELLS => {
-            if kind != 2 {
-                return false;
+            if role == 1 {
+                return true;
             }
-            role != 1
+            role == 3
         }
-        _ => kind == 1,
+        _ => role == 0,
     }
 }
 
-// Whether a row's name is not in order in a use.
-fn row_unfit(kind: i32, size: i32, role: i32, bare: bool, mark: u8) -> bool
-    ensures { λ r. ⌜ r ≡ unfitRow kind size role bare (sortBy mark) ⌝ }
+// Whether a name of a role is not in order in a use.
+fn role_unfit(role: u8, bare: bool, mark: u8) -> bool
+    ensures { λ r. ⌜ r ≡ unfitRole role bare (sortBy mark) ⌝ }
 {
-    if !serves(kind, role, mark) {
+    if !serves(role % 4, mark) {
         return true;
     }
     if !bare {
         return false;
     }
-    size != 1
+    4 <= role
 }
 
-// Whether the use of a name is not in order.
-fn use_misused(
-    name: &[u8],
+// Whether a name that means a row is not in order, on a line that is a declaration or not, after so many declarations.
+fn is_misnamed(
+    found: usize,
+    declares: bool,
+    seen: usize,
+    roles: &[u8],
     bare: bool,
     mark: u8,
-    text: &[u8],
-    froms: &[u16],
-    sizes: &[u8],
-    starts: &[u16],
 ) -> bool
-    requires { ⌜ TextListed (now text) (now froms) (now sizes) (now starts) ⌝ }
-    ensures { λ r. ⌜ r ≡ misusedIn (declarations (textLines (now (text .entry)))) (useOf (now (name .entry)) bare (sortBy mark)) ⌝ }
+    ensures { λ r. ⌜ r ≡ misnamedBy declares seen found (now (roles .entry)) bare (sortBy mark) ⌝ }
 {
-    let found = read_names::find(text, froms, sizes, name);
-    if starts.len() <= found {
+    if roles.len() <= found {
         return true;
     }
-    let line = read_lines::line_at(text, starts[found] as usize);
-    let from = line.from;
-    let to = line.to;
-    let row = read_declared::declaration_row(&text[from..to]);
-    row_unfit(row.kind, row.a, row.b, bare, mark)
+    if declares {
+        return found < seen;
+    }
+    role_unfit(roles[found], bare, mark)
 }
 
-// Whether a token of a line is a name that is not in order, where it stands first before a mark.
-fn token_misused(
-    line: &[u8],
-    sort: u8,
-    from: usize,
-    to: usize,
-    mark: u8,
+// The smaller of two numbers.
+fn smaller(a: usize, b: usize) -> usize
+    ensures { λ r. ⌜ r ≡ ifElse (ltb a b) a b ⌝ }
+{
+    if a < b {
+        return a;
+    }
+    b
+}
+
+// The row that a name means, by where it stands.
+fn row_of(
     text: &[u8],
     froms: &[u16],
     sizes: &[u8],
-    starts: &[u16],
-) -> bool
-    requires { ⌜ ((from ≤ to) × (to ≤ length (now line))) × TextListed (now text) (now froms) (now sizes) (now starts) ⌝ }
-    ensures { λ r. ⌜ r ≡ tokenMisused (declarations (textLines (now (text .entry)))) (now (line .entry)) sort from to mark ⌝ }
+    heads: &[u16],
+    nexts: &[u16],
+    value: i32,
+) -> usize
+    requires { ⌜ ((k : ℕ) × (value ≡ pos k)) × (length (now froms) ≡ length (now sizes)) × Indexed (namesAt (now text) (now froms) (now sizes)) (now heads) (now nexts) ⌝ }
+    ensures { λ r. ⌜ r ≡ nameRow (namesAt (now (text .entry)) (now (froms .entry)) (now (sizes .entry))) (lettersAt (now (text .entry)) (naturalOf value)) ⌝ }
 {
-    if sort != sorts::NAME {
-        return false;
+    let place = value as usize;
+    let from = smaller(place / 32, text.len());
+    let to = smaller(from + place % 32, text.len());
+    read_names::find(text, froms, sizes, heads, nexts, &text[from..to])
+}
+
+// Whether no subscript begins at a token.
+fn is_bare(sorts: &[u8], at: usize) -> bool
+    ensures { λ r. ⌜ r ≡ bareAt (now (sorts .entry)) at ⌝ }
+{
+    if at < sorts.len() {
+        return sorts[at] != sorts::SQUARE_OPEN;
     }
-    let after = read_scan::next_token(line, to);
-    use_misused(
-        &line[from..to],
-        after.sort != sorts::SQUARE_OPEN,
-        mark,
-        text,
-        froms,
-        sizes,
-        starts,
-    )
+    true
+}
+
+// The sort of the first mark.
+fn mark_in(sorts: &[u8]) -> u8
+    ensures { λ r. ⌜ r ≡ markIn (now (sorts .entry)) ⌝ }
+{
+    let at = read_classes::first_mark(sorts);
+    if at < sorts.len() {
+        return sorts[at];
+    }
+    sorts::NO_TOKEN
 }
 
 // The mark that the token after a token stands first before.
-fn mark_past(line: &[u8], sort: u8, to: usize) -> u8
-    requires { ⌜ to ≤ length (now line) ⌝ }
-    ensures { λ r. ⌜ r ≡ markPast (now (line .entry)) sort to ⌝ }
+fn mark_past(sorts: &[u8], at: usize) -> u8
+    requires { ⌜ at < length (now sorts) ⌝ }
+    ensures { λ r. ⌜ r ≡ markPast (now (sorts .entry)) at ⌝ }
 {
-    if sort < sorts::SKIP {
+    if sorts[at] < sorts::SKIP {
         return sorts::NO_TOKEN;
     }
-    let marked = read_classes::first_mark(&line[to..]);
-    marked.sort
+    mark_in(&sorts[at + 1..])
 }
 
-// Whether a use in a line is not in order.
-fn line_misused(line: &[u8], text: &[u8], froms: &[u16], sizes: &[u8], starts: &[u16]) -> bool
-    requires { ⌜ TextListed (now text) (now froms) (now sizes) (now starts) ⌝ }
-    ensures { λ r. ⌜ r ≡ lineMisused (declarations (textLines (now (text .entry)))) (now (line .entry)) ⌝ }
+// Whether names are not in order on a line, which is a declaration or not, after so many declarations; each name's row is put in its place.
+fn resolve_line(
+    text: &[u8],
+    sorts: &[u8],
+    values: &mut [i32],
+    declares: bool,
+    seen: usize,
+    froms: &[u16],
+    sizes: &[u8],
+    roles: &[u8],
+    heads: &[u16],
+    nexts: &[u16],
+) -> bool
+    requires { ⌜ LineHeld (now text) (now sorts) (now values) × NamesKnown (now text) (now froms) (now sizes) (now roles) (now heads) (now nexts) ⌝ }
+    ensures { λ r. ⌜ LineChecked (now (text .entry)) declares seen (now (sorts .entry)) (now (values .entry)) r (now (values .exit)) ⌝ }
 {
-    let mut mark = mark_past(line, sorts::SKIP, 0);
+    let mut mark = mark_in(sorts);
     let mut at: usize = 0;
-    while at < line.len() {
-        let next = read_scan::next_token(line, at);
-        if next.from == next.to {
-            return false;
+    while at < sorts.len() {
+        let next = at + 1;
+        let past = mark_past(sorts, at);
+        if sorts[at] == sorts::NAME {
+            let found = row_of(text, froms, sizes, heads, nexts, values[at]);
+            if is_misnamed(found, declares, seen, roles, is_bare(sorts, next), mark) {
+                return true;
+            }
+            values[at] = found as i32;
         }
-        if token_misused(
-            line,
-            next.sort,
-            next.from,
-            next.to,
-            mark,
-            text,
-            froms,
-            sizes,
-            starts,
-        ) {
-            return true;
-        }
-        mark = mark_past(line, next.sort, next.to);
-        at = next.to;
+        mark = past;
+        at = next;
     }
     false
 }
 
-// Whether the name that a line declares is one of the first listed ones.
-fn declared_again(line: &[u8], count: usize, text: &[u8], froms: &[u16], sizes: &[u8]) -> bool
-    requires { ⌜ isSome (declarationOn (now line)) ≡ true ⌝ }
-    ensures { λ r. ⌜ r ≡ ltb (nameRow (namesAt (now (text .entry)) (now (froms .entry)) (now (sizes .entry))) (nameIn (declarationOn (now (line .entry))))) count ⌝ }
-{
-    let name = read_declared::first_of(line, sorts::NAME);
-    let from = name.from;
-    let to = name.to;
-    let found = read_names::find(text, froms, sizes, &line[from..to]);
-    found < count
-}
-
-// Whether names are not in order on a line, which is a declaration or not, after so many declarations.
-fn line_misnamed(
-    line: &[u8],
-    declares: bool,
-    count: usize,
+// The first line on which names are not in order; where they are, each name's row is put in its place.
+pub fn names_fault(
     text: &[u8],
+    kinds: &[u8],
+    count: usize,
+    ends: &[u16],
+    sorts: &[u8],
+    values: &mut [i32],
     froms: &[u16],
     sizes: &[u8],
-    starts: &[u16],
-) -> bool
-    requires { ⌜ (declares ≡ true → isSome (declarationOn (now line)) ≡ true) × TextListed (now text) (now froms) (now sizes) (now starts) ⌝ }
-    ensures { λ r. ⌜ r ≡ misnamedIn (declarations (textLines (now (text .entry)))) count declares (now (line .entry)) ⌝ }
+    roles: &[u8],
+    heads: &[u16],
+    nexts: &[u16],
+) -> Place
+    requires { ⌜ TextListed (now text) count (listing (now kinds) (now ends) (now sorts) (now values)) × Declared (now text) (now froms) (now sizes) (now roles) × Indexed (namesAt (now text) (now froms) (now sizes)) (now heads) (now nexts) ⌝ }
+    ensures { λ r. ⌜ (length (now (values .exit)) ≡ length (now (values .entry))) × (r ≡ placeOf (namesFault (textLines (now (text .entry))))) × (r ≡ Nowhere → TextResolved (now (text .entry)) count (listing (now (kinds .entry)) (now (ends .entry)) (now (sorts .entry)) (now (values .exit)))) ⌝ }
 {
-    if declares {
-        return declared_again(line, count, text, froms, sizes);
-    }
-    line_misused(line, text, froms, sizes, starts)
-}
-
-// The first line on which names are not in order.
-pub fn names_fault(text: &[u8], kinds: &[u8], froms: &[u16], sizes: &[u8], starts: &[u16]) -> Place
-    requires { ⌜ Outlined (now text) (now kinds) × TextListed (now text) (now froms) (now sizes) (now starts) ⌝ }
-    ensures { λ r. ⌜ r ≡ placeOf (namesFault (textLines (now (text .entry)))) ⌝ }
-{
-    let mut at: usize = 0;
     let mut line: usize = 0;
-    let mut count: usize = 0;
-    while at < text.len() {
-        let found = read_lines::line_at(text, at);
-        let from = found.from;
-        let to = found.to;
+    let mut first: usize = 0;
+    let mut seen: usize = 0;
+    while line < count {
+        let end = ends[line] as usize;
         let declares = kinds[line] % 16 <= classes::OTHER_DECLARATION;
         line += 1;
-        if line_misnamed(&text[from..to], declares, count, text, froms, sizes, starts) {
+        if resolve_line(
+            text,
+            &sorts[first..end],
+            &mut values[first..end],
+            declares,
+            seen,
+            froms,
+            sizes,
+            roles,
+            heads,
+            nexts,
+        ) {
             return Place::Line(line as u32);
         }
         if declares {
-            count += 1;
+            seen += 1;
         }
-        at = found.next;
+        first = end;
     }
     Place::Nowhere
 }

@@ -4,7 +4,7 @@ use mathlib.Core.List.{List}
 use native.Mathlib.Omega.{arith}
 use lib.IntN.{ℤ}
 use Rattle.meaning.specs.Answers.{verdictOf, check}
-use Rattle.call_texts.proofs.TextReads.{text-refused, is-fine, within, room, part-long, rows-there, verdict-refused, verdict-on-rows}
+use Rattle.call_texts.proofs.TextReads.{fault-told, is-fine, within, room, part-long, rows-there, verdict-refused, verdict-on-rows}
 use borrow.Author.Needs.{needs}
 use Rattle.call_texts.proofs.check_read.Statement.{statement}
 use Rattle.call_texts.proofs.check_read.Tie as tie
@@ -34,7 +34,7 @@ same-length : tie.Need-same-length
 same-length c = search needs
 
 returns : tie.Need-returns
-returns c = let n = c .before .number .given in verdict-refused (c .before .before .before .before .before .before .before .args .text .now) _ _ (text-refused (c .before .before .before .before .before .before .before .args .text .now) (c .before .before .before .before .before .before .before .args .rows .now) (c .before .before .before .before .before .before .before .pre) (c .before .before .before .before .read-text .result) (c .before .before .before .before .read-text .last .1 .0) (c .before .before .before .before .read-text .ensures) (n .0 .0) (n .0 .1 .0) (n .1))
+returns c = let n = c .before .number .given in verdict-refused (c .before .before .before .before .before .before .before .args .text .now) _ _ (fault-told (c .before .before .before .before .before .before .before .args .text .now) (c .before .before .before .before .before .before .before .args .rows .now) (c .before .before .before .before .before .before .before .pre) (c .before .before .before .before .read-text .result) (c .before .before .before .before .read-text .last .1 .0) (c .before .before .before .before .read-text .ensures) (n .0 .0) (n .0 .1 .0) (n .1))
 
 same-length-2 : tie.Need-same-length-2
 same-length-2 c = search needs

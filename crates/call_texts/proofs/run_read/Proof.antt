@@ -1,7 +1,7 @@
 -- By what reading comes to. Assumes nothing.
 use native.Mathlib.Omega.{arith}
 use Rattle.write_buffers.specs.Lending.{buffersAt}
-use Rattle.call_texts.proofs.TextReads.{text-refused, is-fine, within, room, part-long, rows-there, reply-refused, reply-on-rows}
+use Rattle.call_texts.proofs.TextReads.{fault-told, is-fine, within, room, part-long, rows-there, reply-refused, reply-on-rows}
 use borrow.Author.Needs.{needs}
 use Rattle.call_texts.proofs.run_read.Statement.{statement}
 use Rattle.call_texts.proofs.run_read.Tie as tie
@@ -35,7 +35,7 @@ returns c =
     let s = c .before .before .before .before .before .before .before .before .before .before .before .before .before .before in
     let a = s .args in
     let n = c .before .number .given in
-    reply-refused (a .text .now) (a .sheet .now) (a .choices .now) (a .budget) (buffersAt (a .cells) (a .marks) (a .states) (a .places) (a .numbers) (a .counts) (a .output-marks)) (n .0 .0) (n .0 .1 .0) (s .pre .1) (text-refused (c .before .before .before .before .before .before .before .before .before .before .before .before .before .before .args .text .now) (c .before .before .before .before .before .before .before .before .before .before .before .before .before .before .args .rows .now) (c .before .before .before .before .before .before .before .before .before .before .before .before .before .before .pre .0) (c .before .before .before .before .read-text .result) (c .before .before .before .before .read-text .last .1 .0) (c .before .before .before .before .read-text .ensures) (n .0 .0) (n .0 .1 .0) (n .1))
+    reply-refused (a .text .now) (a .sheet .now) (a .choices .now) (a .budget) (buffersAt (a .cells) (a .marks) (a .states) (a .places) (a .numbers) (a .counts) (a .output-marks)) (n .0 .0) (n .0 .1 .0) (s .pre .1) (fault-told (c .before .before .before .before .before .before .before .before .before .before .before .before .before .before .args .text .now) (c .before .before .before .before .before .before .before .before .before .before .before .before .before .before .args .rows .now) (c .before .before .before .before .before .before .before .before .before .before .before .before .before .before .pre .0) (c .before .before .before .before .read-text .result) (c .before .before .before .before .read-text .last .1 .0) (c .before .before .before .before .read-text .ensures) (n .0 .0) (n .0 .1 .0) (n .1))
 
 same-length-2 : tie.Need-same-length-2
 same-length-2 c = search needs

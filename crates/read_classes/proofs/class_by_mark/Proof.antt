@@ -1,6 +1,5 @@
 -- The tests in turn. Assumes nothing.
 use borrow.Author.Needs.{needs}
-use Rattle.read_classes.specs.Parts.{chunksOf}
 use Rattle.read_classes.specs.Rules.{rules}
 use Rattle.read_classes.proofs.class_by_mark.Tie as tie
 use Rattle.read_classes.proofs.RuleSteps.{refused-before, refused-after, accepted}
@@ -24,7 +23,7 @@ returns c =
     let p = c .before in
     let q = p .before in
     let a = q .before .before .before .before .args in
-    refused-before (a .sort) (chunksOf (a .before .now)) (chunksOf (a .after .now)) (q .rule-at .result) (q .rule-at .ensures) (p .is-part .result) (p .is-part .ensures) (c .if1 .taken)
+    refused-before (a .sort) (a .before .now) (a .after .now) (q .rule-at .result) (q .rule-at .ensures) (p .is-part .result) (p .is-part .ensures) (c .if1 .taken)
 
 array-read-is-part-2 : tie.Need-array-read-is-part-2
 array-read-is-part-2 c = search needs
@@ -39,7 +38,7 @@ returns-2 c =
     let p = t .before .before in
     let q = p .before in
     let a = q .before .before .before .before .args in
-    refused-after (a .sort) (chunksOf (a .before .now)) (chunksOf (a .after .now)) (q .rule-at .result) (q .rule-at .ensures) (p .is-part .result) (p .is-part .ensures) (t .before .if1 .left) (t .is-part2 .result) (t .is-part2 .ensures) (c .if2 .taken)
+    refused-after (a .sort) (a .before .now) (a .after .now) (q .rule-at .result) (q .rule-at .ensures) (p .is-part .result) (p .is-part .ensures) (t .before .if1 .left) (t .is-part2 .result) (t .is-part2 .ensures) (c .if2 .taken)
 
 array-read-result : tie.Need-array-read-result
 array-read-result c = search needs
@@ -51,7 +50,7 @@ returns-3 c =
     let p = t .before .before in
     let q = p .before in
     let a = q .before .before .before .before .args in
-    accepted (a .sort) (chunksOf (a .before .now)) (chunksOf (a .after .now)) (q .rule-at .result) (q .rule-at .ensures) (p .is-part .result) (p .is-part .ensures) (t .before .if1 .left) (t .is-part2 .result) (t .is-part2 .ensures) (c .if2 .left)
+    accepted (a .sort) (a .before .now) (a .after .now) (q .rule-at .result) (q .rule-at .ensures) (p .is-part .result) (p .is-part .ensures) (t .before .if1 .left) (t .is-part2 .result) (t .is-part2 .ensures) (c .if2 .left)
 
 pub class-by-mark-spec : {M : Type 1} → statement M
 class-by-mark-spec =

@@ -1,62 +1,56 @@
--- The loop keeps that the first token of the sort is still to come. Assumes nothing.
-use mathlib.Core.Path.{refl}
-use Prim.Native.Nat.{_-_}
+-- The loop keeps the place of the first token of the sort among those from a place on. Assumes nothing.
+use mathlib.Core.Path.{_≡_}
+use Prim.Native.Nat.{_+_, _-_}
 use native.Mathlib.Omega.{arith}
+use native.Mathlib.Nat.{zero-add}
 use borrow.Author.Needs.{needs}
-use lib.ListN.{length}
-use Rattle.read_declared.proofs.FirstSteps.{Ahead, first-absent, first-absent-in-spaces, first-found, first-later}
+use lib.ListN.{length, drop}
+use Rattle.read_declared.specs.Firsts.{placeOfSort}
+use Rattle.read_declared.proofs.FirstSteps.{place-end, place-here, place-later}
 use Rattle.read_declared.proofs.first_of.Statement.{statement}
 use Rattle.read_declared.proofs.first_of.Tie as tie
 
 abbrev Inv-loop : tie.InvT-loop
-Inv-loop line sort at₀ at = Ahead line sort at
+Inv-loop sorts sort at₀ at = at + placeOfSort sort (drop at sorts) ≡ placeOfSort sort sorts
 
 abbrev μ-loop : tie.MeasureT-loop
-μ-loop line sort at₀ at = length line - at
+μ-loop sorts sort at₀ at = length sorts - at
 
 loop-holds : tie.Need-loop-holds Inv-loop μ-loop
-loop-holds c = record { inside = omega arith; same-first = refl }
+loop-holds c = zero-add (placeOfSort (c .args .sort) (c .args .sorts .now))
 
-next-token-requires : tie.Need-next-token-requires Inv-loop μ-loop
-next-token-requires c κs = search needs
+shared-slice-read-if1 : tie.Need-shared-slice-read-if1 Inv-loop μ-loop
+shared-slice-read-if1 c = search needs
 
 returns : tie.Need-returns Inv-loop μ-loop
 returns c =
-    let n = c .before .before in
-    let l = n .before .before in
-    let a = l .before .before .args in
-    first-absent-in-spaces (a .line .now) (a .sort) (l .loop .at) (l .loop .inv) (n .next-token .result) (n .next-token .ensures) (c .if1 .taken)
+    let l = c .before .before .before in
+    let a = l .before .args in
+    let z = place-here (a .sort) (a .sorts .now) (l .loop .at) (c .before .before .loop-test .taken) (c .if1 .taken) in
+    let i = l .loop .inv in
+    omega (arith, z, i)
 
-returns-2 : tie.Need-returns-2 Inv-loop μ-loop
-returns-2 c =
-    let e = c .before .before in
-    let n = e .before .before in
-    let l = n .before .before in
-    let a = l .before .before .args in
-    first-found (a .line .now) (a .sort) (l .loop .at) (l .loop .inv) (n .next-token .result) (n .next-token .ensures) (e .if1 .left) (c .if2 .taken)
+add-at : tie.Need-add-at Inv-loop μ-loop
+add-at c = search needs
 
 loop-less : tie.Need-loop-less Inv-loop μ-loop
-loop-less c =
-    let e = c .before .before in
-    let n = e .before .before in
-    let l = n .before .before in
-    let a = l .before .before .args in
-    let (s, k) = first-later (a .line .now) (a .sort) (l .loop .at) (l .loop .inv) (n .next-token .result) (n .next-token .ensures) (e .if1 .left) (c .if2 .left) in
-    omega (arith, k, s .inside)
+loop-less c = search needs
 
 loop-again : tie.Need-loop-again Inv-loop μ-loop
 loop-again c =
-    let e = c .before .before in
-    let n = e .before .before in
-    let l = n .before .before in
-    let a = l .before .before .args in
-    first-later (a .line .now) (a .sort) (l .loop .at) (l .loop .inv) (n .next-token .result) (n .next-token .ensures) (e .if1 .left) (c .if2 .left) .0
+    let l = c .before .before .before in
+    let a = l .before .args in
+    let z = place-later (a .sort) (a .sorts .now) (l .loop .at) (c .before .before .loop-test .taken) (c .if1 .left) in
+    let i = l .loop .inv in
+    omega (arith, z, i)
 
-returns-3 : tie.Need-returns-3 Inv-loop μ-loop
-returns-3 c =
+returns-2 : tie.Need-returns-2 Inv-loop μ-loop
+returns-2 c =
     let l = c .before in
-    let a = l .before .before .args in
-    first-absent (a .line .now) (a .sort) (l .loop .at) (l .loop .inv) (c .loop-test .left)
+    let a = l .before .args in
+    let z = place-end (a .sort) (a .sorts .now) (l .loop .at) (c .loop-test .left) in
+    let i = l .loop .inv in
+    omega (arith, z, i)
 
 pub first-of-spec : {M : Type 1} → statement M
 first-of-spec =
@@ -65,9 +59,9 @@ first-of-spec =
     Inv-loop
     μ-loop
     loop-holds
-    next-token-requires
+    shared-slice-read-if1
     returns
-    returns-2
+    add-at
     loop-less
     loop-again
-    returns-3)
+    returns-2)

@@ -1,219 +1,157 @@
 -- The loop keeps what `LayLoop` says. Assumes nothing.
-use mathlib.Core.Path.{_≡_, refl, ap, _∙_}
+use mathlib.Core.Path.{_≡_, refl, ap, ap₂, _∙_}
+use mathlib.Core.Bool.{Bool}
+use mathlib.Core.Logic.{⊎-elim}
 use Prim.Native.Nat.{_+_, _-_, _*_, _<_}
 use native.Mathlib.Omega.{arith}
-use mathlib.Core.Logic.{⊎-elim}
 use mir.Syntax.{w32}
 use mir.Val.{SFits}
 use mir.ValLaws.{toZ-ofZ}
 use borrow.Author.Needs.{needs}
-use lib.IntN.{ℤ}
-use lib.Dec.{eqb}
+use lib.IntN.{ℤ, pos}
 use lib.ListN.{length, getD, length-set}
-use Rattle.read_names.specs.Listed.{namesAt}
+use Rattle.read_tokens.specs.Held.{tokensResolved}
 use Rattle.read_expressions.specs.Overlay.{overlay}
-use Rattle.read_expressions.specs.TokenRows.{rowsBySort, lettersAt}
+use Rattle.read_expressions.specs.TokenRows.{rowsBySort, sizeBySort}
 use Rattle.read_expressions.specs.Free.{filled}
-use Rattle.read_expressions.specs.Expressions.{expressionIn, endOf, withRows}
-use Rattle.read_marks.proofs.TokenSteps.{spelt}
-use Rattle.read_expressions.proofs.LayLoop.{LayLoop, moved, lay-begin, laid-past-end, laid-after-spaces, token-later, token-within, free-row, lay-again-had, mark-low, token-fits, name-stands, lay-again-wanted}
+use Rattle.read_expressions.specs.Expressions.{endOf, withRows}
+use Rattle.read_expressions.proofs.ExpressionLaws.{spelt}
+use Rattle.read_expressions.proofs.LayLoop.{LayLoop, moved, lay-begin, all-laid, free-row, lay-again-had, mark-low, token-fits, lay-again-wanted}
 use Rattle.read_expressions.proofs.lay.Statement.{statement}
 use Rattle.read_expressions.proofs.lay.Tie as tie
 
 abbrev Inv-loop : tie.InvT-loop
-Inv-loop part text froms sizes marks n free₀ rows₀ had₀ height₀ r₀ k₀ at₀ free rows had height r k at =
-    (length free ≡ length free₀) × (length rows ≡ length rows₀) × LayLoop (namesAt text froms sizes) part (endOf (namesAt text froms sizes) part n) (withRows (namesAt text froms sizes) part n rows₀) at k height r had free rows
+Inv-loop sorts values marks n free₀ rows₀ had₀ height₀ r₀ k₀ free rows had height r k =
+    (length free ≡ length free₀) × (length rows ≡ length rows₀) × LayLoop sorts values (endOf (tokensResolved sorts values) n) (withRows (tokensResolved sorts values) n rows₀) k height r had free rows
 
 abbrev μ-loop : tie.MeasureT-loop
-μ-loop part text froms sizes marks n free₀ rows₀ had₀ height₀ r₀ k₀ at₀ free rows had height r k at = length part - at
+μ-loop sorts values marks n free₀ rows₀ had₀ height₀ r₀ k₀ free rows had height r k = length sorts - k
 
 loop-holds : tie.Need-loop-holds Inv-loop μ-loop
-unfolding expressionIn
 loop-holds c =
-    let a = c .before .before .before .before .before .before in
-    let names = namesAt (a .args .text .now) (a .args .froms .now) (a .args .sizes .now) in
-    (refl, refl, lay-begin names (a .args .part .now) (spelt (a .args .part .now) (a .pre .0 .1)) (a .args .n) (a .args .free .now) (a .args .rows .now) (a .pre .0 .3))
+    let a = c .before .before .before in
+    (refl, refl, lay-begin (a .args .sorts .now) (a .args .values .now) (spelt (a .args .sorts .now) (a .args .values .now) (a .pre .1 .0) (a .pre .0 .0)) (a .args .n) (a .args .free .now) (a .args .rows .now) (a .pre .0 .2))
 
-next-token-requires : tie.Need-next-token-requires Inv-loop μ-loop
-next-token-requires c κs = search needs
+shared-slice-read-sort : tie.Need-shared-slice-read-sort Inv-loop μ-loop
+shared-slice-read-sort c = search needs
 
-same-length : tie.Need-same-length Inv-loop μ-loop
-same-length c = c .before .before .before .before .loop .inv .0
+mul-value : tie.Need-mul-value Inv-loop μ-loop
+mul-value c = omega (arith, c .before .loop-test .taken, c .before .before .before .before .before .before .pre .1 .1)
 
-same-length-2 : tie.Need-same-length-2 Inv-loop μ-loop
-same-length-2 c = c .before .before .before .before .loop .inv .1
-
-returns : tie.Need-returns Inv-loop μ-loop
-returns c =
-    let a = c .before .before .before .before .before .before .before .before .before .before .before in
-    let l = c .before .before .before .before .loop in
-    let names = namesAt (a .args .text .now) (a .args .froms .now) (a .args .sizes .now) in
-    let part = a .args .part .now in
-    let end = endOf names part (a .args .n) in
-    let out = withRows names part (a .args .n) (a .args .rows .now) in
-    let n = c .before .before .next-token in
-    let w = laid-after-spaces names part end out (l .at) (l .k) (l .height) (l .r) (l .had) (l .free) (l .rows) (l .inv .2) (n .result) (n .ensures) (c .if1 .taken) in
-    (l .inv .0, w .0, w .1)
+shared-slice-copy-out-value : tie.Need-shared-slice-copy-out-value Inv-loop μ-loop
+shared-slice-copy-out-value c = omega (arith, c .before .loop-test .taken, c .before .before .before .before .before .before .pre .1 .0)
 
 fill-requires : tie.Need-fill-requires Inv-loop μ-loop
 fill-requires c κs =
-    let a = c .before .before .before .before .before .before .before .before .before .before .before .before .before .before .before in
-    let l = c .before .before .before .before .before .before .before .before .loop in
-    let names = namesAt (a .args .text .now) (a .args .froms .now) (a .args .sizes .now) in
-    let part = a .args .part .now in
-    let end = endOf names part (a .args .n) in
-    let out = withRows names part (a .args .n) (a .args .rows .now) in
-    let n = c .before .before .before .before .before .before .next-token in
-    let more = c .before .before .before .before .if1 .left in
+    let a = c .before .before .before .before .before .before .before .before .before .before in
+    let l = c .before .before .before .before .before .before .loop in
     let m = l .inv .2 in
-    let h = c .before .before .before .before .before .before .before .loop-test .taken in
-    let few = a .pre .0 .2 in
-    let room = a .pre .0 .3 in (
+    let h = c .before .before .before .before .before .loop-test .taken in
+    let few = a .pre .0 .1 in
+    let room = a .pre .0 .2 in (
       omega (arith, m .below, few),
-      omega (arith, m .low, m .few, h, l .inv .0, a .pre .2),
-      λ e. let w = free-row names part end out (l .at) (l .k) (l .height) (l .r) (l .had) (l .free) (l .rows) (l .inv .2) (n .result) (n .ensures) more (c .before .before .before .if2 .taken) e in (w .0, omega (arith, w .1, few), omega (arith, w .1, room, l .inv .1)),
+      omega (arith, m .low, h, l .inv .0, a .pre .1 .3),
+      λ e. let w = free-row (a .args .sorts .now) (a .args .values .now) (a .pre .1 .0) _ _ (l .k) (l .height) (l .r) (l .had) (l .free) (l .rows) m h (c .before .before .if1 .taken) e in (w .0, omega (arith, w .1, few), omega (arith, w .1, room, l .inv .1)),
     )
 
 shared-slice-read-mark : tie.Need-shared-slice-read-mark Inv-loop μ-loop
-shared-slice-read-mark c =
-    let a = c .before .before .before .before .before .before .before .before .before .before .before .before .before in
-    let l = c .before .before .before .before .before .before .loop in
-    omega (arith, l .inv .2 .few, c .before .before .before .before .before .loop-test .taken, a .pre .3)
+shared-slice-read-mark c = omega (arith, c .before .before .before .before .loop-test .taken, c .before .before .before .before .before .before .before .before .before .pre .1 .2)
 
 cast-mark : tie.Need-cast-mark Inv-loop μ-loop
-cast-mark c = omega (arith, c .shared-slice-known6 .given (c .before .before .before .before .before .before .loop .k))
+cast-mark c = omega (arith, c .shared-slice-known4 .given (c .before .before .before .before .before .loop .k))
 
 cast-free : tie.Need-cast-free Inv-loop μ-loop
-cast-free c = record { fits = omega (arith, c .before .before .before .before .before .before .loop .inv .2 .below, c .before .before .before .before .before .before .before .before .before .before .before .before .before .pre .0 .2) }
+cast-free c = record { fits = omega (arith, c .before .before .before .before .before .loop .inv .2 .below, c .before .before .before .before .before .before .before .before .before .pre .0 .1) }
 
 mul-free : tie.Need-mul-free Inv-loop μ-loop
 mul-free c = search needs
 
 slice-write-free : tie.Need-slice-write-free Inv-loop μ-loop
 slice-write-free c =
-    let a = c .before .before .before .before .before .before .before .before .before .before .before .before .before in
-    let l = c .before .before .before .before .before .before .loop in
-    omega (arith, l .inv .2 .low, l .inv .2 .few, c .before .before .before .before .before .loop-test .taken, l .inv .0, a .pre .2)
+    let a = c .before .before .before .before .before .before .before .before .before in
+    let l = c .before .before .before .before .before .loop in
+    let m = l .inv .2 in
+    let h = c .before .before .before .before .loop-test .taken in
+    omega (arith, m .low, h, l .inv .0, a .pre .1 .3)
 
 add-height : tie.Need-add-height Inv-loop μ-loop
 add-height c =
-    let a = c .before .before .before .before .before .before .before .before .before .before .before .before .before in
-    let l = c .before .before .before .before .before .before .loop in
-    let names = namesAt (a .args .text .now) (a .args .froms .now) (a .args .sizes .now) in
-    let part = a .args .part .now in
-    let end = endOf names part (a .args .n) in
-    let out = withRows names part (a .args .n) (a .args .rows .now) in
-    let n = c .before .before .before .before .next-token in
-    let more = c .before .before .if1 .left in
-    let low = mark-low names part end out (l .at) (l .k) (l .height) (l .r) (l .had) (l .free) (l .rows) (l .inv .2) (n .result) (n .ensures) more (a .args .marks .now) (a .pre .4) (c .before .if2 .left) in
-    record { fits = omega (arith, l .inv .2 .low, l .inv .2 .few, c .before .before .before .before .before .loop-test .taken, a .pre .0 .0, low) }
+    let a = c .before .before .before .before .before .before .before .before .before in
+    let l = c .before .before .before .before .before .loop in
+    let m = l .inv .2 in
+    let h = c .before .before .before .before .loop-test .taken in
+    record { fits = omega (arith, m .low, h, a .pre .1 .1, mark-low (a .args .sorts .now) (a .args .values .now) (a .pre .1 .0) _ _ (l .k) (l .height) (l .r) (l .had) (l .free) (l .rows) m h (a .args .marks .now) (a .pre .2) (c .before .if1 .left)) }
 
-next-token-requires-2 : tie.Need-next-token-requires-2 Inv-loop μ-loop
-next-token-requires-2 c κs = search needs
+add-begins-subscript : tie.Need-add-begins-subscript Inv-loop μ-loop
+add-begins-subscript c = record { fits = omega (arith, c .before .before .before .before .loop-test .taken, c .before .before .before .before .before .before .before .before .before .pre .1 .1) }
+
+begins-subscript-requires : tie.Need-begins-subscript-requires Inv-loop μ-loop
+begins-subscript-requires c κs = search needs
 
 add-write-token : tie.Need-add-write-token Inv-loop μ-loop
 add-write-token c =
-    let a = c .before .before .before .before .before .before .before .before .before .before .before .before .before .before .before in
-    let l = c .before .before .before .before .before .before .before .before .loop in
-    let names = namesAt (a .args .text .now) (a .args .froms .now) (a .args .sizes .now) in
-    let part = a .args .part .now in
-    let end = endOf names part (a .args .n) in
-    let out = withRows names part (a .args .n) (a .args .rows .now) in
-    let n = c .before .before .before .before .before .before .next-token in
-    let more = c .before .before .before .before .if1 .left in
-    let low = mark-low names part end out (l .at) (l .k) (l .height) (l .r) (l .had) (l .free) (l .rows) (l .inv .2) (n .result) (n .ensures) more (a .args .marks .now) (a .pre .4) (c .before .before .before .if2 .left) in
-    record { fits = omega (arith, l .inv .2 .below, a .pre .0 .2, low) }
+    let a = c .before .before .before .before .before .before .before .before .before .before in
+    let l = c .before .before .before .before .before .before .loop in
+    let m = l .inv .2 in
+    let h = c .before .before .before .before .before .loop-test .taken in
+    record { fits = omega (arith, m .below, a .pre .0 .1, mark-low (a .args .sorts .now) (a .args .values .now) (a .pre .1 .0) _ _ (l .k) (l .height) (l .r) (l .had) (l .free) (l .rows) m h (a .args .marks .now) (a .pre .2) (c .before .before .if1 .left)) }
 
 write-token-requires : tie.Need-write-token-requires Inv-loop μ-loop
 write-token-requires c κs =
-    let a = c .before .before .before .before .before .before .before .before .before .before .before .before .before .before .before .before .before in
-    let l = c .before .before .before .before .before .before .before .before .before .before .loop in
-    let names = namesAt (a .args .text .now) (a .args .froms .now) (a .args .sizes .now) in
-    let part = a .args .part .now in
-    let end = endOf names part (a .args .n) in
-    let out = withRows names part (a .args .n) (a .args .rows .now) in
-    let n = c .before .before .before .before .before .before .before .before .next-token in
-    let more = c .before .before .before .before .before .before .if1 .left in
-    let next = c .before .before .before .next-token2 in
-    let wanted = c .before .before .before .before .before .if2 .left in
-    let fits = token-fits names part end out (l .at) (l .k) (l .height) (l .r) (l .had) (l .free) (l .rows) (l .inv .2) (n .result) (n .ensures) more (a .args .marks .now) (a .pre .4) wanted (next .result) (next .ensures) in
-    let value : SFits w32 (n .result .value) = search needs in (
-      a .pre .0 .0,
-      a .pre .1,
-      omega (arith, fits, a .pre .0 .2),
-      omega (arith, fits, a .pre .0 .3, l .inv .1),
-      rw (toZ-ofZ w32 (n .result .value) value) (name-stands names part end out (l .at) (l .k) (l .height) (l .r) (l .had) (l .free) (l .rows) (l .inv .2) (n .result) (n .ensures) more (a .args .marks .now) (a .pre .4) wanted (next .result) (next .ensures)),
-    )
+    let a = c .before .before .before .before .before .before .before .before .before .before .before in
+    let l = c .before .before .before .before .before .before .before .loop in
+    let m = l .inv .2 in
+    let h = c .before .before .before .before .before .before .loop-test .taken in
+    let fits = token-fits (a .args .sorts .now) (a .args .values .now) (a .pre .1 .0) _ _ (l .k) (l .height) (l .r) (l .had) (l .free) (l .rows) m h (a .args .marks .now) (a .pre .2) (c .before .before .before .if1 .left) in
+    rw (c .before .begins-subscript .ensures) (omega (arith, fits, a .pre .0 .1), omega (arith, fits, a .pre .0 .2, l .inv .1))
 
 had-after-requires : tie.Need-had-after-requires Inv-loop μ-loop
 had-after-requires c κs = search needs
 
 add-k : tie.Need-add-k Inv-loop μ-loop
-add-k c =
-    let a = c .before .before .before .before .before .before .before .before .before .before .before .before .before in
-    let l = c .before .before .before .before .before .before .loop in
-    record { fits = omega (arith, l .inv .2 .few, c .before .before .before .before .before .loop-test .taken, a .pre .0 .0) }
+add-k c = record { fits = omega (arith, c .before .before .before .before .loop-test .taken, c .before .before .before .before .before .before .before .before .before .pre .1 .1) }
 
 loop-less : tie.Need-loop-less Inv-loop μ-loop
-loop-less c =
-    let a = c .before .before .before .before .before .before .before .before .before .before .before .before .before in
-    let l = c .before .before .before .before .before .before .loop in
-    let names = namesAt (a .args .text .now) (a .args .froms .now) (a .args .sizes .now) in
-    let part = a .args .part .now in
-    let end = endOf names part (a .args .n) in
-    let out = withRows names part (a .args .n) (a .args .rows .now) in
-    let n = c .before .before .before .before .next-token in
-    let more = c .before .before .if1 .left in
-    omega (arith, token-later names part end out (l .at) (l .k) (l .height) (l .r) (l .had) (l .free) (l .rows) (l .inv .2) (n .result) (n .ensures) more, token-within names part end out (l .at) (l .k) (l .height) (l .r) (l .had) (l .free) (l .rows) (l .inv .2) (n .result) (n .ensures) more)
+loop-less c = omega (arith, c .before .before .before .before .loop-test .taken)
 
 loop-again : tie.Need-loop-again Inv-loop μ-loop
 loop-again c =
-    let a = c .before .before .before .before .before .before .before .before .before .before .before .before .before in
-    let l = c .before .before .before .before .before .before .loop in
-    let names = namesAt (a .args .text .now) (a .args .froms .now) (a .args .sizes .now) in
-    let part = a .args .part .now in
-    let end = endOf names part (a .args .n) in
-    let out = withRows names part (a .args .n) (a .args .rows .now) in
-    let n = c .before .before .before .before .next-token in
-    let more = c .before .before .if1 .left in
-    let value : SFits w32 (n .result .value) = search needs in
+    let a = c .before .before .before .before .before .before .before .before .before in
+    let l = c .before .before .before .before .before .loop in
+    let m = l .inv .2 in
+    let h = c .before .before .before .before .loop-test .taken in
+    let sort = getD (a .args .sorts .now) (l .k) 0 in
+    let value : SFits w32 (getD (a .args .values .now) (l .k) (pos 0)) = search needs in
+    let same = toZ-ofZ w32 (getD (a .args .values .now) (l .k) (pos 0)) value in
     ⊎-elim
-    (λ w.
-    let at-had = lay-again-had names part end out (l .at) (l .k) (l .height) (l .r) (l .had) (l .free) (l .rows) (l .inv .2) (n .result) (n .ensures) more (w .0 .taken) in
-    let same = toZ-ofZ w32 (n .result .value) value in (
-      ap length (w .6) ∙ l .inv .0,
-      ap length (w .7) ∙ w .5 .given ∙ l .inv .1,
-      moved names part end out (n .result .to) (l .k + 1) _ _ _ _ _ _ _ _ _ _ (w .8 ∙ w .4 .ensures .0) (w .9) (c .had-after .ensures) (w .6)
-          (w .7 ∙ w .4 .ensures .1 ∙ ap (λ (z : ℤ). filled (n .result .sort) z (getD (l .free) (l .height - 1) 0) (l .r) (l .rows)) same) at-had,
+    (λ w. (
+      ap length (w .5) ∙ l .inv .0,
+      ap length (w .6) ∙ w .4 .given ∙ l .inv .1,
+      moved (a .args .sorts .now) (a .args .values .now) _ _ (l .k + 1) _ _ _ _ _ _ _ _ _ _ (w .7 ∙ w .3 .ensures .0) (w .8) (c .had-after .ensures) (w .5)
+          (w .6 ∙ w .3 .ensures .1 ∙ ap (λ (z : ℤ). filled sort z (getD (l .free) (l .height - 1) 0) (l .r) (l .rows)) same) (lay-again-had (a .args .sorts .now) (a .args .values .now) (a .pre .1 .0) _ _ (l .k) (l .height) (l .r) (l .had) (l .free) (l .rows) m h (w .0 .taken)),
     ))
     (λ w.
-    let next = w .2 in
     let r = l .r + getD (a .args .marks .now) (l .k) 0 in
-    let low : l .height < length (l .free) = omega (arith, l .inv .2 .low, l .inv .2 .few, c .before .before .before .before .before .loop-test .taken, l .inv .0, a .pre .2) in
-    let at-wanted = lay-again-wanted names part end out (l .at) (l .k) (l .height) (l .r) (l .had) (l .free) (l .rows) (l .inv .2) (n .result) (n .ensures) more (a .args .marks .now) (a .pre .4) (w .0 .left) (next .result) (next .ensures) low in
-    let same = toZ-ofZ w32 (n .result .value) value in (
-      ap length (w .8) ∙ length-set (l .free) (l .height) (l .r) ∙ l .inv .0,
-      ap length (w .9) ∙ w .7 .given ∙ l .inv .1,
-      moved names part end out (n .result .to) (l .k + 1) _ _ _ _ _ _ _ _ _ _ (w .10) (w .11 ∙ w .6 .ensures .0) (c .had-after .ensures) (w .8)
-          (w .9 ∙ w .6 .ensures .1 ∙ ap (λ (z : ℤ). overlay (l .rows) (4 * r) (rowsBySort names r (n .result .sort) z (lettersAt part z (n .result .from)) (eqb (next .result .sort) 11))) same) at-wanted,
+    let room : l .height < length (l .free) = omega (arith, m .low, h, l .inv .0, a .pre .1 .3) in (
+      ap length (w .6) ∙ length-set (l .free) (l .height) (l .r) ∙ l .inv .0,
+      ap length (w .7) ∙ w .5 .given ∙ l .inv .1,
+      moved (a .args .sorts .now) (a .args .values .now) _ _ (l .k + 1) _ _ _ _ _ _ _ _ _ _ (w .8) (w .9 ∙ w .4 .ensures .0 ∙ ap (λ (s : Bool). r + sizeBySort sort s) (w .2 .ensures)) (c .had-after .ensures) (w .6)
+          (w .7 ∙ w .4 .ensures .1 ∙ ap₂ (λ (z : ℤ) (s : Bool). overlay (l .rows) (4 * r) (rowsBySort r sort z s)) same (w .2 .ensures)) (lay-again-wanted (a .args .sorts .now) (a .args .values .now) (a .pre .1 .0) _ _ (l .k) (l .height) (l .r) (l .had) (l .free) (l .rows) m h (a .args .marks .now) (a .pre .2) (w .0 .left) room),
     ))
-    (c .before .if2 .came)
+    (c .before .if1 .came)
 
-same-length-3 : tie.Need-same-length-3 Inv-loop μ-loop
-same-length-3 c = c .before .loop .inv .0
+same-length : tie.Need-same-length Inv-loop μ-loop
+same-length c = c .before .loop .inv .0
 
-same-length-4 : tie.Need-same-length-4 Inv-loop μ-loop
-same-length-4 c = c .before .loop .inv .1
+same-length-2 : tie.Need-same-length-2 Inv-loop μ-loop
+same-length-2 c = c .before .loop .inv .1
 
-returns-2 : tie.Need-returns-2 Inv-loop μ-loop
-returns-2 c =
-    let a = c .before .before .before .before .before .before .before .before in
+returns : tie.Need-returns Inv-loop μ-loop
+returns c =
+    let a = c .before .before .before .before .before in
     let l = c .before .loop in
-    let names = namesAt (a .args .text .now) (a .args .froms .now) (a .args .sizes .now) in
-    let part = a .args .part .now in
-    let end = endOf names part (a .args .n) in
-    let out = withRows names part (a .args .n) (a .args .rows .now) in
-    let w = laid-past-end names part end out (l .at) (l .k) (l .height) (l .r) (l .had) (l .free) (l .rows) (l .inv .2) (c .loop-test .left) in
+    let m = l .inv .2 in
+    let w = all-laid (a .args .sorts .now) (a .args .values .now) (a .pre .1 .0) _ _ (l .k) (l .height) (l .r) (l .had) (l .free) (l .rows) m (c .loop-test .left) in
     (l .inv .0, w .0, w .1)
 
 pub lay-spec : {M : Type 1} → statement M
@@ -223,10 +161,9 @@ lay-spec =
     Inv-loop
     μ-loop
     loop-holds
-    next-token-requires
-    same-length
-    same-length-2
-    returns
+    shared-slice-read-sort
+    mul-value
+    shared-slice-copy-out-value
     fill-requires
     shared-slice-read-mark
     cast-mark
@@ -234,13 +171,14 @@ lay-spec =
     mul-free
     slice-write-free
     add-height
-    next-token-requires-2
+    add-begins-subscript
+    begins-subscript-requires
     add-write-token
     write-token-requires
     had-after-requires
     add-k
     loop-less
     loop-again
-    same-length-3
-    same-length-4
-    returns-2)
+    same-length
+    same-length-2
+    returns)

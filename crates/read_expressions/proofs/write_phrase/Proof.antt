@@ -1,13 +1,17 @@
 -- The marks, then the rows. Assumes nothing.
 use mathlib.Core.Path.{_∙_}
 use borrow.Author.Needs.{needs}
-use Rattle.read_expressions.specs.Expressions.{expressionIn}
+use Rattle.read_expressions.proofs.ExpressionLaws.{spelt, phrase-sorts}
 use Rattle.read_expressions.proofs.write_phrase.Statement.{statement}
 use Rattle.read_expressions.proofs.write_phrase.Tie as tie
 
 mark-requires : tie.Need-mark-requires
-unfolding expressionIn
-mark-requires c κs = search needs
+mark-requires c κs =
+    let a = c .before .before .before .before .before in
+    let sorts = a .args .sorts .now in
+    let values = a .args .values .now in
+    let (even, short, marks, stack) = a .pre .1 in
+    (phrase-sorts sorts values (spelt sorts values even (a .pre .0 .0)), short, stack, marks)
 
 lay-requires : tie.Need-lay-requires
 lay-requires c κs = search needs
@@ -25,7 +29,7 @@ returns : tie.Need-returns
 returns c =
     let m = c .before .before .before .before .before .before .before .before .before .before .before .mark .ensures in
     let l = c .before .before .before .lay .ensures in
-    (m .1, l .0 ∙ m .0, l .1, l .2)
+    ((m .1, l .0 ∙ m .0), l .1, l .2)
 
 pub write-phrase-spec : {M : Type 1} → statement M
 write-phrase-spec =

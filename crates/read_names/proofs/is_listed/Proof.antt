@@ -1,14 +1,15 @@
 -- By how many bytes are left where the name begins. Assumes nothing.
-use mathlib.Core.Path.{refl, _∙_}
+use mathlib.Core.Path.{refl, sym, ap, _∙_}
 use borrow.Author.Needs.{needs}
-use Rattle.read_names.proofs.FindSteps.{listed-past-end, listed-to-end, listed-inside}
+use Rattle.meaning.specs.Lines.{same}
+use Rattle.read_names.proofs.KeySteps.{same-empty, listed-past-end, listed-to-end, listed-inside}
 use Rattle.read_names.proofs.is_listed.Statement.{statement}
 use Rattle.read_names.proofs.is_listed.Tie as tie
 
 returns : tie.Need-returns
 returns c =
     let a = c .before .before .before .args in
-    listed-past-end (a .text .now) (a .from) (a .size) (a .name .now) (c .if1 .taken)
+    same-empty (a .name .now) ∙ sym (ap (same (a .name .now)) (listed-past-end (a .text .now) (a .from) (a .size) (c .if1 .taken)))
 
 sub-left : tie.Need-sub-left
 sub-left c = search needs
@@ -29,7 +30,7 @@ returns-2 : tie.Need-returns-2
 returns-2 c =
     let i = c .before .before in
     let a = i .before .before .before .before .args in
-    c .same .ensures ∙ listed-to-end (a .text .now) (a .from) (a .size) (a .name .now) (i .if2 .taken)
+    c .same .ensures ∙ ap (same (a .name .now)) (listed-to-end (a .text .now) (a .from) (a .size) (i .if2 .taken))
 
 add-same : tie.Need-add-same
 add-same c = search needs
@@ -49,7 +50,7 @@ same-requires-2 c κs = search needs
 returns-3 : tie.Need-returns-3
 returns-3 c =
     let a = c .before .before .before .before .before .before .args in
-    c .same2 .ensures ∙ listed-inside (a .text .now) (a .from) (a .size) (a .name .now) _ refl
+    c .same2 .ensures ∙ ap (same (a .name .now)) (listed-inside (a .text .now) (a .from) (a .size) _ refl)
 
 pub is-listed-spec : {M : Type 1} → statement M
 is-listed-spec =

@@ -1,14 +1,13 @@
 -- By the first name on the line. Assumes nothing.
 use native.Mathlib.Omega.{arith}
 use native.Mathlib.Numerals.{add-one}
-use mir.Syntax.{w32}
-use mir.ValLaws.{toZ-pos}
 use Prim.Native.Nat.{_+_}
-use Rattle.grammar.specs.TextRows.{nameRow}
-use Rattle.read_names.specs.Listed.{namesAt}
-use Rattle.read_scan.specs.Cuts.{partOf}
-use Rattle.read_expressions.proofs.RowSteps.{name-few}
-use Rattle.read_parts.proofs.MarkSteps.{block-laid}
+use lib.IntN.{pos}
+use lib.ListN.{getD}
+use mir.Syntax.{w32}
+use mir.Val.{SFits}
+use mir.ValLaws.{toZ-pos, toZ-ofZ}
+use Rattle.read_parts.proofs.BlockSteps.{block-name, block-laid}
 use borrow.Author.Needs.{needs}
 use Rattle.read_parts.proofs.write_block.Statement.{statement}
 use Rattle.read_parts.proofs.write_block.Tie as tie
@@ -16,59 +15,49 @@ use Rattle.read_parts.proofs.write_block.Tie as tie
 first-of-requires : tie.Need-first-of-requires
 first-of-requires c κs = search needs
 
-sub-find : tie.Need-sub-find
-sub-find c = search needs
+mul-write-row : tie.Need-mul-write-row
+mul-write-row c =
+    let a = c .before .before .before in
+    let f = c .before .first-of in
+    let t = block-name (a .args .sorts .now) (a .args .values .now) (f .result) (a .pre .0) (a .pre .1 .0) (f .ensures) in
+    record { fits = omega (arith, t .inside) }
 
-part-find-start : tie.Need-part-find-start
-part-find-start c = search needs
+shared-slice-copy-out-write-row : tie.Need-shared-slice-copy-out-write-row
+shared-slice-copy-out-write-row c =
+    let a = c .before .before .before in
+    let f = c .before .first-of in
+    let t = block-name (a .args .sorts .now) (a .args .values .now) (f .result) (a .pre .0) (a .pre .1 .0) (f .ensures) in
+    omega (arith, t .inside, a .pre .0)
 
-part-find-end : tie.Need-part-find-end
-part-find-end c = search needs
+add-write-row : tie.Need-add-write-row
+add-write-row c = search needs
 
-find-requires : tie.Need-find-requires
-find-requires c κs = search needs
+cast-write-row : tie.Need-cast-write-row
+cast-write-row c = search needs
 
-cast-write-four : tie.Need-cast-write-four
-cast-write-four c =
-    let a = c .before .before .before .before .before .before .before .before in
-    let f = c .before .before .before .first-of .result in
-    record { sfits = omega (arith, a .pre .1, c .before .find .ensures, name-few (a .args .text .now) (a .args .froms .now) (a .args .sizes .now) (partOf (a .args .body .now) (f .from) (f .to))) }
-
-add-write-four : tie.Need-add-write-four
-add-write-four c = search needs
-
-cast-write-four-2 : tie.Need-cast-write-four-2
-cast-write-four-2 c = search needs
-
-write-four-requires : tie.Need-write-four-requires
-write-four-requires c κs = search needs
+write-row-requires : tie.Need-write-row-requires
+write-row-requires c κs = search needs
 
 same-length : tie.Need-same-length
 same-length c = search needs
 
 returns : tie.Need-returns
 returns c =
-    let a = c .before .before .before .before .before .before .before .before .before .before in
-    let names = namesAt (a .args .text .now) (a .args .froms .now) (a .args .sizes .now) in
+    let a = c .before .before .before .before .before .before in
     let n = a .args .n in
-    let d = c .before .before .before .find in
-    let f = c .before .before .before .before .before .first-of in
-    let few = name-few (a .args .text .now) (a .args .froms .now) (a .args .sizes .now) (partOf (a .args .body .now) (f .result .from) (f .result .to)) in
-    block-laid names (a .args .body .now) (f .result) n (a .args .rows .now) _ (f .ensures) (a .pre .0)
-    (rw (toZ-pos w32 (n + 1) (omega (arith, a .pre .2)), add-one n, d .ensures, toZ-pos w32 (nameRow names (partOf (a .args .body .now) (f .result .from) (f .result .to))) (omega (arith, a .pre .1, few))) at (c .before .write-four .ensures))
+    let f = c .before .before .before .before .first-of in
+    let fits : SFits w32 (getD (a .args .values .now) (f .result) (pos 0)) = search needs in
+    block-laid (block-name (a .args .sorts .now) (a .args .values .now) (f .result) (a .pre .0) (a .pre .1 .0) (f .ensures)) n (a .args .rows .now) _ (rw (toZ-pos w32 (n + 1) (omega (arith, a .pre .1 .1)), add-one n, toZ-ofZ w32 (getD (a .args .values .now) (f .result) (pos 0)) fits) at (c .before .write-row .ensures))
 
 pub write-block-spec : {M : Type 1} → statement M
 write-block-spec =
     tie.close
     (tie.spec
     first-of-requires
-    sub-find
-    part-find-start
-    part-find-end
-    find-requires
-    cast-write-four
-    add-write-four
-    cast-write-four-2
-    write-four-requires
+    mul-write-row
+    shared-slice-copy-out-write-row
+    add-write-row
+    cast-write-row
+    write-row-requires
     same-length
     returns)

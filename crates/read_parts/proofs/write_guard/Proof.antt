@@ -1,10 +1,9 @@
 -- By the first mark. Assumes nothing.
 use mathlib.Core.Path.{sym, ap, subst, _∙_}
-use lib.Seq.{length-take-le}
+use native.Mathlib.Omega.{arith}
 use Rattle.base_top_down.specs.Forms.{Form}
-use Rattle.read_names.specs.Listed.{namesAt}
 use Rattle.read_parts.specs.PartForms.{withForm, FormFits}
-use Rattle.read_parts.proofs.MarkSteps.{parts-scratch, found-with, found-alone, guarded-read, alone-read}
+use Rattle.read_parts.proofs.MarkSteps.{first-found, found-with, found-alone, guarded-read, alone-read}
 use borrow.Author.Needs.{needs}
 use Rattle.read_parts.proofs.write_guard.Statement.{statement}
 use Rattle.read_parts.proofs.write_guard.Tie as tie
@@ -12,26 +11,19 @@ use Rattle.read_parts.proofs.write_guard.Tie as tie
 first-mark-requires : tie.Need-first-mark-requires
 first-mark-requires c κs = search needs
 
-slice-aggregate-write-guarded : tie.Need-slice-aggregate-write-guarded
-slice-aggregate-write-guarded c = sym (length-take-le _ _ (c .before .before .before .first-mark .ensures .0))
-
-sub-write-guarded : tie.Need-sub-write-guarded
-sub-write-guarded c = search needs
-
-part-write-guarded-start : tie.Need-part-write-guarded-start
-part-write-guarded-start c = search needs
-
-part-write-guarded-end : tie.Need-part-write-guarded-end
-part-write-guarded-end c = search needs
+sort-at-requires : tie.Need-sort-at-requires
+sort-at-requires c κs = search needs
 
 write-guarded-requires : tie.Need-write-guarded-requires
 write-guarded-requires c κs =
-    let a = c .before .before .before .before .before .before .before .before .before .before .before .before .before .before in
-    let names = namesAt (a .args .text .now) (a .args .froms .now) (a .args .sizes .now) in
-    let f = c .before .before .before .before .before .before .before .first-mark in
-    let k = c .before .before .before .before .before .if1 .taken in
-    let (i, j) = parts-scratch (a .args .body .now) (a .args .marks .now) (a .args .stack .now) (f .result) (f .ensures .0) (a .pre .3) in
-    (guarded-read names (a .args .body .now) (f .result) (f .ensures .2) (a .pre .0) k, subst (λ (g : Form). FormFits g (a .args .n) (a .args .rows .now)) (found-with names (a .args .body .now) (f .result) (f .ensures .2) k) (a .pre .1), a .pre .2, i, j)
+    let a = c .before .before .before .before .before .before .before .before .before in
+    let ss = a .args .sorts .now in
+    let vs = a .args .values .now in
+    let m = c .before .before .before .before .before .first-mark in
+    let s = c .before .before .before .before .sort-at in
+    let t = first-found ss vs (s .result) (m .result) (a .pre .0) (m .ensures) (s .ensures) in
+    let k = c .before .before .before .if1 .taken in
+    (t .inside (λ z. omega (arith, k, z)), a .pre .0, (guarded-read t (a .pre .1 .0) k, subst (λ (g : Form). FormFits g (a .args .n) (a .args .rows .now)) (found-with t k) (a .pre .1 .1)), a .pre .2)
 
 same-length : tie.Need-same-length
 same-length c = search needs
@@ -44,20 +36,26 @@ same-length-3 c = search needs
 
 returns : tie.Need-returns
 returns c =
-    let a = c .before .before .before .before .before .before .before .before .before .before .before .before .before .before .before .before .before .before .before .before in
-    let names = namesAt (a .args .text .now) (a .args .froms .now) (a .args .sizes .now) in
-    let f = c .before .before .before .before .before .before .before .before .before .before .before .before .before .first-mark in
-    let k = c .before .before .before .before .before .before .before .before .before .before .before .if1 .taken in
+    let a = c .before .before .before .before .before .before .before .before .before .before .before .before .before .before .before in
+    let ss = a .args .sorts .now in
+    let vs = a .args .values .now in
+    let m = c .before .before .before .before .before .before .before .before .before .before .before .first-mark in
+    let s = c .before .before .before .before .before .before .before .before .before .before .sort-at in
+    let t = first-found ss vs (s .result) (m .result) (a .pre .0) (m .ensures) (s .ensures) in
+    let k = c .before .before .before .before .before .before .before .before .before .if1 .taken in
     let w = c .before .before .before .before .before .write-guarded in
-    (w .ensures .0, w .ensures .1, w .ensures .2 ∙ ap (λ (g : Form). withForm g (a .args .n) (a .args .rows .now)) (sym (found-with names (a .args .body .now) (f .result) (f .ensures .2) k)))
+    (w .ensures .0, w .ensures .1 ∙ ap (λ (g : Form). withForm g (a .args .n) (a .args .rows .now)) (sym (found-with t k)))
 
 write-event-requires : tie.Need-write-event-requires
 write-event-requires c κs =
-    let a = c .before .before .before .before .before .before .before .before .before .before .before .before in
-    let names = namesAt (a .args .text .now) (a .args .froms .now) (a .args .sizes .now) in
-    let f = c .before .before .before .before .before .first-mark in
+    let a = c .before .before .before .before .before .before .before .before .before in
+    let ss = a .args .sorts .now in
+    let vs = a .args .values .now in
+    let m = c .before .before .before .before .before .first-mark in
+    let s = c .before .before .before .before .sort-at in
+    let t = first-found ss vs (s .result) (m .result) (a .pre .0) (m .ensures) (s .ensures) in
     let k = c .before .before .before .if1 .left in
-    (alone-read names (a .args .body .now) (f .result) (f .ensures .2) (a .pre .0) k, subst (λ (g : Form). FormFits g (a .args .n) (a .args .rows .now)) (found-alone names (a .args .body .now) (f .result) (f .ensures .2) k) (a .pre .1), a .pre .2, a .pre .3)
+    (a .pre .0, (alone-read t (a .pre .1 .0) k, subst (λ (g : Form). FormFits g (a .args .n) (a .args .rows .now)) (found-alone t k) (a .pre .1 .1)), a .pre .2)
 
 same-length-4 : tie.Need-same-length-4
 same-length-4 c = search needs
@@ -70,22 +68,22 @@ same-length-6 c = search needs
 
 returns-2 : tie.Need-returns-2
 returns-2 c =
-    let a = c .before .before .before .before .before .before .before .before .before .before .before .before .before .before .before .before .before .before in
-    let names = namesAt (a .args .text .now) (a .args .froms .now) (a .args .sizes .now) in
-    let f = c .before .before .before .before .before .before .before .before .before .before .before .first-mark in
+    let a = c .before .before .before .before .before .before .before .before .before .before .before .before .before .before .before in
+    let ss = a .args .sorts .now in
+    let vs = a .args .values .now in
+    let m = c .before .before .before .before .before .before .before .before .before .before .before .first-mark in
+    let s = c .before .before .before .before .before .before .before .before .before .before .sort-at in
+    let t = first-found ss vs (s .result) (m .result) (a .pre .0) (m .ensures) (s .ensures) in
     let k = c .before .before .before .before .before .before .before .before .before .if1 .left in
     let w = c .before .before .before .before .before .write-event in
-    (w .ensures .0, w .ensures .1, w .ensures .2 ∙ ap (λ (g : Form). withForm g (a .args .n) (a .args .rows .now)) (sym (found-alone names (a .args .body .now) (f .result) (f .ensures .2) k)))
+    (w .ensures .0, w .ensures .1 ∙ ap (λ (g : Form). withForm g (a .args .n) (a .args .rows .now)) (sym (found-alone t k)))
 
 pub write-guard-spec : {M : Type 1} → statement M
 write-guard-spec =
     tie.close
     (tie.spec
     first-mark-requires
-    slice-aggregate-write-guarded
-    sub-write-guarded
-    part-write-guarded-start
-    part-write-guarded-end
+    sort-at-requires
     write-guarded-requires
     same-length
     same-length-2

@@ -6,8 +6,8 @@ use borrow.Author.Needs.{needs}
 use Rattle.read_parts.proofs.write_word.Statement.{statement}
 use Rattle.read_parts.proofs.write_word.Tie as tie
 
-write-four-requires : tie.Need-write-four-requires
-write-four-requires c κs = search needs
+write-row-requires : tie.Need-write-row-requires
+write-row-requires c κs = search needs
 
 add-result : tie.Need-add-result
 add-result c = search needs
@@ -16,7 +16,7 @@ same-length : tie.Need-same-length
 same-length c = search needs
 
 returns : tie.Need-returns
-returns c = (refl, rw (toZ-ofZ w32 (c .before .before .before .args .kind) (c .before .before .before .fits .kind), toZ-ofZ w32 (c .before .before .before .args .a) (c .before .before .before .fits .a)) at (c .before .write-four .ensures))
+returns c = (refl, rw (toZ-ofZ w32 (c .before .before .before .args .kind) (c .before .before .before .fits .kind), toZ-ofZ w32 (c .before .before .before .args .a) (c .before .before .before .fits .a)) at (c .before .write-row .ensures))
 
 pub write-word-spec : {M : Type 1} → statement M
-write-word-spec = tie.close (tie.spec write-four-requires add-result same-length returns)
+write-word-spec = tie.close (tie.spec write-row-requires add-result same-length returns)

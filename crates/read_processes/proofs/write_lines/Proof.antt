@@ -1,247 +1,122 @@
--- The loop keeps what is still to be written. Assumes nothing.
-use mathlib.Core.Path.{_≡_, refl, ap, _∙_}
-use Prim.Native.Nat.{_-_}
+-- The loop keeps what is still to be written, of any text that has such lines. Assumes nothing.
+use mathlib.Core.Path.{_≡_, refl, sym, ap, subst, _∙_}
+use mathlib.Core.List.{List}
+use Prim.Native.Nat.{ℕ, _+_, _-_}
+use lib.IntN.{ℤ}
 use native.Mathlib.Omega.{arith}
 use borrow.Author.Needs.{needs}
 use lib.ListN.{length}
-use Rattle.read_processes.proofs.WriteSteps.{Writing, write-none, names-few, write-all, write-step}
+use Rattle.read_levels.specs.Listing.{listing, startOf}
+use Rattle.read_levels.proofs.ListingLaws.{starts-first}
+use Rattle.read_processes.specs.Written.{Placed}
+use Rattle.read_processes.proofs.WriteSteps.{Writing, LineHeld, WriteStep, write-none, write-all, starts-next, line-held, line-scratch, write-step}
 use Rattle.read_processes.proofs.write_lines.Statement.{statement}
 use Rattle.read_processes.proofs.write_lines.Tie as tie
 
 abbrev Inv-loop : tie.InvT-loop
-Inv-loop text kinds froms sizes beneath after rest marks₀ stack₀ rows₀ places₀ at₀ seen₀ marks stack rows places at seen =
-    (length marks ≡ length marks₀) × (length stack ≡ length stack₀) × (length rows ≡ length rows₀)
-    × Writing text kinds froms sizes beneath after rest rows₀ at seen places rows
+Inv-loop kinds count ends sorts values starts beneath after rest marks₀ stack₀ rows₀ first₀ line₀ marks stack rows first line =
+    (length marks ≡ length marks₀) × (length stack ≡ length stack₀) × (length rows ≡ length rows₀) × (first ≡ startOf ends line)
+    × ((text : List ℕ) → Placed text count (listing kinds ends sorts values) starts beneath after rest → Writing text rows₀ line rows)
 
 abbrev μ-loop : tie.MeasureT-loop
-μ-loop text kinds froms sizes beneath after rest marks₀ stack₀ rows₀ places₀ at₀ seen₀ marks stack rows places at seen = length text - at
+μ-loop kinds count ends sorts values starts beneath after rest marks₀ stack₀ rows₀ first₀ line₀ marks stack rows first line = count - line
 
-array-write-places : tie.Need-array-write-places Inv-loop μ-loop
-array-write-places c = search needs
+-- what one line needs, of the text whose lines they are
+held : (k : tie.After-shared-slice-known4 Inv-loop μ-loop) → let l = k .before .before in let a = l .before .before .before .before .before .before .args in
+    LineHeld (listing (a .kinds .now) (a .ends .now) (a .sorts .now) (a .values .now)) (l .loop .line)
+held k =
+    let l = k .before .before in
+    let s = l .before .before .before .before .before .before in
+    let a = s .args in
+    let g = listing (a .kinds .now) (a .ends .now) (a .sorts .now) (a .values .now) in
+    line-held (s .pre .0 .0) (a .count) g (a .starts .now) (a .beneath .now) (a .after .now) (a .rest .now) (s .pre .0 .1) (l .loop .line) (k .before .loop-test .taken)
+
+-- the rows that it writes, of any text that has such lines
+step : (k : tie.After-spot-of Inv-loop μ-loop) → let l = k .before .before .before in let a = l .before .before .before .before .before .before .args in let g = listing (a .kinds .now) (a .ends .now) (a .sorts .now) (a .values .now) in
+    (text : List ℕ) (h : Placed text (a .count) g (a .starts .now) (a .beneath .now) (a .after .now) (a .rest .now))
+    → WriteStep text (a .count) g (a .starts .now) (a .beneath .now) (a .after .now) (a .rest .now) h (a .rows .now) (l .loop .line) (l .loop .first) (k .spot-of .result) (l .loop .rows)
+step k text h =
+    let l = k .before .before .before in
+    let s = l .before .before .before .before .before .before in
+    let a = s .args in
+    let g = listing (a .kinds .now) (a .ends .now) (a .sorts .now) (a .values .now) in
+    let i = l .loop .inv in
+    write-step text (a .count) g (a .starts .now) (a .beneath .now) (a .after .now) (a .rest .now) h (a .rows .now) (l .loop .line) (l .loop .first) (k .spot-of .result) (l .loop .rows)
+    (i .3) (k .spot-of .ensures) (i .4 text h) (k .before .before .loop-test .taken) (omega (arith, i .2, s .pre .1))
 
 loop-holds : tie.Need-loop-holds Inv-loop μ-loop
 loop-holds c =
-    let s = c .before .before .before .before .before .before in
-    let a = s .args in
-    (refl, refl, refl, write-none (a .text .now) (a .kinds .now) (a .froms .now) (a .sizes .now) (a .beneath .now) (a .after .now) (a .rest .now) (a .rows .now) (s .pre .0) (s .pre .1))
+    let a = c .before .before .before .before .before .args in
+    let g = listing (a .kinds .now) (a .ends .now) (a .sorts .now) (a .values .now) in
+    (refl, refl, refl, sym (starts-first (a .ends .now)), λ text h. write-none text (a .count) g (a .starts .now) (a .beneath .now) (a .after .now) (a .rest .now) h (a .rows .now))
 
-line-at-requires : tie.Need-line-at-requires Inv-loop μ-loop
-line-at-requires c κs = search needs
+mul-end : tie.Need-mul-end Inv-loop μ-loop
+mul-end c = search needs
 
-mul-places : tie.Need-mul-places Inv-loop μ-loop
-mul-places c =
-    let n = c in
-    let l = c .before .before in
-    let a = l .before .before .before .before .before .before .before .args in
-    let s =
-    write-step (a .text .now) (a .kinds .now) (a .froms .now) (a .sizes .now) (a .beneath .now) (a .after .now) (a .rest .now) (a .rows .now) (l .loop .at) (l .loop .seen) (l .loop .places) (l .loop .rows)
-    (n .line-at .result) (l .loop .inv .3) (n .before .loop-test .taken) (n .line-at .ensures) in
-    search (needs, s .shallow)
+shared-slice-read-end : tie.Need-shared-slice-read-end Inv-loop μ-loop
+shared-slice-read-end c = search needs
 
-array-read-places : tie.Need-array-read-places Inv-loop μ-loop
-array-read-places c =
-    let n = c in
-    let l = c .before .before in
-    let a = l .before .before .before .before .before .before .before .args in
-    let s =
-    write-step (a .text .now) (a .kinds .now) (a .froms .now) (a .sizes .now) (a .beneath .now) (a .after .now) (a .rest .now) (a .rows .now) (l .loop .at) (l .loop .seen) (l .loop .places) (l .loop .rows)
-    (n .line-at .result) (l .loop .inv .3) (n .before .loop-test .taken) (n .line-at .ensures) in
-    omega (arith, s .shallow)
+cast-end : tie.Need-cast-end Inv-loop μ-loop
+cast-end c = search (needs, held c .within, held c .short)
 
-mul-t28 : tie.Need-mul-t28 Inv-loop μ-loop
-mul-t28 c =
-    let n = c in
-    let l = c .before .before in
-    let a = l .before .before .before .before .before .before .before .args in
-    let s =
-    write-step (a .text .now) (a .kinds .now) (a .froms .now) (a .sizes .now) (a .beneath .now) (a .after .now) (a .rest .now) (a .rows .now) (l .loop .at) (l .loop .seen) (l .loop .places) (l .loop .rows)
-    (n .line-at .result) (l .loop .inv .3) (n .before .loop-test .taken) (n .line-at .ensures) in
-    search (needs, s .few)
-
-element-copy-out-t31 : tie.Need-element-copy-out-t31 Inv-loop μ-loop
-element-copy-out-t31 c =
-    let n = c in
-    let l = c .before .before in
-    let a = l .before .before .before .before .before .before .before .args in
-    let s =
-    write-step (a .text .now) (a .kinds .now) (a .froms .now) (a .sizes .now) (a .beneath .now) (a .after .now) (a .rest .now) (a .rows .now) (l .loop .at) (l .loop .seen) (l .loop .places) (l .loop .rows)
-    (n .line-at .result) (l .loop .inv .3) (n .before .loop-test .taken) (n .line-at .ensures) in
-    s .few
-
-mul-t32 : tie.Need-mul-t32 Inv-loop μ-loop
-mul-t32 c =
-    let n = c .before in
-    let l = c .before .before .before in
-    let a = l .before .before .before .before .before .before .before .args in
-    let s =
-    write-step (a .text .now) (a .kinds .now) (a .froms .now) (a .sizes .now) (a .beneath .now) (a .after .now) (a .rest .now) (a .rows .now) (l .loop .at) (l .loop .seen) (l .loop .places) (l .loop .rows)
-    (n .line-at .result) (l .loop .inv .3) (n .before .loop-test .taken) (n .line-at .ensures) in
-    search (needs, s .few)
-
-element-copy-out-t35 : tie.Need-element-copy-out-t35 Inv-loop μ-loop
-element-copy-out-t35 c =
-    let n = c .before in
-    let l = c .before .before .before in
-    let a = l .before .before .before .before .before .before .before .args in
-    let s =
-    write-step (a .text .now) (a .kinds .now) (a .froms .now) (a .sizes .now) (a .beneath .now) (a .after .now) (a .rest .now) (a .rows .now) (l .loop .at) (l .loop .seen) (l .loop .places) (l .loop .rows)
-    (n .line-at .result) (l .loop .inv .3) (n .before .loop-test .taken) (n .line-at .ensures) in
-    s .few
-
-mul-places-2 : tie.Need-mul-places-2 Inv-loop μ-loop
-mul-places-2 c =
-    let n = c .before .before in
-    let l = c .before .before .before .before in
-    let a = l .before .before .before .before .before .before .before .args in
-    let s =
-    write-step (a .text .now) (a .kinds .now) (a .froms .now) (a .sizes .now) (a .beneath .now) (a .after .now) (a .rest .now) (a .rows .now) (l .loop .at) (l .loop .seen) (l .loop .places) (l .loop .rows)
-    (n .line-at .result) (l .loop .inv .3) (n .before .loop-test .taken) (n .line-at .ensures) in
-    search (needs, s .few)
-
-element-copy-out-places : tie.Need-element-copy-out-places Inv-loop μ-loop
-element-copy-out-places c =
-    let n = c .before .before in
-    let l = c .before .before .before .before in
-    let a = l .before .before .before .before .before .before .before .args in
-    let s =
-    write-step (a .text .now) (a .kinds .now) (a .froms .now) (a .sizes .now) (a .beneath .now) (a .after .now) (a .rest .now) (a .rows .now) (l .loop .at) (l .loop .seen) (l .loop .places) (l .loop .rows)
-    (n .line-at .result) (l .loop .inv .3) (n .before .loop-test .taken) (n .line-at .ensures) in
-    s .few
+spot-of-requires : tie.Need-spot-of-requires Inv-loop μ-loop
+spot-of-requires c κs = held c .few
 
 shared-slice-read-write-line : tie.Need-shared-slice-read-write-line Inv-loop μ-loop
-shared-slice-read-write-line c =
-    let n = c .before .before .before .before in
-    let l = c .before .before .before .before .before .before in
-    let a = l .before .before .before .before .before .before .before .args in
-    let s =
-    write-step (a .text .now) (a .kinds .now) (a .froms .now) (a .sizes .now) (a .beneath .now) (a .after .now) (a .rest .now) (a .rows .now) (l .loop .at) (l .loop .seen) (l .loop .places) (l .loop .rows)
-    (n .line-at .result) (l .loop .inv .3) (n .before .loop-test .taken) (n .line-at .ensures) in
-    s .room
+shared-slice-read-write-line c = search needs
 
 sub-write-line : tie.Need-sub-write-line Inv-loop μ-loop
-sub-write-line c =
-    let n = c .before .before .before .before in
-    let l = c .before .before .before .before .before .before in
-    let a = l .before .before .before .before .before .before .before .args in
-    let s =
-    write-step (a .text .now) (a .kinds .now) (a .froms .now) (a .sizes .now) (a .beneath .now) (a .after .now) (a .rest .now) (a .rows .now) (l .loop .at) (l .loop .seen) (l .loop .places) (l .loop .rows)
-    (n .line-at .result) (l .loop .inv .3) (n .before .loop-test .taken) (n .line-at .ensures) in
-    s .inside .wide
+sub-write-line c = search (needs, held (c .before .before) .begins)
 
 part-write-line-start : tie.Need-part-write-line-start Inv-loop μ-loop
-part-write-line-start c =
-    let n = c .before .before .before .before in
-    let l = c .before .before .before .before .before .before in
-    let a = l .before .before .before .before .before .before .before .args in
-    let s =
-    write-step (a .text .now) (a .kinds .now) (a .froms .now) (a .sizes .now) (a .beneath .now) (a .after .now) (a .rest .now) (a .rows .now) (l .loop .at) (l .loop .seen) (l .loop .places) (l .loop .rows)
-    (n .line-at .result) (l .loop .inv .3) (n .before .loop-test .taken) (n .line-at .ensures) in
-    search (needs, s .inside .wide)
+part-write-line-start c = search (needs, held (c .before .before) .begins)
 
 part-write-line-end : tie.Need-part-write-line-end Inv-loop μ-loop
-part-write-line-end c =
-    let n = c .before .before .before .before in
-    let l = c .before .before .before .before .before .before in
-    let a = l .before .before .before .before .before .before .before .args in
-    let s =
-    write-step (a .text .now) (a .kinds .now) (a .froms .now) (a .sizes .now) (a .beneath .now) (a .after .now) (a .rest .now) (a .rows .now) (l .loop .at) (l .loop .seen) (l .loop .places) (l .loop .rows)
-    (n .line-at .result) (l .loop .inv .3) (n .before .loop-test .taken) (n .line-at .ensures) in
-    search (needs, s .inside .wide, s .inside .ends, s .inside .within)
+part-write-line-end c = search (needs, held (c .before .before) .within)
+
+mul-write-line : tie.Need-mul-write-line Inv-loop μ-loop
+mul-write-line c = let h = held (c .before .before .before) in search (needs, h .begins, h .within, h .short)
+
+sub-write-line-2 : tie.Need-sub-write-line-2 Inv-loop μ-loop
+sub-write-line-2 c = search (needs, held (c .before .before .before) .begins)
+
+part-write-line-start-2 : tie.Need-part-write-line-start-2 Inv-loop μ-loop
+part-write-line-start-2 c = search (needs, held (c .before .before .before) .begins)
+
+part-write-line-end-2 : tie.Need-part-write-line-end-2 Inv-loop μ-loop
+part-write-line-end-2 c = let h = held (c .before .before .before) in search (needs, h .within, h .even)
 
 write-line-requires : tie.Need-write-line-requires Inv-loop μ-loop
 write-line-requires c κs =
-    let n = c .before .before .before .before .before .before .before .before in
-    let l = c .before .before .before .before .before .before .before .before .before .before in
-    let a = l .before .before .before .before .before .before .before .args in
-    let s =
-    write-step (a .text .now) (a .kinds .now) (a .froms .now) (a .sizes .now) (a .beneath .now) (a .after .now) (a .rest .now) (a .rows .now) (l .loop .at) (l .loop .seen) (l .loop .places) (l .loop .rows)
-    (n .line-at .result) (l .loop .inv .3) (n .before .loop-test .taken) (n .line-at .ensures) in
-    let z = l .before .before .before .before .before .before .before in
-    (s .standable, names-few (a .text .now) (a .kinds .now) (a .froms .now) (a .sizes .now) (a .beneath .now) (a .after .now) (a .rest .now) (z .pre .0), omega (arith, l .loop .inv .0, z .pre .2), omega (arith, l .loop .inv .1, z .pre .3))
+    let k = c .before .before .before .before .before .before in
+    let l = k .before .before .before in
+    let s = l .before .before .before .before .before .before in
+    let a = s .args in
+    let i = l .loop .inv in
+    let g = listing (a .kinds .now) (a .ends .now) (a .sorts .now) (a .values .now) in (
+      step k (s .pre .0 .0) (s .pre .0 .1) .standable,
+      line-scratch g (l .loop .line) (l .loop .first) (l .loop .marks) (l .loop .stack) (held (k .before)) (i .3) (omega (arith, i .0, s .pre .2)) (omega (arith, i .1, s .pre .3)),
+    )
 
-add-places : tie.Need-add-places Inv-loop μ-loop
-add-places c =
-    let n = c .before .before .before .before .before .before .before .before .before .before .before .before .before .before in
-    let l = c .before .before .before .before .before .before .before .before .before .before .before .before .before .before .before .before in
-    let a = l .before .before .before .before .before .before .before .args in
-    let s =
-    write-step (a .text .now) (a .kinds .now) (a .froms .now) (a .sizes .now) (a .beneath .now) (a .after .now) (a .rest .now) (a .rows .now) (l .loop .at) (l .loop .seen) (l .loop .places) (l .loop .rows)
-    (n .line-at .result) (l .loop .inv .3) (n .before .loop-test .taken) (n .line-at .ensures) in
-    search (needs, s .shallow)
-
-mul-places-3 : tie.Need-mul-places-3 Inv-loop μ-loop
-mul-places-3 c =
-    let n = c .before .before .before .before .before .before .before .before .before .before .before .before .before .before in
-    let l = c .before .before .before .before .before .before .before .before .before .before .before .before .before .before .before .before in
-    let a = l .before .before .before .before .before .before .before .args in
-    let s =
-    write-step (a .text .now) (a .kinds .now) (a .froms .now) (a .sizes .now) (a .beneath .now) (a .after .now) (a .rest .now) (a .rows .now) (l .loop .at) (l .loop .seen) (l .loop .places) (l .loop .rows)
-    (n .line-at .result) (l .loop .inv .3) (n .before .loop-test .taken) (n .line-at .ensures) in
-    search (needs, s .shallow)
-
-array-write-places-2 : tie.Need-array-write-places-2 Inv-loop μ-loop
-array-write-places-2 c =
-    let n = c .before .before .before .before .before .before .before .before .before .before .before .before .before .before in
-    let l = c .before .before .before .before .before .before .before .before .before .before .before .before .before .before .before .before in
-    let a = l .before .before .before .before .before .before .before .args in
-    let s =
-    write-step (a .text .now) (a .kinds .now) (a .froms .now) (a .sizes .now) (a .beneath .now) (a .after .now) (a .rest .now) (a .rows .now) (l .loop .at) (l .loop .seen) (l .loop .places) (l .loop .rows)
-    (n .line-at .result) (l .loop .inv .3) (n .before .loop-test .taken) (n .line-at .ensures) in
-    omega (arith, s .shallow)
-
-mul-places-4 : tie.Need-mul-places-4 Inv-loop μ-loop
-mul-places-4 c =
-    let n = c .before .before .before .before .before .before .before .before .before .before .before .before .before .before in
-    let l = c .before .before .before .before .before .before .before .before .before .before .before .before .before .before .before .before in
-    let a = l .before .before .before .before .before .before .before .args in
-    let s =
-    write-step (a .text .now) (a .kinds .now) (a .froms .now) (a .sizes .now) (a .beneath .now) (a .after .now) (a .rest .now) (a .rows .now) (l .loop .at) (l .loop .seen) (l .loop .places) (l .loop .rows)
-    (n .line-at .result) (l .loop .inv .3) (n .before .loop-test .taken) (n .line-at .ensures) in
-    search (needs, s .shallow)
-
-array-write-places-3 : tie.Need-array-write-places-3 Inv-loop μ-loop
-array-write-places-3 c =
-    let n = c .before .before .before .before .before .before .before .before .before .before .before .before .before .before in
-    let l = c .before .before .before .before .before .before .before .before .before .before .before .before .before .before .before .before in
-    let a = l .before .before .before .before .before .before .before .args in
-    let s =
-    write-step (a .text .now) (a .kinds .now) (a .froms .now) (a .sizes .now) (a .beneath .now) (a .after .now) (a .rest .now) (a .rows .now) (l .loop .at) (l .loop .seen) (l .loop .places) (l .loop .rows)
-    (n .line-at .result) (l .loop .inv .3) (n .before .loop-test .taken) (n .line-at .ensures) in
-    omega (arith, s .shallow)
-
-add-seen : tie.Need-add-seen Inv-loop μ-loop
-add-seen c =
-    let n = c .before .before .before .before .before .before .before .before .before .before .before .before .before .before in
-    let l = c .before .before .before .before .before .before .before .before .before .before .before .before .before .before .before .before in
-    let a = l .before .before .before .before .before .before .before .args in
-    let s =
-    write-step (a .text .now) (a .kinds .now) (a .froms .now) (a .sizes .now) (a .beneath .now) (a .after .now) (a .rest .now) (a .rows .now) (l .loop .at) (l .loop .seen) (l .loop .places) (l .loop .rows)
-    (n .line-at .result) (l .loop .inv .3) (n .before .loop-test .taken) (n .line-at .ensures) in
-    search (needs, s .few)
+add-line : tie.Need-add-line Inv-loop μ-loop
+add-line c = search needs
 
 loop-less : tie.Need-loop-less Inv-loop μ-loop
-loop-less c =
-    let n = c .before .before .before .before .before .before .before .before .before .before .before .before .before .before in
-    let l = c .before .before .before .before .before .before .before .before .before .before .before .before .before .before .before .before in
-    let a = l .before .before .before .before .before .before .before .args in
-    let s =
-    write-step (a .text .now) (a .kinds .now) (a .froms .now) (a .sizes .now) (a .beneath .now) (a .after .now) (a .rest .now) (a .rows .now) (l .loop .at) (l .loop .seen) (l .loop .places) (l .loop .rows)
-    (n .line-at .result) (l .loop .inv .3) (n .before .loop-test .taken) (n .line-at .ensures) in
-    omega (arith, s .inside .later, s .inside .within)
+loop-less c = search needs
 
 loop-again : tie.Need-loop-again Inv-loop μ-loop
 loop-again c =
-    let n = c .before .before .before .before .before .before .before .before .before .before .before .before .before .before in
-    let l = c .before .before .before .before .before .before .before .before .before .before .before .before .before .before .before .before in
-    let a = l .before .before .before .before .before .before .before .args in
-    let s =
-    write-step (a .text .now) (a .kinds .now) (a .froms .now) (a .sizes .now) (a .beneath .now) (a .after .now) (a .rest .now) (a .rows .now) (l .loop .at) (l .loop .seen) (l .loop .places) (l .loop .rows)
-    (n .line-at .result) (l .loop .inv .3) (n .before .loop-test .taken) (n .line-at .ensures) in
-    let (m, t, o, w) = c .before .before .before .before .before .write-line .ensures in (
-      m ∙ l .loop .inv .0,
-      t ∙ l .loop .inv .1,
-      ap length w ∙ s .long ∙ l .loop .inv .2,
-      rw (o, w) (s .later),
+    let k = c .before .before .before .before .before .before .before .before .before .before .before .before in
+    let l = k .before .before .before in
+    let s = l .before .before .before .before .before .before in
+    let a = s .args in
+    let i = l .loop .inv in
+    let e = c .before .before .before .before .before .write-line .ensures in (
+      e .0 .0 ∙ i .0,
+      e .0 .1 ∙ i .1,
+      ap length (e .1) ∙ step k (s .pre .0 .0) (s .pre .0 .1) .long ∙ i .2,
+      sym (starts-next (a .ends .now) (l .loop .line)),
+      λ text h. subst (λ (v : List ℤ). Writing text (a .rows .now) (l .loop .line + 1) v) (sym (e .1)) (step k text h .later),
     )
 
 same-length : tie.Need-same-length Inv-loop μ-loop
@@ -256,12 +131,9 @@ same-length-3 c = search needs
 returns : tie.Need-returns Inv-loop μ-loop
 returns c =
     let l = c .before in
-    let a = l .before .before .before .before .before .before .before .args in (
-      l .loop .inv .0,
-      l .loop .inv .1,
-      write-all (a .text .now) (a .kinds .now) (a .froms .now) (a .sizes .now) (a .beneath .now) (a .after .now) (a .rest .now) (a .rows .now) (l .loop .at) (l .loop .seen) (l .loop .places) (l .loop .rows)
-          (l .loop .inv .3) (c .loop-test .left),
-    )
+    let a = l .before .before .before .before .before .before .args in
+    let g = listing (a .kinds .now) (a .ends .now) (a .sorts .now) (a .values .now) in
+    λ text h. write-all text (a .count) g (a .starts .now) (a .beneath .now) (a .after .now) (a .rest .now) h (a .rows .now) (l .loop .line) (l .loop .rows) (l .loop .inv .4 text h) (c .loop-test .left)
 
 pub write-lines-spec : {M : Type 1} → statement M
 write-lines-spec =
@@ -269,28 +141,21 @@ write-lines-spec =
     (tie.spec
     Inv-loop
     μ-loop
-    array-write-places
     loop-holds
-    line-at-requires
-    mul-places
-    array-read-places
-    mul-t28
-    element-copy-out-t31
-    mul-t32
-    element-copy-out-t35
-    mul-places-2
-    element-copy-out-places
+    mul-end
+    shared-slice-read-end
+    cast-end
+    spot-of-requires
     shared-slice-read-write-line
     sub-write-line
     part-write-line-start
     part-write-line-end
+    mul-write-line
+    sub-write-line-2
+    part-write-line-start-2
+    part-write-line-end-2
     write-line-requires
-    add-places
-    mul-places-3
-    array-write-places-2
-    mul-places-4
-    array-write-places-3
-    add-seen
+    add-line
     loop-less
     loop-again
     same-length

@@ -2,16 +2,13 @@
 use mathlib.Core.Path.{sym, ap, _∙_}
 use Prim.Native.Nat.{ℕ}
 use borrow.Author.Needs.{needs}
-use Rattle.grammar.specs.Shapes.{initial, element}
-use Rattle.read_shapes.proofs.PhraseLaws.{part-read}
-use Rattle.read_classes.specs.Parts.{chunksOf}
 use Rattle.read_classes.specs.Rules.{partIs}
 use Rattle.read_classes.proofs.parts.is_part.Tie as tie
 use Rattle.read_classes.proofs.RuleSteps.{part-other}
 use Rattle.read_classes.proofs.parts.is_part.Statement.{statement}
 
-ends-at-requires : tie.Need-ends-at-requires
-ends-at-requires c κs = search needs
+is-nothing-requires : tie.Need-is-nothing-requires
+is-nothing-requires c κs = search needs
 
 is-phrase-requires : tie.Need-is-phrase-requires
 is-phrase-requires c κs = search needs
@@ -33,43 +30,43 @@ is-event-requires c κs = search needs
 
 returns : tie.Need-returns
 unfolding partIs
-returns c = let a = c .before .before .before .args in c .ends-at .ensures ∙ ap (λ (k : ℕ). partIs k (chunksOf (a .part .now))) (sym (c .before .match .keys1))
+returns c = let a = c .before .before .before .args in c .is-nothing .ensures ∙ ap (λ (k : ℕ). partIs k (a .part .now)) (sym (c .before .match .keys1))
 
 returns-2 : tie.Need-returns-2
 unfolding partIs
-returns-2 c = let a = c .before .before .before .args in c .is-phrase .ensures ∙ sym (part-read initial (a .part .now) (c .before .before .before .pre)) ∙ ap (λ (k : ℕ). partIs k (chunksOf (a .part .now))) (sym (c .before .match .keys2))
+returns-2 c = let a = c .before .before .before .args in c .is-phrase .ensures ∙ ap (λ (k : ℕ). partIs k (a .part .now)) (sym (c .before .match .keys2))
 
 returns-3 : tie.Need-returns-3
 unfolding partIs
-returns-3 c = let a = c .before .before .before .args in c .is-element .ensures ∙ sym (part-read element (a .part .now) (c .before .before .before .pre)) ∙ ap (λ (k : ℕ). partIs k (chunksOf (a .part .now))) (sym (c .before .match .keys3))
+returns-3 c = let a = c .before .before .before .args in c .is-element .ensures ∙ ap (λ (k : ℕ). partIs k (a .part .now)) (sym (c .before .match .keys3))
 
 returns-4 : tie.Need-returns-4
 unfolding partIs
-returns-4 c = let a = c .before .before .before .args in c .is-size .ensures ∙ ap (λ (k : ℕ). partIs k (chunksOf (a .part .now))) (sym (c .before .match .keys4))
+returns-4 c = let a = c .before .before .before .args in c .is-size .ensures ∙ ap (λ (k : ℕ). partIs k (a .part .now)) (sym (c .before .match .keys4))
 
 returns-5 : tie.Need-returns-5
 unfolding partIs
-returns-5 c = let a = c .before .before .before .args in c .is-named .ensures ∙ ap (λ (k : ℕ). partIs k (chunksOf (a .part .now))) (sym (c .before .match .keys5))
+returns-5 c = let a = c .before .before .before .args in c .is-named .ensures ∙ ap (λ (k : ℕ). partIs k (a .part .now)) (sym (c .before .match .keys5))
 
 returns-6 : tie.Need-returns-6
 unfolding partIs
-returns-6 c = let a = c .before .before .before .args in c .is-numbered .ensures ∙ ap (λ (k : ℕ). partIs k (chunksOf (a .part .now))) (sym (c .before .match .keys6))
+returns-6 c = let a = c .before .before .before .args in c .is-numbered .ensures ∙ ap (λ (k : ℕ). partIs k (a .part .now)) (sym (c .before .match .keys6))
 
 returns-7 : tie.Need-returns-7
 unfolding partIs
-returns-7 c = let a = c .before .before .before .args in c .is-event .ensures ∙ ap (λ (k : ℕ). partIs k (chunksOf (a .part .now))) (sym (c .before .match .keys7))
+returns-7 c = let a = c .before .before .before .args in c .is-event .ensures ∙ ap (λ (k : ℕ). partIs k (a .part .now)) (sym (c .before .match .keys7))
 
 returns-8 : tie.Need-returns-8
 returns-8 c =
     let a = c .before .before .args in
     let n = c .match .rest in
-    part-other (a .asked) (chunksOf (a .part .now)) (n .0 .0 .0 .0 .0 .0 .1) (n .0 .0 .0 .0 .0 .1) (n .0 .0 .0 .0 .1) (n .0 .0 .0 .1) (n .0 .0 .1) (n .0 .1) (n .1)
+    part-other (a .asked) (a .part .now) (n .0 .0 .0 .0 .0 .0 .1) (n .0 .0 .0 .0 .0 .1) (n .0 .0 .0 .0 .1) (n .0 .0 .0 .1) (n .0 .0 .1) (n .0 .1) (n .1)
 
 pub is-part-spec : {M : Type 1} → statement M
 is-part-spec =
     tie.close
     (tie.spec
-    ends-at-requires
+    is-nothing-requires
     is-phrase-requires
     is-element-requires
     is-size-requires

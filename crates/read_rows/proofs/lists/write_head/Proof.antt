@@ -1,10 +1,11 @@
 -- A declaration writes nothing. Assumes nothing.
 use mathlib.Core.Path.{refl, ap}
 use Rattle.grammar.specs.Outline.{heads}
-use Rattle.read_names.specs.Listed.{namesAt}
+use Rattle.read_tokens.specs.Held.{tokensResolved}
 use Rattle.read_rows.specs.LinesLaid.{expectOf}
 use Rattle.read_rows.proofs.StandSteps.{stands-at}
 use Rattle.read_rows.proofs.LineCases.{head-declares, head-process}
+use Rattle.read_rows.proofs.LineTold.{sorts-held}
 use borrow.Author.Needs.{needs}
 use Rattle.read_rows.proofs.lists.write_head.Statement.{statement}
 use Rattle.read_rows.proofs.lists.write_head.Tie as tie
@@ -12,19 +13,19 @@ use Rattle.read_rows.proofs.lists.write_head.Tie as tie
 returns : tie.Need-returns
 unfolding expectOf
 returns c =
-    let a = c .before .before .before .before .before .before .before in
-    let names = namesAt (a .args .text .now) (a .args .froms .now) (a .args .sizes .now) in
-    let at = stands-at names (a .args .kind) (a .args .body .now) (a .args .spot) (a .args .rows .now) (a .pre .1) heads (ap expectOf (a .pre .0)) in
-    (refl, refl, head-declares names (a .args .kind) (a .args .body .now) (a .args .spot) (a .args .rows .now) at (c .if1 .taken))
+    let a = c .before .before .before .before in
+    let os = tokensResolved (a .args .sorts .now) (a .args .values .now) in
+    let at = stands-at (a .args .kind) os (a .args .spot) (a .args .rows .now) (a .pre .1) heads (ap expectOf (a .pre .0)) in
+    ((refl, refl), head-declares (a .args .kind) os (a .args .spot) (a .args .rows .now) at (c .if1 .taken))
 
 write-process-requires : tie.Need-write-process-requires
 unfolding expectOf
 write-process-requires c κs =
-    let a = c .before .before .before .before .before .before .before .before .before .before in
-    let names = namesAt (a .args .text .now) (a .args .froms .now) (a .args .sizes .now) in
-    let at = stands-at names (a .args .kind) (a .args .body .now) (a .args .spot) (a .args .rows .now) (a .pre .1) heads (ap expectOf (a .pre .0)) in
-    let p = head-process names (a .args .kind) (a .args .body .now) (a .args .spot) (a .args .rows .now) at (c .before .before .before .if1 .left) in
-    (p .writable, a .pre .2, a .pre .3)
+    let a = c .before .before .before .before .before .before .before in
+    let os = tokensResolved (a .args .sorts .now) (a .args .values .now) in
+    let at = stands-at (a .args .kind) os (a .args .spot) (a .args .rows .now) (a .pre .1) heads (ap expectOf (a .pre .0)) in
+    let p = head-process (a .args .kind) os (a .args .spot) (a .args .rows .now) at (c .before .before .before .if1 .left) in
+    (sorts-held (a .args .sorts .now) (a .args .values .now) (at .line) (a .pre .2 .0) (at .is-line), p .writable, a .pre .2)
 
 same-length : tie.Need-same-length
 same-length c = search needs
@@ -38,12 +39,12 @@ same-length-3 c = search needs
 returns-2 : tie.Need-returns-2
 unfolding expectOf
 returns-2 c =
-    let a = c .before .before .before .before .before .before .before .before .before .before .before .before .before .before .before .before in
-    let names = namesAt (a .args .text .now) (a .args .froms .now) (a .args .sizes .now) in
-    let at = stands-at names (a .args .kind) (a .args .body .now) (a .args .spot) (a .args .rows .now) (a .pre .1) heads (ap expectOf (a .pre .0)) in
-    let p = head-process names (a .args .kind) (a .args .body .now) (a .args .spot) (a .args .rows .now) at (c .before .before .before .before .before .before .before .before .before .if1 .left) in
+    let a = c .before .before .before .before .before .before .before .before .before .before .before .before .before in
+    let os = tokensResolved (a .args .sorts .now) (a .args .values .now) in
+    let at = stands-at (a .args .kind) os (a .args .spot) (a .args .rows .now) (a .pre .1) heads (ap expectOf (a .pre .0)) in
+    let p = head-process (a .args .kind) os (a .args .spot) (a .args .rows .now) at (c .before .before .before .before .before .before .before .before .before .if1 .left) in
     let w = c .before .before .before .before .before .write-process in
-    (w .ensures .0, w .ensures .1, p .laid _ (w .ensures .3))
+    (w .ensures .0, p .laid _ (w .ensures .1 .1))
 
 pub write-head-spec : {M : Type 1} → statement M
 write-head-spec =

@@ -16,8 +16,8 @@ add-next c = search needs
 add-next-2 : tie.Need-add-next-2
 add-next-2 c = search needs
 
-cast-write-four : tie.Need-cast-write-four
-cast-write-four c = search needs
+cast-write-row : tie.Need-cast-write-row
+cast-write-row c = search needs
 
 add-link-to : tie.Need-add-link-to
 add-link-to c = search needs
@@ -28,14 +28,14 @@ link-to-requires c κs = search needs
 link-to-requires-2 : tie.Need-link-to-requires-2
 link-to-requires-2 c κs = search needs
 
-add-write-four : tie.Need-add-write-four
-add-write-four c = search needs
+add-write-row : tie.Need-add-write-row
+add-write-row c = search needs
 
-cast-write-four-2 : tie.Need-cast-write-four-2
-cast-write-four-2 c = search needs
+cast-write-row-2 : tie.Need-cast-write-row-2
+cast-write-row-2 c = search needs
 
-write-four-requires : tie.Need-write-four-requires
-write-four-requires c κs = search needs
+write-row-requires : tie.Need-write-row-requires
+write-row-requires c κs = search needs
 
 same-length : tie.Need-same-length
 same-length c = search needs
@@ -47,7 +47,7 @@ returns c =
     let two = c .before .before .link-to2 in
     let f1 : SFits w32 (one .result) = search needs in
     let f2 : SFits w32 (two .result) = search needs in
-    c .before .write-four .ensures
+    c .before .write-row .ensures
     ∙ listed-row (a .args .kind) (a .args .n) (a .args .beneath) (a .args .later) (a .args .rows .now) (toZ-pos w32 (a .args .kind) (omega (arith, a .fits .kind)))
     (toZ-ofZ w32 (one .result) f1 ∙ one .ensures) (toZ-ofZ w32 (two .result) f2 ∙ two .ensures) (toZ-pos w32 (a .args .n + 1 + a .args .beneath + a .args .later) (omega (arith, a .pre .0)))
 
@@ -57,12 +57,12 @@ write-listed-spec =
     (tie.spec
     add-next
     add-next-2
-    cast-write-four
+    cast-write-row
     add-link-to
     link-to-requires
     link-to-requires-2
-    add-write-four
-    cast-write-four-2
-    write-four-requires
+    add-write-row
+    cast-write-row-2
+    write-row-requires
     same-length
     returns)
