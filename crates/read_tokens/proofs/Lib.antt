@@ -1,9 +1,9 @@
-pub mod WordFilter
 pub mod LongChunks
 pub mod SymbolCases
 pub mod HangCases
 pub mod ChunkSteps
 pub mod WordSteps
 pub mod TableSteps
+pub mod WordCases
 pub mod HeldLaws
 pub mod TokenCases

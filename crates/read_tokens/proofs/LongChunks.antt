@@ -1,6 +1,6 @@
 -- Bytes that are too many for a token.
 use mathlib.Core.Path.{_≡_, refl, ap}
-use mathlib.Core.Bool.{Bool, true, false}
+use mathlib.Core.Bool.{Bool, true, false, _&&_}
 use mathlib.Core.List.{List, [], _∷_}
 use mathlib.Core.Option.{Option, none, some, Option·none-ne-some, Option·some-injective}
 use Prim.Native.Nat.{ℕ, zero, suc, _≤_, _<_}
@@ -12,13 +12,40 @@ use lib.Dec.{eqb, leb}
 use borrow.Author.Tests.{leb-true, lt-leb}
 use Rattle.meaning.specs.Basics.{ifElse}
 use Rattle.meaning.specs.Texts.{hyphen}
+use Rattle.meaning.specs.Lines.{same}
 use Rattle.meaning.specs.Numerals.{natural, unsigned, negative}
 use Rattle.meaning.specs.Numerals as numerals
 use Rattle.meaning.specs.PrintedClaims.{OneForm}
+use Rattle.meaning.proofs.NoFault.{same-is}
 use Rattle.meaning.proofs.NumeralForm.{let-through, one-form}
 use Rattle.base_numbers.proofs.Texts.{printed-short}
-use Rattle.grammar.specs.Tokens.{words, symbols, tokenSpelt, isWord, orName, orNumber, tokenOf}
-use Rattle.read_tokens.proofs.WordFilter.{words-short, symbols-short}
+use Rattle.grammar.specs.Tokens.{TokenEntry, words, symbols, tokenSpelt, isWord, orName, orNumber, tokenOf}
+use Rattle.grammar.proofs.LinesSound.{split-and}
+
+-- each spelling has at most seven bytes
+allWithin : List TokenEntry → Bool
+allWithin [] = true
+allWithin (e ∷ es) = leb (length (e .spelling)) 7 && allWithin es
+
+too-long : (es : List TokenEntry) → allWithin es ≡ true → (s : List ℕ) → 7 < length s → tokenSpelt es s ≡ none
+unfolding allWithin tokenSpelt
+too-long [] h s l = refl
+too-long (e ∷ es) h s l = go (same s (e .spelling)) refl (too-long es (parts .1) s l)
+  where
+    parts : (leb (length (e .spelling)) 7 ≡ true) × (allWithin es ≡ true)
+    parts = split-and (leb (length (e .spelling)) 7) (allWithin es) h
+
+    go : (b : Bool) → same s (e .spelling) ≡ b → tokenSpelt es s ≡ none → ifElse b (some (e .token)) (tokenSpelt es s) ≡ none
+    go true q i = let k = ap (λ (t : List ℕ). length t) (same-is s (e .spelling) q) in let m = leb-true (length (e .spelling)) 7 (parts .0) in absurd (omega (arith, l, k, m))
+    go false q i = i
+
+words-short : (s : List ℕ) → 7 < length s → tokenSpelt words s ≡ none
+unfolding words allWithin
+words-short s l = too-long words refl s l
+
+symbols-short : (s : List ℕ) → 7 < length s → tokenSpelt symbols s ≡ none
+unfolding symbols allWithin
+symbols-short s l = too-long symbols refl s l
 
 -- a number that is read fits
 unsigned-fits : (o : Option ℕ) (z : ℤ) → unsigned o ≡ some z → mag z < 2147483648

@@ -1,9 +1,9 @@
--- The code's constant table of words: a line is a spelling with zeros behind it, its length, a sort and a value.
-use mathlib.Core.Bool.{Bool, true, false, _&&_}
+-- The code's constant tables of words: a line is a spelling with zeros behind it, its length, a sort and a value.
+use mathlib.Core.Bool.{Bool, true, _&&_}
 use mathlib.Core.List.{List, [], _∷_}
 use Prim.Native.Nat.{ℕ}
 use lib.IntN.{pos}
-use lib.ListN.{length, take, getD}
+use lib.ListN.{take, getD}
 use lib.Dec.{leb}
 use Rattle.meaning.specs.Basics.{ifElse}
 use Rattle.meaning.specs.Lines.{same}
@@ -32,8 +32,3 @@ lineLexeme line = valued (getD line 8 0) (pos (getD line 9 0))
 unfoldable pub lexemeIn : List (List ℕ) → List ℕ → Lexeme
 lexemeIn [] s = plain sorts.noToken
 lexemeIn (l ∷ ls) s = let rest = lexemeIn ls s in ifElse (same s (lineSpelling l)) (lineLexeme l) rest
-
--- whether some bytes can be a word of the grammar: one to seven, of which the first is no small letter
-unfoldable pub mayBeWord : List ℕ → Bool
-mayBeWord [] = false
-mayBeWord (b ∷ bs) = leb (length (b ∷ bs)) 7 && leb b 90

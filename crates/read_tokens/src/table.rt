@@ -1,4 +1,4 @@
-// The words as a constant table, and the token that it has for some bytes; the symbols by their bytes.
+// The words as constant tables, one for each first letter, and the token that a table has for some bytes; the symbols by their bytes.
 ghost use mathlib.Core.Path.{_≡_};
 ghost use mathlib.Core.Bool.{true};
 ghost use mathlib.Core.List.{[], _∷_};
@@ -6,36 +6,74 @@ ghost use lib.IntN.{pos};
 ghost use Rattle.meaning.specs.Lines as lines;
 ghost use Rattle.grammar.specs.Tokens as tokens;
 ghost use Rattle.read_tokens.specs.Lexemes.{valued, lexemeOf};
-ghost use Rattle.read_tokens.specs.Table.{short, allShort, lineSpelling, lexemeIn, mayBeWord};
+ghost use Rattle.read_tokens.specs.Table.{short, allShort, lineSpelling, lexemeIn};
 use crate::Lexeme;
 use crate::sorts::*;
 use read_table::scan;
 
-// The words. A line is a spelling with zeros behind it, how many bytes the spelling has, the token's sort and its value.
-const WORDS: [[u8; 10]; 22] = [
-    [b'I', b'N', b'T', 0, 0, 0, 0, 3, INT, 0],
-    [b'C', b'H', b'A', b'N', 0, 0, 0, 4, CHAN, 0],
-    [b'H', b'O', b'S', b'T', b'I', b'N', 0, 6, HOSTIN, 0],
-    [b'H', b'O', b'S', b'T', b'O', b'U', b'T', 7, HOSTOUT, 0],
-    [b'S', b'K', b'I', b'P', 0, 0, 0, 4, SKIP, 0],
-    [b'S', b'T', b'O', b'P', 0, 0, 0, 4, STOP, 0],
-    [b'S', b'E', b'Q', 0, 0, 0, 0, 3, SEQ, 0],
-    [b'P', b'A', b'R', 0, 0, 0, 0, 3, PAR, 0],
-    [b'I', b'F', 0, 0, 0, 0, 0, 2, IF, 0],
-    [b'W', b'H', b'I', b'L', b'E', 0, 0, 5, WHILE, 0],
+// The words that begin with A. A line is a spelling with zeros behind it, how many bytes the spelling has, the token's sort and its value.
+const WORDS_A: [[u8; 10]; 2] = [
     [b'A', b'L', b'T', 0, 0, 0, 0, 3, ALT, 0],
-    [b'R', b'E', b'M', 0, 0, 0, 0, 3, ARITH, 4],
-    [b'P', b'L', b'U', b'S', 0, 0, 0, 4, ARITH, 5],
-    [b'M', b'I', b'N', b'U', b'S', 0, 0, 5, ARITH, 6],
-    [b'T', b'I', b'M', b'E', b'S', 0, 0, 5, ARITH, 7],
     [b'A', b'N', b'D', 0, 0, 0, 0, 3, AND, 0],
-    [b'O', b'R', 0, 0, 0, 0, 0, 2, OR, 0],
-    [b'N', b'O', b'T', 0, 0, 0, 0, 3, NOT, 0],
-    [b'G', b'I', b'V', b'E', b'N', 0, 0, 5, GIVEN, 0],
-    [b'T', b'R', b'U', b'E', 0, 0, 0, 4, UNUSED, 0],
+];
+
+// The word that begins with C.
+const WORDS_C: [[u8; 10]; 1] = [[b'C', b'H', b'A', b'N', 0, 0, 0, 4, CHAN, 0]];
+
+// The words that begin with F.
+const WORDS_F: [[u8; 10]; 2] = [
     [b'F', b'A', b'L', b'S', b'E', 0, 0, 5, UNUSED, 1],
     [b'F', b'O', b'R', 0, 0, 0, 0, 3, UNUSED, 2],
 ];
+
+// The word that begins with G.
+const WORDS_G: [[u8; 10]; 1] = [[b'G', b'I', b'V', b'E', b'N', 0, 0, 5, GIVEN, 0]];
+
+// The words that begin with H.
+const WORDS_H: [[u8; 10]; 2] = [
+    [b'H', b'O', b'S', b'T', b'I', b'N', 0, 6, HOSTIN, 0],
+    [b'H', b'O', b'S', b'T', b'O', b'U', b'T', 7, HOSTOUT, 0],
+];
+
+// The words that begin with I.
+const WORDS_I: [[u8; 10]; 2] = [
+    [b'I', b'N', b'T', 0, 0, 0, 0, 3, INT, 0],
+    [b'I', b'F', 0, 0, 0, 0, 0, 2, IF, 0],
+];
+
+// The word that begins with M.
+const WORDS_M: [[u8; 10]; 1] = [[b'M', b'I', b'N', b'U', b'S', 0, 0, 5, ARITH, 6]];
+
+// The word that begins with N.
+const WORDS_N: [[u8; 10]; 1] = [[b'N', b'O', b'T', 0, 0, 0, 0, 3, NOT, 0]];
+
+// The word that begins with O.
+const WORDS_O: [[u8; 10]; 1] = [[b'O', b'R', 0, 0, 0, 0, 0, 2, OR, 0]];
+
+// The words that begin with P.
+const WORDS_P: [[u8; 10]; 2] = [
+    [b'P', b'A', b'R', 0, 0, 0, 0, 3, PAR, 0],
+    [b'P', b'L', b'U', b'S', 0, 0, 0, 4, ARITH, 5],
+];
+
+// The word that begins with R.
+const WORDS_R: [[u8; 10]; 1] = [[b'R', b'E', b'M', 0, 0, 0, 0, 3, ARITH, 4]];
+
+// The words that begin with S.
+const WORDS_S: [[u8; 10]; 3] = [
+    [b'S', b'K', b'I', b'P', 0, 0, 0, 4, SKIP, 0],
+    [b'S', b'T', b'O', b'P', 0, 0, 0, 4, STOP, 0],
+    [b'S', b'E', b'Q', 0, 0, 0, 0, 3, SEQ, 0],
+];
+
+// The words that begin with T.
+const WORDS_T: [[u8; 10]; 2] = [
+    [b'T', b'I', b'M', b'E', b'S', 0, 0, 5, ARITH, 7],
+    [b'T', b'R', b'U', b'E', 0, 0, 0, 4, UNUSED, 0],
+];
+
+// The word that begins with W.
+const WORDS_W: [[u8; 10]; 1] = [[b'W', b'H', b'I', b'L', b'E', 0, 0, 5, WHILE, 0]];
 
 // A token of a sort and a value.
 fn lexeme(sort: u8, value: u8) -> Lexeme
@@ -72,28 +110,72 @@ fn look_up(table: &[[u8; 10]], chunk: &[u8]) -> Lexeme
     lexeme(NO_TOKEN, 0)
 }
 
-// Whether some bytes can be a word of the grammar: by their number, and by the first of them, which is no small letter.
-fn may_be_word(chunk: &[u8]) -> bool
-    ensures { λ r. ⌜ r ≡ mayBeWord (now (chunk .entry)) ⌝ }
-{
-    if chunk.len() == 0 {
-        return false;
-    }
-    if 7 < chunk.len() {
-        return false;
-    }
-    chunk[0] <= b'Z'
-}
-
-// The word of the grammar that some bytes are.
+// The word of the grammar that some bytes are, by the first of them.
 pub fn word(chunk: &[u8]) -> Lexeme
     ensures { λ r. ⌜ r ≡ lexemeOf (tokens.tokenSpelt tokens.words (now (chunk .entry))) ⌝ }
 {
-    if !may_be_word(chunk) {
+    if chunk.len() == 0 {
         return lexeme(NO_TOKEN, 0);
     }
-    let table = WORDS;
-    look_up(&table, chunk)
+    match chunk[0] {
+        b'A' => {
+            let table = WORDS_A;
+            look_up(&table, chunk)
+        }
+        b'C' => {
+            let table = WORDS_C;
+            look_up(&table, chunk)
+        }
+        b'F' => {
+            let table = WORDS_F;
+            look_up(&table, chunk)
+        }
+        b'G' => {
+            let table = WORDS_G;
+            look_up(&table, chunk)
+        }
+        b'H' => {
+            let table = WORDS_H;
+            look_up(&table, chunk)
+        }
+        b'I' => {
+            let table = WORDS_I;
+            look_up(&table, chunk)
+        }
+        b'M' => {
+            let table = WORDS_M;
+            look_up(&table, chunk)
+        }
+        b'N' => {
+            let table = WORDS_N;
+            look_up(&table, chunk)
+        }
+        b'O' => {
+            let table = WORDS_O;
+            look_up(&table, chunk)
+        }
+        b'P' => {
+            let table = WORDS_P;
+            look_up(&table, chunk)
+        }
+        b'R' => {
+            let table = WORDS_R;
+            look_up(&table, chunk)
+        }
+        b'S' => {
+            let table = WORDS_S;
+            look_up(&table, chunk)
+        }
+        b'T' => {
+            let table = WORDS_T;
+            look_up(&table, chunk)
+        }
+        b'W' => {
+            let table = WORDS_W;
+            look_up(&table, chunk)
+        }
+        _ => lexeme(NO_TOKEN, 0),
+    }
 }
 
 // The symbol that a byte is.
