@@ -6,16 +6,8 @@ ghost use lib.Seq.{sets};
 ghost use Rattle.read_counts.specs.TokenRows.{sortRows, sortLess, rowsBySorts, listedAt, blockAt, declarationRows, rowsByKind};
 ghost use Rattle.read_counts.specs.ListedRows.{Spans, rowsListed, ownsListed};
 use read_classes::classes;
+use read_levels::expectations;
 use read_tokens::sorts;
-
-// What may be expected where a line stands, by number: nothing.
-const NOTHING: u8 = 3;
-
-// one process
-const ONE_PROCESS: u8 = 4;
-
-// declarations and one process
-const HEADS: u8 = 6;
 
 // The rows that a token of a sort adds, each name as if it were bare.
 fn sort_rows(sort: u8) -> u32
@@ -71,9 +63,9 @@ fn listed_rows(expected: u8) -> u32
     ensures { λ r. ⌜ r ≡ listedAt expected ⌝ }
 {
     match expected {
-        NOTHING => 0,
-        ONE_PROCESS => 0,
-        HEADS => 0,
+        expectations::NOTHING => 0,
+        expectations::ONE_PROCESS => 0,
+        expectations::HEADS => 0,
         _ => 1,
     }
 }
@@ -82,7 +74,7 @@ fn listed_rows(expected: u8) -> u32
 fn block_rows(expected: u8) -> u32
     ensures { λ r. ⌜ r ≡ blockAt expected ⌝ }
 {
-    if expected == HEADS {
+    if expected == expectations::HEADS {
         return 0;
     }
     1

@@ -53,7 +53,7 @@ fn name_in(sorts: &[u8], values: &[i32]) -> usize
 }
 
 // The row of the declaration that listed tokens are.
-pub fn declaration_row(sorts: &[u8], values: &[i32]) -> DeclaredRow
+fn declaration_row(sorts: &[u8], values: &[i32]) -> DeclaredRow
     requires { ⌜ Marked (now sorts) (now values) ⌝ }
     ensures { λ r. ⌜ numbersOf r ≡ rowListed (now (sorts .entry)) (now (values .entry)) ⌝ }
 {

@@ -7,6 +7,8 @@ ghost use Rattle.read_levels.specs.Steps.{beneathTable, afterTable, tabl
 ghost use Rattle.read_levels.specs.Listing.{listing};
 ghost use Rattle.read_levels.specs.Outlines.{Room, OutlineRead};
 
+pub mod expectations; // expectations.rt: what may be expected where a line stands
+
 // The lines of a text: how many, or at which line it is at fault.
 pub enum Outlined {
     Lines(usize),
@@ -19,12 +21,6 @@ struct Step {
     beneath: u8,
     after: u8,
 }
-
-// One process, which must come. What is below it by number may end.
-const ONE_PROCESS: u8 = 4;
-
-// Declarations and then one process.
-const HEADS: u8 = 6;
 
 // The line may not stand there.
 const NONE: u8 = 7;
@@ -80,7 +76,7 @@ fn ended_to(stack: &[u8], depth: usize, low: usize) -> bool
     let mut d = depth;
     while low < d {
         d -= 1;
-        if ONE_PROCESS <= stack[d] {
+        if expectations::ONE_PROCESS <= stack[d] {
             return false;
         }
     }
@@ -135,7 +131,7 @@ fn outline_with(
     requires { ⌜ Room (length (now text)) (now levels) (listing (now kinds) (now ends) (now sorts) (now values)) × (16386 ≤ length (now stack)) ⌝ }
     ensures { λ r. ⌜ OutlineRead (now (text .entry)) r (now (levels .exit)) (listing (now (kinds .exit)) (now (ends .exit)) (now (sorts .exit)) (now (values .exit))) ⌝ }
 {
-    stack[0] = HEADS;
+    stack[0] = expectations::HEADS;
     let mut depth: usize = 1;
     let mut count: usize = 0;
     let mut first: usize = 0;

@@ -8,6 +8,7 @@ ghost use Rattle.read_levels.specs.Listing.{listing};
 ghost use Rattle.read_processes.specs.Onwards.{partRowsAt, onwardOf};
 ghost use Rattle.read_processes.specs.Written.{spotAt, SomePlaceable, StartsTold, SomePlaced, RowsLaid, SomeReady, RowsWritten};
 use read_classes::classes;
+use read_levels::expectations;
 use read_rows::Spot;
 
 // Where the lines beneath a line go, and those after it at its level.
@@ -16,26 +17,11 @@ pub struct Onward {
     pub later: usize,
 }
 
-// What may be expected where a line stands, by number: processes.
-const MEMBERS: u8 = 0;
-
-// choices
-const CHOICES: u8 = 1;
-
-// options
-const OPTIONS: u8 = 2;
-
-// one process, and then processes
-const ONE_MEMBER: u8 = 5;
-
-// declarations and one process
-const HEADS: u8 = 6;
-
 // The rows of a line's process among those that the line makes itself: the first member of a block has the row of a member before the block.
 fn part_rows(expected: u8, own: usize) -> usize
     ensures { λ r. ⌜ r ≡ partRowsAt expected own ⌝ }
 {
-    if expected == ONE_MEMBER {
+    if expected == expectations::ONE_MEMBER {
         if own == 0 {
             return 0;
         }
@@ -48,7 +34,7 @@ fn part_rows(expected: u8, own: usize) -> usize
 fn is_head(expected: u8, class: u8) -> bool
     ensures { λ r. ⌜ r ≡ eqb expected 6 && leb class 2 ⌝ }
 {
-    if expected != HEADS {
+    if expected != expectations::HEADS {
         return false;
     }
     class <= classes::OTHER_DECLARATION
@@ -61,13 +47,13 @@ fn next_places(kind: u8, own: usize, row: usize, beneath: usize) -> Onward
 {
     let expected = kind / 16;
     let class = kind % 16;
-    if expected == CHOICES {
+    if expected == expectations::CHOICES {
         return Onward {
             beneath: row + 1,
             later: row + 1 + beneath,
         };
     }
-    if expected == OPTIONS {
+    if expected == expectations::OPTIONS {
         return Onward {
             beneath: row + 1,
             later: row + 1 + beneath,
@@ -80,7 +66,7 @@ fn next_places(kind: u8, own: usize, row: usize, beneath: usize) -> Onward
         };
     }
     if class == classes::VARIABLE_LINE {
-        if expected == MEMBERS {
+        if expected == expectations::MEMBERS {
             return Onward {
                 beneath: row + 1,
                 later: row + 2,

@@ -7,6 +7,8 @@ ghost use Rattle.read_rows.specs.LinesLaid.{Standable, laidBy};
 
 mod lists; // lists.rt: the rows of a line by what is expected where it stands
 
+use read_levels::expectations;
+
 // Where the form of a line goes, and the rows beneath it, after it at its level, and of the members after it.
 pub struct Spot {
     pub row: usize,
@@ -14,18 +16,6 @@ pub struct Spot {
     pub later: usize,
     pub rest: usize,
 }
-
-// What may be expected where a line stands, by number: processes.
-const MEMBERS: u8 = 0;
-
-// choices
-const CHOICES: u8 = 1;
-
-// options
-const OPTIONS: u8 = 2;
-
-// declarations and one process
-const HEADS: u8 = 6;
 
 // Writes the rows of a line, from its kind and its tokens. Marks and stack are scratch.
 pub fn write_line(
@@ -42,10 +32,10 @@ pub fn write_line(
 {
     let expected = kind / 16;
     match expected {
-        MEMBERS => lists::write_member(kind, sorts, values, spot, marks, stack, rows),
-        CHOICES => lists::write_choice(kind, sorts, values, spot, marks, stack, rows),
-        OPTIONS => lists::write_option(kind, sorts, values, spot, marks, stack, rows),
-        HEADS => lists::write_head(kind, sorts, values, spot, marks, stack, rows),
+        expectations::MEMBERS => lists::write_member(kind, sorts, values, spot, marks, stack, rows),
+        expectations::CHOICES => lists::write_choice(kind, sorts, values, spot, marks, stack, rows),
+        expectations::OPTIONS => lists::write_option(kind, sorts, values, spot, marks, stack, rows),
+        expectations::HEADS => lists::write_head(kind, sorts, values, spot, marks, stack, rows),
         _ => lists::write_single(kind, sorts, values, spot, marks, stack, rows),
     }
 }
