@@ -25,6 +25,10 @@ unfoldable pub markAt : List ℕ → ℕ
 markAt [] = 0
 markAt (s ∷ ss) = let later = suc (markAt ss) in ifElse (leb sorts.skip s) 0 later
 
+-- its sort, 0 if there is none
+abbrev pub markIn : List ℕ → ℕ
+markIn ss = getD ss (markAt ss) sorts.noToken
+
 -- the sort of the first mark, the tokens before it and those after it; without a mark the sort is 0 and all tokens are before
 pub record Parting : Type 0 where
   pub sort : ℕ

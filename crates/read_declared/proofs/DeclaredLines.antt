@@ -21,7 +21,7 @@ use Rattle.read_levels.specs.Listing.{Listing, startOf, sortsOn, valuesOn, Line
 use Rattle.read_levels.proofs.ListingLaws.{line-there, class-at}
 use Rattle.read_tokens.specs.Sorts as sorts
 use Rattle.read_declared.specs.Firsts.{placeOfSort, nameIn}
-use Rattle.read_declared.specs.Declarations.{inOrder, rowListed, roleNumber, roleListed, Marked, Listable}
+use Rattle.read_declared.specs.Declarations.{inOrder, rowListed, roleNumber, roleListed, HasMark, Listable}
 use Rattle.read_declared.proofs.HeaderLaws.{headed, header-marked, name-listed, header-row, header-role}
 use Rattle.read_declared.proofs.NameLaws.{declared-lettered}
 use Rattle.read_declared.proofs.OrderLaws.{in-order-append}
@@ -49,7 +49,7 @@ pub record DeclaredLine (named : ℕ → Option Token) (f : Token → Token) (ls
   pub level : ℕ
   pub rest : List Lined
   pub at-line : drop line ls ≡ lined level (declare declared) ∷ rest
-  pub marked : Marked ss vs
+  pub marked : HasMark ss vs
   pub name-there : placeOfSort sorts.name ss < length vs
   pub name-as : byNatural named (getD vs (placeOfSort sorts.name ss) (pos 0)) ≡ some (f (name (nameOf declared)))
   pub row : rowListed ss vs ≡ declarationRow declared

@@ -19,7 +19,7 @@ use Rattle.read_levels.proofs.ListingLaws.{starts, starts-first}
 use Rattle.read_resolved.specs.Resolved.{resolvedToken, declaredNames, TextResolved}
 use Rattle.read_declared.specs.declared.DeclaredRow.{DeclaredRow}
 use Rattle.read_declared.specs.Firsts.{nameIn}
-use Rattle.read_declared.specs.Declarations.{inOrder, rowListed, numbersOf, roleNumber, roleListed, Marked, Listable, GatheredFrom, RoomForRows, RowsPut}
+use Rattle.read_declared.specs.Declarations.{inOrder, rowListed, numbersOf, roleNumber, roleListed, HasMark, Listable, GatheredFrom, RoomForRows, RowsPut}
 use Rattle.read_declared.proofs.OrderLaws.{in-order}
 use Rattle.read_declared.proofs.DeclaredLines.{order-more, order-within, DeclaredLine, declared-line, OtherLine, other-line, listed-line}
 use Rattle.read_declared.proofs.RowSteps.{rowsOf, rows-written}
@@ -209,7 +209,7 @@ module _ (count : ℕ) (g : Listing) (lent : List ℤ) (line first found : ℕ) 
       order-here text h = let x = here text h in order-more (textLines text) line (x .level) _ (x .rest) (x .at-line)
 
       -- it has a mark, and there is room for its row
-      pub putting-marked : RoomForRows count g lent → Marked part-sorts part-values
+      pub putting-marked : RoomForRows count g lent → HasMark part-sorts part-values
       putting-marked t = here (t .0) (t .1) .marked
 
       pub putting-room : RoomForRows count g lent → 4 * found + 4 ≤ length lent

@@ -4,7 +4,7 @@ use mathlib.Core.List.{List, [], _∷_, _++_, map, flatten}
 use mathlib.Core.Option.{none}
 use Prim.Native.Nat.{ℕ, _+_, _*_, _/_, _%_, _≤_, _<_}
 use lib.IntN.{ℤ, pos}
-use lib.ListN.{length, getD, set, take}
+use lib.ListN.{length, set, take}
 use lib.Dec.{eqb}
 use Rattle.meaning.specs.Basics.{eqZ, ifElse}
 use Rattle.grammar.specs.Outline.{Declaration, variable, channel, source, sink, Lined, lined}
@@ -13,7 +13,7 @@ use Rattle.grammar.specs.TextBytes.{grammarFault}
 use Rattle.grammar.specs.TextRows.{declarationRow, ifDeclared, declarations, textLines}
 use Rattle.read_table.specs.TableRead.{past}
 use Rattle.read_tokens.specs.Sorts as sorts
-use Rattle.read_classes.specs.Parts.{markAt}
+use Rattle.read_classes.specs.Parts.{markAt, markIn}
 use Rattle.read_levels.specs.Listing.{Listing, TextListed}
 use Rattle.read_names.specs.Listed.{namesAt}
 use Rattle.read_resolved.specs.Resolved.{TextResolved}
@@ -39,10 +39,6 @@ NoMoreThanLines = (ls : List Lined) → length (inOrder ls) ≤ length ls
 abbrev pub byMark : {A : Type 0} → ℕ → A → A → A → A → A
 byMark s i c f t = ifElse (eqb s sorts.int) i (ifElse (eqb s sorts.chan) c (ifElse (eqb s sorts.hostin) f t))
 
--- the sort of the first mark of listed tokens
-abbrev pub markIn : List ℕ → ℕ
-markIn ss = getD ss (markAt ss) 0
-
 -- the row of the declaration that listed tokens are
 abbrev pub rowBy : ℕ → ℤ → List ℤ
 rowBy s z = byMark s (pos 1 ∷ z ∷ pos 0 ∷ pos 0 ∷ []) (pos 2 ∷ z ∷ pos 0 ∷ pos 0 ∷ []) (pos 2 ∷ pos 1 ∷ pos 1 ∷ pos 0 ∷ []) (pos 2 ∷ pos 1 ∷ pos 2 ∷ z ∷ [])
@@ -59,15 +55,15 @@ abbrev pub unlessOne : ℤ → ℕ
 unlessOne z = ifElse (eqZ z (pos 1)) 0 4
 
 -- a variable, a channel, one from the host, one to the host
-abbrev pub roleOf : Declaration → ℕ
-roleOf (variable z n) = 0
-roleOf (channel z n) = 1
-roleOf (source n) = 2
-roleOf (sink z n) = 3
+abbrev pub declaredAs : Declaration → ℕ
+declaredAs (variable z n) = 0
+declaredAs (channel z n) = 1
+declaredAs (source n) = 2
+declaredAs (sink z n) = 3
 
 -- the same, with whether there is more than one of it
 abbrev pub roleNumber : Declaration → ℕ
-roleNumber d = unlessOne (sizeOf d) + roleOf d
+roleNumber d = unlessOne (sizeOf d) + declaredAs d
 
 -- the role of the declaration that listed tokens are
 abbrev pub roleBy : ℕ → ℤ → ℕ
@@ -77,11 +73,11 @@ abbrev pub roleListed : List ℕ → List ℤ → ℕ
 roleListed ss vs = roleBy (markIn ss) (numberIn ss vs)
 
 -- listed tokens with a mark, and a name that stands in a text
-abbrev pub Marked : List ℕ → List ℤ → Type 0
-Marked ss vs = (length ss ≡ length vs) × (markAt ss < length ss)
+abbrev pub HasMark : List ℕ → List ℤ → Type 0
+HasMark ss vs = (length ss ≡ length vs) × (markAt ss < length ss)
 
 abbrev pub Listable : List ℕ → List ℤ → Type 0
-Listable ss vs = Marked ss vs × Named ss vs × (nameIn ss vs / 32 < 65536)
+Listable ss vs = HasMark ss vs × Named ss vs × (nameIn ss vs / 32 < 65536)
 
 -- such a declaration, listed at a place of three lists
 abbrev pub ListedAt : List ℕ → List ℤ → ℕ → List ℕ → List ℕ → List ℕ → List ℕ → List ℕ → List ℕ → Type 0

@@ -6,7 +6,7 @@ ghost use lib.ListN.{length};
 ghost use lib.Seq.{sets};
 ghost use Rattle.read_levels.specs.Listing.{listing, SomeTextListed};
 ghost use Rattle.read_declared.specs.Firsts.{placeOfSort, numberIn, nameIn, Named};
-ghost use Rattle.read_declared.specs.Declarations.{rowListed, numbersOf, unlessOne, roleListed, Marked, Listable, ListedAt, GatheredFrom, RoomForRows, RowsPut};
+ghost use Rattle.read_declared.specs.Declarations.{rowListed, numbersOf, unlessOne, roleListed, HasMark, Listable, ListedAt, GatheredFrom, RoomForRows, RowsPut};
 use read_classes::classes;
 use read_tokens::sorts;
 
@@ -54,7 +54,7 @@ fn name_in(sorts: &[u8], values: &[i32]) -> usize
 
 // The row of the declaration that listed tokens are.
 fn declaration_row(sorts: &[u8], values: &[i32]) -> DeclaredRow
-    requires { ⌜ Marked (now sorts) (now values) ⌝ }
+    requires { ⌜ HasMark (now sorts) (now values) ⌝ }
     ensures { λ r. ⌜ numbersOf r ≡ rowListed (now (sorts .entry)) (now (values .entry)) ⌝ }
 {
     let number = number_in(sorts, values);
@@ -99,7 +99,7 @@ fn unless_one(size: i32) -> u8
 
 // The role of the declaration that listed tokens are.
 fn role_of(sorts: &[u8], values: &[i32]) -> u8
-    requires { ⌜ Marked (now sorts) (now values) ⌝ }
+    requires { ⌜ HasMark (now sorts) (now values) ⌝ }
     ensures { λ r. ⌜ r ≡ roleListed (now (sorts .entry)) (now (values .entry)) ⌝ }
 {
     let more = unless_one(number_in(sorts, values));

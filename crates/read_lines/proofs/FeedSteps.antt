@@ -19,7 +19,7 @@ use Rattle.grammar.specs.LineBytes.{Written, written, bodyOf, atZero, down, lin
 use Rattle.read_tokens.specs.Chunks.{chunkSize}
 use Rattle.read_scan.specs.Nexts.{blanks}
 use Rattle.read_scan.proofs.NextLaws.{chunk-wide}
-use Rattle.read_lines.specs.LineParts.{lineFrom, levelOf}
+use Rattle.read_lines.specs.LineParts.{lineFrom, indentOf}
 use Rattle.read_lines.specs.LineRead.{writtenIn, lineWritten}
 
 -- The bytes before the first line feed --------------------------------------------------------------------------------------------
@@ -290,7 +290,7 @@ indented bs = ap writtenIn (fed-more space (space ∷ bs) ∙ ap (Option·map (�
     go (some t) = refl
 
 -- the bytes before the first line feed are levels, and then tokens
-written-to : (bs : List ℕ) → writtenIn (fed bs) ≡ writtenAt (levelOf bs) (readTo start (drop (2 * levelOf bs) bs))
+written-to : (bs : List ℕ) → writtenIn (fed bs) ≡ writtenAt (indentOf bs) (readTo start (drop (2 * indentOf bs) bs))
 unfolding blanks
 written-to [] = ap writtenIn fed-none ∙ sym (ap (writtenAt 0) (body-to [] ∙ ap readBody fed-none))
 written-to (b ∷ []) = go (eqb b space)
@@ -306,25 +306,25 @@ written-to (b ∷ c ∷ bs) = go (eqb b space) refl (eqb c space) refl (written-
     At : ℕ → Type 0
     At l = writtenIn (fed (b ∷ c ∷ bs)) ≡ writtenAt l (readTo start (drop (2 * l) (b ∷ c ∷ bs)))
 
-    go : (x : Bool) → eqb b space ≡ x → (y : Bool) → eqb c space ≡ y → writtenIn (fed bs) ≡ writtenAt (levelOf bs) (readTo start (drop (2 * levelOf bs) bs))
+    go : (x : Bool) → eqb b space ≡ x → (y : Bool) → eqb c space ≡ y → writtenIn (fed bs) ≡ writtenAt (indentOf bs) (readTo start (drop (2 * indentOf bs) bs))
         → At (ifElse x (suc (ifElse y (suc (blanks bs)) 0)) 0 / 2)
     go true p true q h =
-        let l : suc (levelOf bs) ≡ suc (suc (blanks bs)) / 2 = omega arith in
-        let d : suc (suc (2 * levelOf bs)) ≡ 2 * suc (levelOf bs) = omega arith in
+        let l : suc (indentOf bs) ≡ suc (suc (blanks bs)) / 2 = omega arith in
+        let d : suc (suc (2 * indentOf bs)) ≡ 2 * suc (indentOf bs) = omega arith in
         subst At l
         (ap₂ (λ (x y : ℕ). writtenIn (fed (x ∷ y ∷ bs))) (eqb-true b space p) (eqb-true c space q)
         ∙ indented bs
         ∙ ap down h
-        ∙ one-level (levelOf bs) (readTo start (drop (2 * levelOf bs) bs))
-        ∙ ap (λ (n : ℕ). writtenAt (suc (levelOf bs)) (readTo start (drop n (b ∷ c ∷ bs)))) d)
+        ∙ one-level (indentOf bs) (readTo start (drop (2 * indentOf bs) bs))
+        ∙ ap (λ (n : ℕ). writtenAt (suc (indentOf bs)) (readTo start (drop n (b ∷ c ∷ bs)))) d)
     go true p false q h = flat b c bs (rw (p, q))
     go false p y q h = flat b c bs (rw p)
 
 -- so is the line at a place of a text
-pub line-written : (bytes : List ℕ) (at : ℕ) → let l = levelOf (drop at bytes) in lineWritten (lineFrom bytes at) ≡ writtenAt l (readTo start (drop (at + 2 * l) bytes))
+pub line-written : (bytes : List ℕ) (at : ℕ) → let l = indentOf (drop at bytes) in lineWritten (lineFrom bytes at) ≡ writtenAt l (readTo start (drop (at + 2 * l) bytes))
 unfolding fed
 line-written bytes at =
-    let l = levelOf (drop at bytes) in
+    let l = indentOf (drop at bytes) in
     written-to (drop at bytes) ∙ ap (λ (bs : List ℕ). writtenAt l (readTo start bs)) (drop-drop (2 * l) at bytes)
 
 -- Sizes -------------------------------------------------------------------------------------------------------------------------

@@ -26,7 +26,7 @@ use Rattle.read_tokens.proofs.HeldLaws.{tokens-more}
 use Rattle.read_scan.specs.declared.Next.{Next}
 use Rattle.read_scan.specs.Nexts.{blanks, chunkIn, standing, nextIn}
 use Rattle.read_lines.specs.declared.Listed.{Listed}
-use Rattle.read_lines.specs.LineParts.{lineFrom, levelOf, misplaced, heldValue, endedAt}
+use Rattle.read_lines.specs.LineParts.{lineFrom, indentOf, misplaced, heldValue, endedAt}
 use Rattle.read_lines.specs.LineRead.{lineWritten, LineRead}
 use Rattle.read_lines.proofs.FeedSteps.{readTo, read-none, writtenAt, line-written, blanks-sized}
 use Rattle.read_lines.proofs.NextRead.{EdgeAt, unbegun, ended-by, from, to, to-later, last-byte, line-sized, token-read, listed-token, end-read, end-sized}
@@ -100,7 +100,7 @@ unfound text p n is h = go (tokenOf (chunkIn text (from text p))) refl
 
 -- where the tokens of a line begin
 abbrev begin : List ℕ → ℕ → ℕ
-begin text at = at + 2 * levelOf (drop at text)
+begin text at = at + 2 * indentOf (drop at text)
 
 pub record Scanned (text : List ℕ) (at first : ℕ) (sorts₀ : List ℕ) (values₀ : List ℤ) (sorts : List ℕ) (values : List ℤ) (p count : ℕ) : Type 0 where
   pub tokens : List Token
@@ -124,10 +124,10 @@ pub scan-start : (text : List ℕ) (at first : ℕ) (sorts : List ℕ) (values :
     → Scanned text at first sorts values sorts values (begin text at) first
 unfolding tokensBy
 scan-start text at first sorts values l f =
-    let h : 2 * levelOf (drop at text) ≤ blanks (drop at text) = omega arith in
-    let (s, w) = blanks-sized (2 * levelOf (drop at text)) (drop at text) h in
+    let h : 2 * indentOf (drop at text) ≤ blanks (drop at text) = omega arith in
+    let (s, w) = blanks-sized (2 * indentOf (drop at text)) (drop at text) h in
     let d = length-drop at text in
-    let e = ap lineSize (drop-drop (2 * levelOf (drop at text)) at text) in
+    let e = ap lineSize (drop-drop (2 * indentOf (drop at text)) at text) in
     record {
       tokens = [];
       edge = start;
@@ -153,10 +153,10 @@ scan-start text at first sorts values l f =
 module _ {text : List ℕ} {at first : ℕ} {sorts₀ : List ℕ} {values₀ : List ℤ} {sorts : List ℕ} {values : List ℤ} {p count : ℕ}
     (scanned : Scanned text at first sorts₀ values₀ sorts values p count) where
   -- what the line is, by what is read from the place on
-  written-by : (o : Option (List Token)) → readTo (scanned .edge) (drop p text) ≡ o → lineWritten (lineFrom text at) ≡ writtenAt (levelOf (drop at text)) (Option·map (λ us. scanned .tokens ++ us) o)
+  written-by : (o : Option (List Token)) → readTo (scanned .edge) (drop p text) ≡ o → lineWritten (lineFrom text at) ≡ writtenAt (indentOf (drop at text)) (Option·map (λ us. scanned .tokens ++ us) o)
   written-by o h =
       line-written text at
-      ∙ ap (writtenAt (levelOf (drop at text))) (scanned .reads ∙ ap (Option·map (λ us. scanned .tokens ++ us)) h)
+      ∙ ap (writtenAt (indentOf (drop at text))) (scanned .reads ∙ ap (Option·map (λ us. scanned .tokens ++ us)) h)
 
   -- the line is none of the grammar
   refuses : readTo (scanned .edge) (drop p text) ≡ none → (r : Listed) → r .spelt ≡ false → LineRead text at first sorts₀ values₀ r sorts values
@@ -174,7 +174,7 @@ module _ {text : List ℕ} {at first : ℕ} {sorts₀ : List ℕ} {values₀ : L
   scan-past-end h r s = refuses (ap (readTo (scanned .edge)) (drop-of-length-le text h) ∙ read-none (scanned .edge)) r s
 
   -- no token is next
-  pub scan-ended : (n : Next) → n ≡ nextIn text p → n .sort ≡ noToken → p < length text → (level : ℕ) → level ≡ levelOf (drop at text)
+  pub scan-ended : (n : Next) → n ≡ nextIn text p → n .sort ≡ noToken → p < length text → (level : ℕ) → level ≡ indentOf (drop at text)
       → (spelt : Bool) → spelt ≡ endedAt text (ltb first count) p → LineRead text at first sorts₀ values₀ (record { spelt = spelt; level = level; count = count; next = p + 1 }) sorts values
   scan-ended n is h l level e spelt q = go spelt q
     where

@@ -27,8 +27,8 @@ abbrev pub NoLine : Type 0
 NoLine = (text : List ℕ) (at : ℕ) → length text ≤ at → lines (drop at text) ≡ []
 
 -- how many pairs of spaces stand first
-abbrev pub levelOf : List ℕ → ℕ
-levelOf bs = blanks bs / 2
+abbrev pub indentOf : List ℕ → ℕ
+indentOf bs = blanks bs / 2
 
 -- whether a token from a place to a place stands where it may not, if what is before it ends at a place: after a space if it is the first
 -- token, directly after a word or number if it is one

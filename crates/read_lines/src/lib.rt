@@ -3,7 +3,7 @@ ghost use mathlib.Core.Path.{_≡_};
 ghost use mathlib.Core.Bool.{true, false};
 ghost use Prim.Native.Nat.{_≤_, _<_};
 ghost use lib.ListN.{length, drop};
-ghost use Rattle.read_lines.specs.LineParts.{levelOf, misplaced, heldValue, endedAt};
+ghost use Rattle.read_lines.specs.LineParts.{indentOf, misplaced, heldValue, endedAt};
 ghost use Rattle.read_lines.specs.LineRead.{LineRead};
 use read_tokens::sorts as sort_numbers;
 
@@ -17,7 +17,7 @@ pub struct Listed {
 
 // How many pairs of spaces stand at a place.
 fn indent(text: &[u8], at: usize) -> usize
-    ensures { λ r. ⌜ r ≡ levelOf (drop at (now (text .entry))) ⌝ }
+    ensures { λ r. ⌜ r ≡ indentOf (drop at (now (text .entry))) ⌝ }
 {
     (read_scan::blank_end(text, at) - at) / 2
 }

@@ -21,11 +21,11 @@ use Rattle.grammar.specs.Lines.{declares}
 use Rattle.read_tokens.specs.Held.{nameHeld, nameOfRow, tokensHeld, tokensResolved, rowLimit, tokenBy, tokensBy, lettersAt}
 use Rattle.read_tokens.proofs.HeldLaws.{sorts-of-held, tokens-length}
 use Rattle.read_tokens.specs.Sorts as sorts
-use Rattle.read_classes.specs.Parts.{sortOf}
+use Rattle.read_classes.specs.Parts.{sortOf, markIn}
 use Rattle.read_names.specs.Listed.{namesAt}
 use Rattle.read_resolved.specs.Resolved.{declaredNames}
 use Rattle.read_declared.specs.Declarations.{roleNumber}
-use Rattle.read_uses.specs.Misuses.{misnamedAs, misnamedIn, tokensMisnamed, misnamedBy, markIn, markPast, bareAt}
+use Rattle.read_uses.specs.Misuses.{misnamedAs, misnamedIn, tokensMisnamed, misnamedBy, markPast, bareAt}
 use Rattle.read_uses.specs.Resolving.{resolvedChunk, NamesKnown, LineHeld, LineChecked}
 use Rattle.read_uses.specs.Uses.{usesFrom, sortBy, markAfter, bareBefore, chunkUse}
 use Rattle.read_uses.proofs.RoleLaws.{roles-tell, declared-row}

@@ -13,10 +13,10 @@ use borrow.Author.Tests.{le-leb, lt-leb}
 use Rattle.meaning.specs.Basics.{ifElse}
 use Rattle.grammar.specs.Grammar.{Token}
 use Rattle.read_tokens.specs.Sorts as sorts
-use Rattle.read_classes.specs.Parts.{sortOf, isMark, Parting, partingOf, putBefore, partAtMark}
+use Rattle.read_classes.specs.Parts.{sortOf, isMark, Parting, partingOf, putBefore, partAtMark, markIn}
 use Rattle.read_classes.specs.Parts.{markAt}
 use Rattle.read_uses.specs.Uses.{markAhead, bareBefore}
-use Rattle.read_uses.specs.Misuses.{markIn, markPast, bareAt}
+use Rattle.read_uses.specs.Misuses.{markPast, bareAt}
 
 -- The code's tests -------------------------------------------------------------------------------------------------------------------
 

@@ -13,7 +13,7 @@ use Rattle.grammar.specs.Outline.{Declaration, Lined}
 use Rattle.grammar.specs.Names.{Sort, as-variable, as-input, as-output, Use, nameOf, sizeOf, serves, firstDeclared, misused, declaredBefore}
 use Rattle.grammar.specs.TextRows.{nameRow}
 use Rattle.read_tokens.specs.Sorts as sorts
-use Rattle.read_classes.specs.Parts.{markAt}
+use Rattle.read_classes.specs.Parts.{markIn}
 use Rattle.read_declared.specs.Declarations.{inOrder}
 use Rattle.read_uses.specs.Uses.{usesIn}
 
@@ -68,10 +68,6 @@ abbrev pub misnamedBy : Bool → ℕ → ℕ → List ℕ → Bool → Sort → 
 misnamedBy declares seen row roles b s = ifElse (leb (length roles) row) true (ifElse declares (ltb row seen) (unfitRole (getD roles row 0) b s))
 
 -- Sorts ------------------------------------------------------------------------------------------------------------------------------
-
--- the sort of the first mark, 0 if there is none
-abbrev pub markIn : List ℕ → ℕ
-markIn ss = getD ss (markAt ss) sorts.noToken
 
 -- the mark that the token after a token stands first before, 0 if it does not stand first
 abbrev pub markPast : List ℕ → ℕ → ℕ

@@ -9,7 +9,8 @@ use mir.Syntax.{w32}
 use mir.Val.{SFits}
 use mir.ValLaws.{toZ-ofZ}
 use borrow.Author.Needs.{needs}
-use Rattle.read_declared.specs.Declarations.{markIn, rowBy}
+use Rattle.read_classes.specs.Parts.{markIn}
+use Rattle.read_declared.specs.Declarations.{rowBy}
 use Rattle.read_declared.proofs.HeaderLaws.{by-int, by-chan, by-hostin, by-other}
 use Rattle.read_declared.proofs.declaration_row.Statement.{statement}
 use Rattle.read_declared.proofs.declaration_row.Tie as tie
