@@ -1,1 +1,2 @@
 // The demands about calls on texts: statements and proofs only.
+#![tactic(auto)]

@@ -1,4 +1,6 @@
 // The kinds of rows as a constant table: which fields are used, what each holds, and which kinds each may refer to.
+#![tactic(auto)]
+
 ghost use Rattle.std.specs.Prelude.{◌≡◌};
 ghost use Rattle.meaning.specs.Basics.{among};
 ghost use Rattle.meaning.specs.Kinds.{shape_of, processes};

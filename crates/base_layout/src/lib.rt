@@ -1,4 +1,6 @@
 // The layout of a table: what each row names, prepared once and read from then on.
+#![tactic(auto)]
+
 ghost use Rattle.std.specs.Prelude.{◌≡◌, ℕ, suc, ◌*◌, ◌<◌, ◌≤◌, length, get_or};
 ghost use Rattle.meaning.specs.Buffers.{sized};
 ghost use Rattle.meaning.specs.Declarations.{declarations, no_channel};

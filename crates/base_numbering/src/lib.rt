@@ -1,4 +1,6 @@
 // Top-down numbers of the rows of a table, without recursion: sizes from the last row to the first, numbers from the first to the last.
+#![tactic(auto)]
+
 ghost use Rattle.std.specs.Prelude.{◌≡◌, suc, ◌≤◌, ◌<◌, length};
 ghost use Rattle.meaning.specs.Rows.{row_count};
 ghost use Rattle.meaning.specs.Declarations.{declarations};

@@ -1,4 +1,6 @@
 // Arithmetic on values, and reading and printing of numbers. Each function is its definition in the crate `meaning`.
+#![tactic(auto)]
+
 mod operators; // operators.rt: the values of operators
 mod operands; // operands.rt: operators on operands that may have no value
 mod wide; // wide.rt: sums, products and quotients in 64 bits, and back to 32

@@ -1,4 +1,6 @@
 // Declarations in the order of their blocks: the place of each declared row, and rows that name it by its place.
+#![tactic(auto)]
+
 ghost use Rattle.std.specs.Prelude.{◌≡◌, true, ◌++◌, ℕ, ◌+◌, ◌*◌, ◌≤◌, ◌<◌, ◌-◌, eqb, length, get_or, take, drop, set, replicate};
 ghost use Rattle.meaning.specs.Basics.{if_else};
 ghost use Rattle.meaning.specs.Rows.{natural_of, row_count, field_at, kind_at};

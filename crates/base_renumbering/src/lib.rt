@@ -1,4 +1,6 @@
 // A table in top-down form: each row is written where its new number says, and then the declarations are put in their order.
+#![tactic(auto)]
+
 ghost use Rattle.std.specs.Prelude.{◌≡◌, ◌++◌, ◌*◌, ◌≤◌, ◌<◌, length, get_or, take, drop};
 ghost use Rattle.meaning.specs.Rows.{row_count};
 ghost use Rattle.meaning.specs.Declarations.{declarations};

@@ -1,4 +1,6 @@
 // Numbers of rows, declarations, and the limits on them. Each function is its definition in the crate `meaning`.
+#![tactic(auto)]
+
 ghost use Rattle.std.specs.Prelude.{◌≡◌};
 ghost use Rattle.meaning.specs.Basics.{eq_z, inside};
 ghost use Rattle.meaning.specs.Rows.{natural_of, row_count, field_at, natural_at, kind_at};

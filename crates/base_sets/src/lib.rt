@@ -1,4 +1,6 @@
 // Bit sets in sixteen words: four words for each sort, with a bit for each of 256 cells or channel elements.
+#![tactic(auto)]
+
 ghost use Rattle.std.specs.Prelude.{◌≡◌, ◌||◌, ◌<◌, ◌≤◌, ◌+◌, length, get_or};
 ghost use Rattle.meaning.specs.Usage.{numbers_from};
 ghost use Rattle.base_sets.specs.Sets.{with_one, with_all, in_sort, set_union, share, in_common};

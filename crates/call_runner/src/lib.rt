@@ -1,4 +1,6 @@
 // The sheet runner ("A run on paper"): from the bytes of standard input to the bytes that are printed.
+#![tactic(auto)]
+
 ghost use Rattle.std.specs.Prelude.{◌≡◌, [], ℕ, ◌<◌, ◌≤◌, length, get_or};
 ghost use Rattle.meaning.specs.Limits.{max_budget};
 ghost use Rattle.meaning.specs.TableBytes.{rows_of};

@@ -1,4 +1,6 @@
 // The run's entries: a table's rows or bytes, a sheet, choices and a budget, and the seven lent buffers; a traced run is lent two lists besides.
+#![tactic(auto)]
+
 ghost use Rattle.std.specs.Prelude.{◌≡◌};
 ghost use Rattle.meaning.specs.Answers.{reply, reply_to_bytes};
 ghost use Rattle.meaning.specs.Trace.{reply_traced, reply_to_bytes_traced};

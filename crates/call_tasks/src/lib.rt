@@ -1,4 +1,6 @@
 // A task: the stages of refusal in their order, then the run. Only the two lists of a traced run are lent here.
+#![tactic(auto)]
+
 ghost use Rattle.std.specs.Prelude.{◌≡◌, List, ℕ, ◌≤◌};
 ghost use Rattle.std.proofs.Math.Option.{none};
 ghost use Rattle.meaning.specs.Readings.{Sheet};

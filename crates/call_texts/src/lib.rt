@@ -1,4 +1,6 @@
 // The entries for texts: the verdict and the run.
+#![tactic(auto)]
+
 ghost use Rattle.std.specs.Prelude.{◌≡◌, false, ◌≤◌, length};
 ghost use Rattle.meaning.specs.Buffers.{too_short};
 ghost use Rattle.meaning.specs.Answers.{verdict_of};

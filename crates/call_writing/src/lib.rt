@@ -1,4 +1,6 @@
 // The entries that write a table's text: the verdict, the top-down form and its text, and a copy of the text if it fits what is lent.
+#![tactic(auto)]
+
 ghost use Rattle.std.specs.Prelude.{◌≡◌, ◌≤◌, length};
 ghost use Rattle.std.proofs.Math.Option.{none};
 ghost use Rattle.meaning.specs.Stages.{of_numbers, of_bytes};

@@ -1,4 +1,6 @@
 // Refusal 14: a block as root, a second block of a name, and a name outside its block. Whether a row is beneath its block is read off their top-down numbers.
+#![tactic(auto)]
+
 ghost use Rattle.std.specs.Prelude.{◌≡◌, ◌<◌, eqb};
 ghost use Rattle.meaning.specs.Basics.{among};
 ghost use Rattle.meaning.specs.Rows.{row_count, natural_at, kind_at};

@@ -1,4 +1,6 @@
 // What processes count for, put into bit sets: cells changed and used, channel elements input from and output to.
+#![tactic(auto)]
+
 ghost use Rattle.std.specs.Prelude.{◌≡◌, suc, ◌+◌, ◌*◌, ◌<◌, ◌≤◌, length};
 ghost use Rattle.meaning.specs.Rows.{row_count, kind_at};
 ghost use Rattle.meaning.specs.Tree.{content_at};

@@ -1,4 +1,6 @@
 // The form of a table's rows: refusals 3 to 6. Each function is its definition in the crate `meaning`.
+#![tactic(auto)]
+
 ghost use Rattle.std.specs.Prelude.{◌≡◌, [], ◌∷◌};
 ghost use Rattle.meaning.specs.Refusals.{first_fault};
 ghost use Rattle.meaning.specs.Answers.{verdict_of};

@@ -1,4 +1,6 @@
 // What a subscript counts for: constants, made only of literals and operators, with their values, and the numbers put into bit sets.
+#![tactic(auto)]
+
 ghost use Rattle.std.specs.Prelude.{◌≡◌, ◌<◌};
 ghost use Rattle.meaning.specs.Tree.{content_at};
 ghost use Rattle.meaning.specs.Usage.{counts_by_value, counts_for};

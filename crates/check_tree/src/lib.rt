@@ -1,4 +1,6 @@
 // Refusal 5: references that lead to a higher row of the kind named, and rows that are referred to once.
+#![tactic(auto)]
+
 ghost use Rattle.std.specs.Prelude.{◌≡◌, not, ℕ, suc, ◌<◌, ◌≤◌, length, get_or, eqb};
 ghost use Rattle.meaning.specs.Basics.{if_else, lowest};
 ghost use Rattle.meaning.specs.Rows.{row_count};

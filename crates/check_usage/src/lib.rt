@@ -1,4 +1,6 @@
 // Refusals 7, 8 and 9: usage in a PAR. Pairs of components are compared in the order of the refusal table, until two clash.
+#![tactic(auto)]
+
 ghost use Rattle.std.specs.Prelude.{◌≡◌, false, map, ℕ, ◌+◌, ◌*◌, ◌<◌, ◌≤◌, length, get_or};
 ghost use Rattle.std.proofs.Math.Option.{none};
 ghost use Rattle.meaning.specs.Rows.{row_count, kind_at};

@@ -1,4 +1,6 @@
 // The checker: the verdict on a table, lent as numbers or as bytes, alone or with the count of pairs of components compared. Refusals 2 to 9 and 14.
+#![tactic(auto)]
+
 ghost use Rattle.std.specs.Prelude.{◌≡◌};
 ghost use Rattle.std.proofs.Math.Option.{some};
 ghost use Rattle.meaning.specs.Answers.{check, check_bytes, verdict_of, checked, check_counted, check_bytes_counted};

@@ -1,1 +1,2 @@
 // The text that a table is written as: definitions and theorems (request 04).
+#![tactic(auto)]

@@ -132,6 +132,7 @@ module _ {A : Type 0} (x : A) where
 
   pub found_first : (ss : List (Stage A)) (f : Refusal) → First x f ss → first_fault ss x ≡ some f
   unfolding first_fault
+  found_first [] f h = elim h [ ]
   found_first (s ∷ ss) f (here e) = ap (λ (o : Option Refusal). either o (first_fault ss x)) e
   found_first (s ∷ ss) f (later e h) = ap (λ (o : Option Refusal). either o (first_fault ss x)) e ∙ found_first ss f h
 

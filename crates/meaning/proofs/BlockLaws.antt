@@ -118,6 +118,7 @@ module _ (rows : List ℤ) where
       ⊎_elim (λ i. (u, Memᴰ.head refl, Memᴰ.cases_cons i)) (λ i. let h = with-those at ts t i in (h.0, Memᴰ.tail h.1, h.2)) (Memᴰ.append_cases (u ∷ at u) m)
 
   those-with : (at : ℕ → List ℕ) (ts : List ℕ) (t u : ℕ) → Memᴰ u ts → (t ≡ u) ⊎ Memᴰ t (at u) → Memᴰ t (with_those at ts)
+  those-with at [] t u m h = absurd (Memᴰ.not-nil m)
   those-with at (v ∷ ts) t u (Memᴰ.head e) h =
       Memᴰ.append_left (with_those at ts) (⊎_elim (λ i. Memᴰ.head (i ∙ e)) (λ i. Memᴰ.tail (subst (λ (w : ℕ). Memᴰ t (at w)) e i)) h)
   those-with at (v ∷ ts) t u (Memᴰ.tail m) h = Memᴰ.append_right (v ∷ at v) (those-with at ts t u m h)

@@ -82,8 +82,12 @@ module _ (cells : List Message) where
       lacks-none k none e never p = absurd (never p)
       lacks-none k (some z) e never p = absurd (never (subst (Passes cells f) (both z p) p))
         where
+          both-of : {g : Expr} {m : Message} → value cells g ≡ Missing k → Passes cells g m → m ≡ none
+          both-of i (passes-value q) = ap number_in (sym q ∙ i)
+          both-of i (passes-absence q r) = refl
+
           both : (z : ℤ) → Passes cells f (some z) → some z ≡ none
-          both z (passes-value q) = ap number_in (sym q ∙ e)
+          both z p = both-of e p
 
       go : (s : Sent) → Says f s → s ≡ gives m
       go (gives n) p = ap gives (same-message p h)
@@ -100,9 +104,13 @@ module _ (cells : List Message) where
       reason (Number x) = 0
       reason (Missing j) = j
 
+      given-of : {g : Expr} {m : Message} → value cells g ≡ Missing k → Passes cells g m → none ≡ m
+      given-of i (passes-value q) = ap number_in (sym i ∙ q)
+      given-of i (passes-absence q r) = refl
+
       none-given : (m : Message) → Passes cells f m → ⊥
       none-given none p = never p
-      none-given (some z) (passes-value q) = none-ne-some z (ap number_in (sym e ∙ q))
+      none-given (some z) p = none-ne-some z (given-of e p)
 
       go : (s : Sent) → Says f s → s ≡ lacking k
       go (gives m) p = absurd (none-given m p)

@@ -152,6 +152,7 @@ module _ (rows : List ℤ) (t : ℕ) where
   unfolding RefersBy
   bounds q unused z h = absurd h
   bounds q literal_value z h = absurd h
+  bounds q operator z h = absurd h
   bounds q (within lo hi) z h = absurd h
   bounds q elements z h = absurd h
   bounds q capacity z h = absurd h

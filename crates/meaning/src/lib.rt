@@ -1,4 +1,5 @@
 // What a table means. The enums that the definitions share with the code.
+#![tactic(auto)]
 
 // A value, or the reason that there is none.
 #[derive(Drop)]

@@ -1,5 +1,7 @@
 // The public entries, and the exported functions: a table's verdict, alone or with the count of pairs compared, a run's answer with what it leaves in the lent buffers, a table's rows, the same of a
 // text, the text of a table, and the strip of an output channel. A slice is a pointer and a length.
+#![tactic(auto)]
+
 ghost use Rattle.std.specs.Prelude.{◌≡◌};
 ghost use Rattle.meaning.specs.Stages.{of_numbers, of_bytes};
 ghost use Rattle.meaning.specs.Answers.{check, check_bytes, verdict_of, check_counted, check_bytes_counted, reply, reply_to_bytes};

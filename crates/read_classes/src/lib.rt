@@ -1,4 +1,6 @@
 // The class of a line, told from the sorts of its tokens without a tree.
+#![tactic(auto)]
+
 ghost use Rattle.std.specs.Prelude.{◌≡◌, ◌≤◌, length};
 ghost use Rattle.read_classes.specs.Rules.{rule_at, class_by_mark};
 ghost use Rattle.read_classes.specs.LineClasses.{class_by_sorts};

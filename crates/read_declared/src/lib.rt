@@ -1,4 +1,6 @@
 // The declarations of a text: their names and roles listed, and their rows.
+#![tactic(auto)]
+
 ghost use Rattle.std.specs.Prelude.{◌≡◌, ◌+◌, ◌≤◌, ◌<◌, [], ◌∷◌, length};
 ghost use Rattle.std.proofs.lemmas.List.Edits.{sets};
 ghost use Rattle.read_levels.specs.Listing.{listing, SomeTextListed};

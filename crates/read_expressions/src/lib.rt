@@ -1,4 +1,6 @@
 // The rows of an expression, written from its tokens without recursion and without a tree.
+#![tactic(auto)]
+
 ghost use Rattle.std.specs.Prelude.{◌≡◌, length, drop};
 ghost use Rattle.read_tokens.specs.Held.{tokens_resolved};
 ghost use Rattle.read_marks.specs.Marks.{Marked};

@@ -1,4 +1,6 @@
 // The lines of a text by what is expected where they stand. Refusal 12.
+#![tactic(auto)]
+
 ghost use Rattle.std.specs.Prelude.{◌≡◌, true, ◌≤◌, ◌<◌, length};
 ghost use Rattle.read_levels.specs.Steps.{beneath_table, after_table, table_at, Numbered, ended_to, step_at, line_class};
 ghost use Rattle.read_levels.specs.Listing.{listing};

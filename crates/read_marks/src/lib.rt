@@ -1,4 +1,6 @@
 // Which operands of an expression are followed by an operator.
+#![tactic(auto)]
+
 mod roles; // roles.rt: what a token is in an expression
 mod marks; // marks.rt: the marks of its tokens
 

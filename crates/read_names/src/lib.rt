@@ -1,4 +1,6 @@
 // Names listed by where they stand in a text, and found by their keys.
+#![tactic(auto)]
+
 ghost use Rattle.std.specs.Prelude.{◌≡◌, ◌≤◌, length, replicate};
 ghost use Rattle.meaning.specs.Lines as lines;
 ghost use Rattle.grammar.specs.TextRows.{name_row};

@@ -1,4 +1,6 @@
 // The rows of the parts of a line, from its listed tokens.
+#![tactic(auto)]
+
 ghost use Rattle.std.specs.Prelude.{◌≡◌, [], ◌∷◌, suc, ◌+◌, ◌*◌, ◌≤◌, ◌<◌, pos, length, get_or, set};
 ghost use Rattle.base_top_down.specs.Forms.{number};
 ghost use Rattle.grammar.specs.TextRows.{block_form};

@@ -1,4 +1,6 @@
 // The rows of a text's process, written line by line where they go.
+#![tactic(auto)]
+
 ghost use Rattle.std.specs.Prelude.{◌≡◌, ◌&&◌, ◌/◌, ◌%◌, ◌≤◌, ◌<◌, eqb, leb, length};
 ghost use Rattle.read_levels.specs.Listing.{listing};
 ghost use Rattle.read_processes.specs.Onwards.{part_rows_at, onward_of};

@@ -1,4 +1,6 @@
 // The rows that one line of a text writes, where its form goes.
+#![tactic(auto)]
+
 ghost use Rattle.std.specs.Prelude.{◌≡◌, ◌/◌};
 ghost use Rattle.read_tokens.specs.Held.{tokens_resolved};
 ghost use Rattle.read_expressions.specs.Expressions.{Scratch, ScratchKept};

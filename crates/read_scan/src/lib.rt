@@ -1,4 +1,6 @@
 // The tokens of a line from left to right.
+#![tactic(auto)]
+
 ghost use Rattle.std.specs.Prelude.{◌≡◌, ◌+◌, ◌≤◌, length, drop};
 ghost use Rattle.std.proofs.Math.Option.{none};
 ghost use Rattle.read_scan.specs.Nexts.{blanks, standing, next_in, reach_from};

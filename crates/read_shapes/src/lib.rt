@@ -1,4 +1,6 @@
 // The recogniser of expressions: a loop over the sorts of tokens, with a stack of bytes for the open brackets.
+#![tactic(auto)]
+
 ghost use Rattle.std.specs.Prelude.{◌≡◌, ◌≤◌, ◌<◌, length};
 ghost use Rattle.grammar.specs.Shapes.{initial, element};
 ghost use Rattle.read_shapes.specs.Phrases.{phrase_in};

@@ -1,4 +1,6 @@
 // A readings sheet against the table's role 1 channels. Refusal 10.
+#![tactic(auto)]
+
 ghost use Rattle.std.specs.Prelude.{◌≡◌};
 ghost use Rattle.read_sheet.specs.SheetRead.{sheet_read};
 

@@ -1,4 +1,6 @@
 // How many rows stand beneath each line of a text and after it.
+#![tactic(auto)]
+
 ghost use Rattle.std.specs.Prelude.{◌≡◌, ◌+◌, ◌%◌, ◌≤◌, ◌<◌, eqb, get_or};
 ghost use Rattle.meaning.specs.Basics.{if_else};
 ghost use Rattle.grammar.specs.Classes.{variable-line};

@@ -1,4 +1,6 @@
 // A table's bytes, read into rows. Refusals 2 and 3.
+#![tactic(auto)]
+
 ghost use Rattle.std.specs.Prelude.{◌≡◌};
 ghost use Rattle.read_table.specs.TableRead.{table_read};
 

@@ -1,4 +1,6 @@
 // A text, read into rows. Refusals 12, 13 and 3.
+#![tactic(auto)]
+
 ghost use Rattle.std.specs.Prelude.{◌≡◌, ◌≤◌, length};
 ghost use Rattle.grammar.specs.TextRows.{text_lines};
 ghost use Rattle.read_levels.specs.Listing.{listing, TextListed, LevelsListed};

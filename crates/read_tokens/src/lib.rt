@@ -1,4 +1,6 @@
 // The bytes of a line as tokens: which hang together, and which token they are.
+#![tactic(auto)]
+
 pub mod sorts; // sorts.rt: the sorts of token
 mod chunks; // chunks.rt: which bytes hang together
 mod table; // table.rt: the words and symbols

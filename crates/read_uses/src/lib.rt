@@ -1,4 +1,6 @@
 // Whether the names of a text are in order, and the rows that they mean. Refusal 13.
+#![tactic(auto)]
+
 ghost use Rattle.std.specs.Prelude.{◌≡◌, ℕ, ◌≤◌, ◌<◌, pos, length, ltb};
 ghost use Rattle.meaning.specs.Basics.{if_else};
 ghost use Rattle.meaning.specs.Rows.{natural_of};

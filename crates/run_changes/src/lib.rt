@@ -1,4 +1,6 @@
 // The change of the step that a row orders, as a value, read from what is noted of rows; and one more message in a strip.
+#![tactic(auto)]
+
 ghost use Rattle.std.specs.Prelude.{◌≡◌, List, suc, ◌+◌, ◌<◌, ℤ, pos, get_or, set};
 ghost use Rattle.run_code.specs.Prepared.{Prepared, strip_at};
 ghost use Rattle.run_changes.specs.Changes.{row_noted, row_becomes, communicated, option_change, own_change, change_in};

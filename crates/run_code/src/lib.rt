@@ -1,4 +1,6 @@
 // A table prepared for the run, as one list of six numbers a row: its numbers are read.
+#![tactic(auto)]
+
 ghost use Rattle.std.specs.Prelude.{◌≡◌, ◌<◌, ◌≤◌, get_or};
 ghost use Rattle.run_code.specs.Prepared.{place_at, literal_of};
 

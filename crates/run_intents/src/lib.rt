@@ -1,4 +1,6 @@
 // What a running row would do, and what an option would do, from the prepared list, the cells and the places in the readings.
+#![tactic(auto)]
+
 ghost use Rattle.std.specs.Prelude.{◌≡◌, List, ◌≤◌, ℤ, ltb};
 ghost use Rattle.meaning.specs.Tree.{content_at, action_of};
 ghost use Rattle.meaning.specs.State.{program, process_at};

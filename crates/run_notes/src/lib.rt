@@ -1,4 +1,6 @@
 // What the machine notes of rows at work: what each would do, who waits at each element, and which rows have a ready step. A note is stored, and taken off.
+#![tactic(auto)]
+
 ghost use Rattle.std.specs.Prelude.{◌≡◌, List, ℕ, ◌<◌, ◌≤◌, ℤ, set};
 ghost use Rattle.meaning.specs.Tree.{content_at};
 ghost use Rattle.run_code.specs.Prepared.{Prepared};

@@ -1,4 +1,6 @@
 // A row that came to work is noted: it waits at an element, or has a ready step, and wakes who waited for it.
+#![tactic(auto)]
+
 ghost use Rattle.std.specs.Prelude.{◌≡◌, List, ℕ, ◌<◌, ◌≤◌, ℤ};
 ghost use Rattle.meaning.specs.Tree.{content_at};
 ghost use Rattle.run_values.specs.Cells.{lent_cells};

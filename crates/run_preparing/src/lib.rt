@@ -1,4 +1,6 @@
 // A table is prepared for the run: each row's six numbers, from its kind and fields, the declarations, and what is noted of the rows.
+#![tactic(auto)]
+
 ghost use Rattle.std.specs.Prelude.{◌≡◌, ◌+◌, ◌<◌, ◌≤◌, replicate};
 ghost use Rattle.std.proofs.Math.Option.{none};
 ghost use Rattle.meaning.specs.declared.Value.TheVariants.{Number};

@@ -1,4 +1,6 @@
 // The rows that have a ready step, as bits: a bit for each of 1,024 rows in sixteen words; then how many are set in each word; then how many in all.
+#![tactic(auto)]
+
 ghost use Rattle.std.specs.Prelude.{◌≡◌, ℕ, ◌%◌, ◌<◌, Bool, slice_index, slice_index_or};
 ghost use Rattle.meaning.specs.Basics.{all_below};
 ghost use Rattle.run_ready_bits.specs.Bits.{on, has, turned, raised, lowered, no_rows, without_lowest, BitsCounted, Shown, picked_from, chosen_of};

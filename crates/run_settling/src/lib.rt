@@ -1,4 +1,6 @@
 // Settling upward over the prepared list, with counts: the row states, the members left of each running PAR, the rows that come to work and the blocks that start.
+#![tactic(auto)]
+
 ghost use Rattle.std.specs.Prelude.{◌≡◌, List, suc, ◌<◌, ◌≤◌, ℤ};
 ghost use Rattle.std.proofs.Math.Option.{some};
 ghost use Rattle.meaning.specs.State.{program, process_at};

@@ -1,4 +1,6 @@
 // The run of an accepted table: from the start, one step after another, as its choices pick, up to rest or its budget.
+#![tactic(auto)]
+
 ghost use Rattle.std.specs.Prelude.{◌≡◌, ◌≤◌};
 ghost use Rattle.std.proofs.Math.Option.{none};
 ghost use Rattle.meaning.specs.Readings.{Sheet};

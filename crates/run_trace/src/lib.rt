@@ -1,4 +1,6 @@
 // The two lists of a traced run: whether they have room for a trace, and how they are cleared before the run.
+#![tactic(auto)]
+
 ghost use Rattle.std.specs.Prelude.{◌≡◌, ◌||◌, ltb};
 ghost use Rattle.meaning.specs.Limits.{max_budget};
 ghost use Rattle.run_trace.specs.Cleared.{cleared};

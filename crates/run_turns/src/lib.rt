@@ -1,4 +1,6 @@
 // Parts of a turn of the run: the step's rows are taken off, the data changes, and the rows that came to work are noted.
+#![tactic(auto)]
+
 ghost use Rattle.std.specs.Prelude.{◌≡◌, List, ◌<◌, ◌≤◌, ℤ};
 ghost use Rattle.run_values.specs.Cells.{lent_cells};
 ghost use Rattle.machine.specs.Came.{listed_rows, listed_blocks};

@@ -1,4 +1,6 @@
 // The cell store, and the values of expressions and subscripts from a prepared table.
+#![tactic(auto)]
+
 ghost use Rattle.std.specs.Prelude.{◌≡◌, List, ◌≤◌, ℤ, get_or};
 ghost use Rattle.std.proofs.Math.Option.{none};
 ghost use Rattle.meaning.specs.Tree.{content_at, action_of};

@@ -1,5 +1,7 @@
 // The sheet runner ("A run on paper"): a table, the line `=` and readings on standard input; the run, or the refusal, on
 // standard output. 49,155 bytes of input settle everything (`Bounded` in the crate `meaning`): what comes after them is left.
+#![tactic(auto)]
+
 fn main() {
     let mut input = [0u8; 49155];
     let n = io::read_full(0, &mut input);

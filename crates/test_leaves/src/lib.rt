@@ -1,4 +1,6 @@
 // The proved leaves as C functions over numbers and slices, for tests from outside. A slice is a pointer and a length.
+#![tactic(auto)]
+
 ghost use Rattle.std.specs.Prelude.{◌≡◌};
 ghost use Rattle.meaning.specs.Numerals as numerals;
 ghost use Rattle.meaning.specs.Values.{monadic_of, operate};

@@ -1,4 +1,6 @@
 // The lent buffers: whether they are long enough, and what a task puts into them.
+#![tactic(auto)]
+
 ghost use Rattle.std.specs.Prelude.{◌≡◌, ◌≤◌, length};
 ghost use Rattle.write_buffers.specs.Replies.{past, any_short, Long, reply_in, put_reply};
 ghost use Rattle.write_buffers.specs.Lending.{buffers_at, lent_buffers, left_buffers};

@@ -1,4 +1,6 @@
 // Bytes, fields and lines at a place of a lent buffer. Each function gives the place after what it wrote; what does not fit is left out.
+#![tactic(auto)]
+
 ghost use Rattle.std.specs.Prelude.{◌≡◌, ◌∷◌};
 ghost use Rattle.meaning.specs.Texts.{comma};
 ghost use Rattle.write_bytes.specs.Writing.{put, put_all, shown, line_of};

@@ -1,4 +1,6 @@
 // Expressions and elements of rows as tokens at a spot of lent bytes, with the brackets that they need.
+#![tactic(auto)]
+
 ghost use Rattle.std.specs.Prelude.{◌≡◌, true, [], ◌∷◌, ◌≤◌, ◌<◌};
 ghost use Rattle.meaning.specs.Basics.{if_else};
 ghost use Rattle.meaning.specs.Limits.{max_rows};

@@ -1,4 +1,6 @@
 // The strip of an output channel: its part of the lent output numbers, and of their marks.
+#![tactic(auto)]
+
 ghost use Rattle.std.specs.Prelude.{◌≡◌, ◌&&◌, ◌+◌, ◌≤◌, min, get_or, take, drop, eqb};
 ghost use Rattle.meaning.specs.Buffers.{capacities};
 ghost use Rattle.machine.specs.Held.{strip_start};

@@ -1,4 +1,6 @@
 // The text of rows in top-down form, in lent bytes: its declarations, and then the lines of its process. What does not fit is left out.
+#![tactic(auto)]
+
 ghost use Rattle.std.specs.Prelude.{◌≡◌};
 ghost use Rattle.meaning.specs.Rows.{row_count};
 ghost use Rattle.meaning.specs.Declarations.{declarations};

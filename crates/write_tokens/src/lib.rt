@@ -1,4 +1,6 @@
 // Tokens at a place of lent bytes, with a space before one only where it is needed; lines begun and ended. What does not fit is left out.
+#![tactic(auto)]
+
 ghost use Rattle.std.specs.Prelude.{◌≡◌, [], ◌∷◌, true, ◌&&◌, ◌||◌, ◌<◌, length};
 ghost use Rattle.meaning.specs.Basics.{if_else};
 ghost use Rattle.grammar.specs.Grammar.{name, number};
