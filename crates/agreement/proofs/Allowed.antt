@@ -204,6 +204,7 @@ module _ (P : Program) (sheet : Sheet) (s : State) where
   sound r (block v) g = tt
 
   idle-all : (l : List ℕ) → all_idle l s.states ≡ true → (b : ℕ) → Memᴰ b l → get_or s.states b 0 ≡ 0
+  idle-all [] e b x'' = elim x'' [ ]
   idle-all (r ∷ l) e b (Memᴰ.head q) =
       rw q (eqb→eq (get_or s.states r 0) 0 (is_true_lem (eqb (get_or s.states r 0) 0) (both_true (eqb (get_or s.states r 0) 0) (all_idle l s.states) e).0))
   idle-all (r ∷ l) e b (Memᴰ.tail m) = idle-all l (both_true (eqb (get_or s.states r 0) 0) (all_idle l s.states) e).1 b m

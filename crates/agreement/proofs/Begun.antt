@@ -37,6 +37,17 @@ begun-members = begun-also
 
 -- the variable of an action is that of a block
 pub local-is : (k : Action) (v : Variable) → Memᴰ v (local_of k) → k ≡ block v
+local-is (block w) v (Memᴰ.tail x15) = elim x15 [ ]
+local-is (alternation _) v x11 = elim x11 [ ]
+local-is (loop _ _) v x11 = elim x11 [ ]
+local-is (conditional _) v x9 = elim x9 [ ]
+local-is (output _ _ _) v x10 = elim x10 [ ]
+local-is (input _) v x7 = elim x7 [ ]
+local-is (assign _ _ _) v x8 = elim x8 [ ]
+local-is parallel v x4 = elim x4 [ ]
+local-is sequence v x3 = elim x3 [ ]
+local-is skip v x'' = elim x'' [ ]
+local-is stop v x' = elim x' [ ]
 local-is (block w) v (Memᴰ.head e) = ap block (sym e)
 
 pub begun-idle : (p : Process) (s : List ℕ) → state_of s p ≡ 0 → begun p false s ≡ []

@@ -104,6 +104,7 @@ module _ (n : ℕ) (p : Process) (d : Sound p n) (s : List ℕ) (l : length s �
 -- ---- what a step hands to a cell
 
 guard-counts : (a : ℕ) (b : AltOption) (i : ChannelInput) (bs : List AltOption) → Memᴰ b bs → b.guard.input ≡ some i → Memᴰ a (changes_by i) → Memᴰ a (of_guards changes_by bs)
+guard-counts a b i [] x3 q m = elim x3 [ ]
 guard-counts a b i (o ∷ bs) (Memᴰ.head e) q m =
     Memᴰ.append_left (of_guards changes_by bs) (subst (λ (c : AltOption). Memᴰ a (of_guard changes_by c.guard.input)) e (rw q m))
 guard-counts a b i (o ∷ bs) (Memᴰ.tail h) q m = Memᴰ.append_right (of_guard changes_by o.guard.input) (guard-counts a b i bs h q m)

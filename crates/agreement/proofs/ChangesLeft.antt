@@ -130,15 +130,15 @@ less-start (node k r ms) n d s l (over i e q h o) z = absurd (omega arith)
 less-start (node k r ms) n d s l (run e h) z = absurd (omega arith)
 
 pub less-started : (n : ℕ) {q : Process} (ms : Processes) → SoundM ms n → (s : List ℕ) → length s ≡ n → (m : Mode) → GoodM s m ms → Among q ms → state_of s q ≡ 0 → left_m ms true (set s (row_of q) 1) < left_m ms true s
-less-started n (also p ms) d s l m g Among.IsAmong-first z =
+less-started n (also p ms) d s l m g Among.among_first z =
     omega (arith, less-start p n d.0 s l (good_m-head g) z, left_m-agree s (set s (row_of p) 1) ms true (λ y q. get_or-set_other s (row_of p) y 1 0 (λ u. d.2 y (Memᴰ.cast u (row_in p)) q)))
-less-started n {q} (also p ms) d s l m g (Among.IsAmong-later a) z =
+less-started n {q} (also p ms) d s l m g (Among.among_later a) z =
     omega (arith, less-started n ms d.1 s l m (good_m-tail g) a z, left-agree s (set s (row_of q) 1) p true (λ y c. get_or-set_other s (row_of q) y 1 0 (λ u. d.2 y c (Memᴰ.cast u (among-row a)))))
 
 -- members, of which one has ended, become idle
 ended-left : {q : Process} (ms : Processes) (s : List ℕ) → Among q ms → state_of s q ≡ 2 → 0 < left_m ms false s
-ended-left (also (node k r qs) ms) s Among.IsAmong-first z = rw z (omega arith)
-ended-left (also p ms) s (Among.IsAmong-later a) z = omega (arith, ended-left ms s a z)
+ended-left (also (node k r qs) ms) s Among.among_first z = rw z (omega arith)
+ended-left (also p ms) s (Among.among_later a) z = omega (arith, ended-left ms s a z)
 
 pub less-idle : {q : Process} (ms : Processes) (s t : List ℕ) → Among q ms → state_of s q ≡ 2 → Idle (rows_beneath ms) t → left_m ms false t < left_m ms false s
 less-idle ms s t a z i = omega (arith, ended-left ms s a z, idle-left ms false t i)

@@ -40,6 +40,7 @@ module _ (rows : List ℤ) where
       go (later _ (here h)) = let n = ((form-faults rows f).0 h).0 in inl (omega arith)
       go (later _ (later _ (here h))) = let n = ((tree-faults rows f).0 h).0 in inl (omega arith)
       go (later _ (later _ (later _ (here h)))) = let n = ((limit-faults rows f).0 h).0 in inl (omega arith)
+      go (later _ (later _ (later _ (later _ (later _ x30))))) = elim x30 [ ]
       go (later _ (later _ (later _ (later _ (here h))))) = inr ((block-faults rows f).0 h).0
 
   -- the usage stage, where the stages before find nothing

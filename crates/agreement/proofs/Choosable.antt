@@ -28,6 +28,7 @@ use Rattle.agreement.proofs.FewReady.{few-ready}
 
 -- where a step stands in a list
 place : (x d : Label) (l : List Label) → Memᴰ x l → (p : ℕ) × (p < length l) × (get_or l p d ≡ x)
+place x d [] x'' = elim x'' [ ]
 place x d (y ∷ l) (Memᴰ.head e) = (0, omega arith, sym e)
 place x d (y ∷ l) (Memᴰ.tail m) = let (p, h, e) = place x d l m in (suc p, omega arith, e)
 

@@ -38,8 +38,8 @@ members-good (over i e q h o) = h
 members-good (run e h) = h
 
 before-in : {p q : Process} {ms : Processes} → Before p q ms → Among q ms
-before-in (Before.before-first a) = Among.IsAmong-later a
-before-in (Before.before-later b) = Among.IsAmong-later (before-in b)
+before-in (Before.before-first a) = Among.among_later a
+before-in (Before.before-later b) = Among.among_later (before-in b)
 
 one_by_one : {s : List ℕ} (ms : Processes) → GoodM s in_turn ms → OneByOne s ms
 one_by_one empty h p q b ne = elim b [ ]
@@ -50,12 +50,12 @@ one_by_one (also o ms) (now g i) p q (Before.before-later b) ne = absurd (ne (i 
 
 at_most_one : {s : List ℕ} (ms : Processes) → GoodM s by_step ms → AtMostOne s ms
 at_most_one empty h p q a b f g = elim a [ ]
-at_most_one (also o ms) (pass i h) p q Among.IsAmong-first b f g = absurd (f (i (row_of o) (row_in o)))
-at_most_one (also o ms) (pass i h) p q (Among.IsAmong-later a) Among.IsAmong-first f g = absurd (g (i (row_of o) (row_in o)))
-at_most_one (also o ms) (pass i h) p q (Among.IsAmong-later a) (Among.IsAmong-later b) f g = at_most_one ms h p q a b f g
-at_most_one (also o ms) (pick e i) p q Among.IsAmong-first Among.IsAmong-first f g = refl
-at_most_one (also o ms) (pick e i) p q Among.IsAmong-first (Among.IsAmong-later b) f g = absurd (g (i (row_of q) (among-row b)))
-at_most_one (also o ms) (pick e i) p q (Among.IsAmong-later a) b f g = absurd (f (i (row_of p) (among-row a)))
+at_most_one (also o ms) (pass i h) p q Among.among_first b f g = absurd (f (i (row_of o) (row_in o)))
+at_most_one (also o ms) (pass i h) p q (Among.among_later a) Among.among_first f g = absurd (g (i (row_of o) (row_in o)))
+at_most_one (also o ms) (pass i h) p q (Among.among_later a) (Among.among_later b) f g = at_most_one ms h p q a b f g
+at_most_one (also o ms) (pick e i) p q Among.among_first Among.among_first f g = refl
+at_most_one (also o ms) (pick e i) p q Among.among_first (Among.among_later b) f g = absurd (g (i (row_of q) (among-row b)))
+at_most_one (also o ms) (pick e i) p q (Among.among_later a) b f g = absurd (f (i (row_of p) (among-row a)))
 
 -- ---- what a good process has beneath it
 

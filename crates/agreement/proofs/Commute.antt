@@ -93,6 +93,7 @@ module _ (b x v n : ℕ) where
         rw (under-body k r ms s q) (under (off-look (walk-local ms (mode k)) s r d.1 ∙ e) q)
 
     pub persist_m : (ms : Processes) → SoundM ms n → (m : Mode) (s : List ℕ) → AtM b x v s ms → AtM b x v (settle_each ms m s) ms
+    persist_m empty d m s x5 = elim x5 [ ]
     persist_m (also p ms) d m s (first h) =
         rw (walk_after p ms m s, see-run p (starts m) s (at-run h))
         (first (agree (persist p d.0 s h) (λ y q. off-look (walk-local ms (after p m s)) (settle_running p s) y (d.2 y q))))
@@ -183,6 +184,7 @@ module _ (a x v b y w n : ℕ) (s : List ℕ) (ne : a ≢ b) where
         (under (get_or-set_other s x r v 0 (λ q. d.1 (Memᴰ.cast q (at_m-in h))) ∙ e) q, z)
 
     pub other_m : (ms : Processes) → SoundM ms n → AtM a x v s ms → AtM b y w s ms → AtM b y w (set s x v) ms × (x ≢ y)
+    other_m empty d x7 _ = elim x7 [ ]
     other_m (also p ms) d (first h) (first h') = let (q, z) = other p d.0 h h' in (first q, z)
     other_m (also p ms) d (first h) (later h') =
         (later (agree_m h' (λ z q. get_or-set_other s x z v 0 (λ e. d.2 z (Memᴰ.cast e (at_in h)) q))), λ e. d.2 y (Memᴰ.cast (sym e) (at_in h)) (at_m-in h'))

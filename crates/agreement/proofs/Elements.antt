@@ -19,6 +19,7 @@ use Rattle.agreement.proofs.TableFit.{fit}
 
 -- what the input of an option counts for, its ALT counts for
 guard-counts : (f : ChannelInput → List ℕ) (e : ℕ) (i : ChannelInput) (b : AltOption) → b.guard.input ≡ some i → Memᴰ e (f i) → (bs : List AltOption) → Memᴰ b bs → Memᴰ e (of_guards f bs)
+guard-counts f e i b q m mathlib.Core.List.[] x' = elim x' [ ]
 guard-counts f e i b q m (c ∷ l) (Memᴰ.head z) = Memᴰ.append_left {s = of_guard f c.guard.input} (of_guards f l) (rw (← z, q) m)
 guard-counts f e i b q m (c ∷ l) (Memᴰ.tail n) = Memᴰ.append_right (of_guard f c.guard.input) (guard-counts f e i b q m l n)
 

@@ -84,6 +84,7 @@ module _ (f : ℕ → List Line) where
 
   some_in : (vs : List ℕ) (v : ℕ) (l : Line) → Memᴰ v vs → Memᴰ l (f v) → Memᴰ l (flatten (map f vs))
   unfolding flatten
+  some_in [] v l x'' h = elim x'' [ ]
   some_in (u ∷ vs) v l (Memᴰ.head e) h = Memᴰ.append_left (flatten (map f vs)) (subst (λ (x : ℕ). Memᴰ l (f x)) e h)
   some_in (u ∷ vs) v l (Memᴰ.tail m) h = Memᴰ.append_right (f u) (some_in vs v l m h)
 

@@ -68,10 +68,10 @@ module _ (n : ℕ) where
       rw same (next-started ms d.1 s1 (length-local (see-local p true) s ∙ l) q (rw same at x))
 
   all-started : (ms : Processes) → SoundM ms n → (s : List ℕ) → length s ≡ n → (q : Process) → Among q ms → state_of (settle_each ms together s) q ≢ 0
-  all-started (also p ms) d s l q Among.IsAmong-first =
+  all-started (also p ms) d s l q Among.among_first =
       rw (walk-also p ms together s)
       (λ z. started p n d.0 s l (sym (off-look (walk-local ms together) (settle p true s) (row_of p) (d.2 (row_of p) (row_in p))) ∙ z))
-  all-started (also p ms) d s l q (Among.IsAmong-later x) =
+  all-started (also p ms) d s l q (Among.among_later x) =
       rw (walk-also p ms together s) (all-started ms d.1 (settle p true s) (length-local (see-local p true) s ∙ l) q x)
 
 -- where one of the members of an IF, ALT or WHILE has ended, it may close
@@ -80,15 +80,15 @@ idle-or-ended empty s i = refl
 idle-or-ended (also p ms) s i = rw (i (row_of p) (Memᴰ.append_left (rows_beneath ms) (row_in p))) (idle-or-ended ms s (λ x m. i x (Memᴰ.append_right (rows_in p) m)))
 
 any-ended : {q : Process} {ms : Processes} (s : List ℕ) → Among q ms → state_of s q ≡ 2 → any_of is_ended (states_of ms s) ≡ true
-any-ended s Among.IsAmong-first e = rw e
-any-ended s (Among.IsAmong-later {p} {ms} a) e = rw (any-ended s a e) (or-true (is_ended (state_of s p)))
+any-ended s Among.among_first e = rw e
+any-ended s (Among.among_later {p} {ms} a) e = rw (any-ended s a e) (or-true (is_ended (state_of s p)))
 
 sole-ended : {s : List ℕ} (ms : Processes) → GoodM s by_step ms → {q : Process} → Among q ms → state_of s q ≡ 2 → all_of is_idle_or_ended (states_of ms s) ≡ true
 sole-ended empty h a e = elim a [ ]
-sole-ended (also p ms) (pass i h) Among.IsAmong-first e = absurd (omega (arith, i (row_of p) (row_in p)))
-sole-ended (also p ms) (pass i h) (Among.IsAmong-later a) e = rw (i (row_of p) (row_in p)) (sole-ended ms h a e)
-sole-ended {s} (also p ms) (pick g i) Among.IsAmong-first e = rw e (idle-or-ended ms s i)
-sole-ended (also p ms) (pick g i) {q} (Among.IsAmong-later a) e = absurd (omega (arith, i (row_of q) (among-row a)))
+sole-ended (also p ms) (pass i h) Among.among_first e = absurd (omega (arith, i (row_of p) (row_in p)))
+sole-ended (also p ms) (pass i h) (Among.among_later a) e = rw (i (row_of p) (row_in p)) (sole-ended ms h a e)
+sole-ended {s} (also p ms) (pick g i) Among.among_first e = rw e (idle-or-ended ms s i)
+sole-ended (also p ms) (pick g i) {q} (Among.among_later a) e = absurd (omega (arith, i (row_of q) (among-row a)))
 
 -- an IF, ALT or WHILE with an ended member closes
 pub may-close : (ms : Processes) (s : List ℕ) → GoodM s by_step ms → {q : Process} → Among q ms → state_of s q ≡ 2 → complete by_step (states_of ms s) ≡ true
@@ -190,8 +190,8 @@ module _ (n : ℕ) where
 -- ---- the rules themselves
 
 pub ended-closes : {s : List ℕ} {ms : Processes} → All 2 s ms → all_of is_ended (states_of ms s) ≡ true
-ended-closes All.All-none = refl
-ended-closes (All.All-more e h) = rw e (ended-closes h)
+ended-closes All.all_none = refl
+ended-closes (All.all_more e h) = rw e (ended-closes h)
 
 pub skip-empty : (ms : Processes) → PlainA skip ms → ms ≡ empty
 skip-empty empty h = refl
@@ -204,6 +204,7 @@ module _ {k : Action} {r : ℕ} {ms : Processes} where
     plain_at (node k' r' ps) (inside u) h = plain_m-at ps u h.1
 
     plain_m-at : (ps : Processes) → SubM k r ms ps → PlainM ps → PlainA k ms
+    plain_m-at empty x4 h = elim x4 [ ]
     plain_m-at (also p ps) (front u) h = plain_at p u h.0
     plain_m-at (also p ps) (back u) h = plain_m-at ps u h.1
 

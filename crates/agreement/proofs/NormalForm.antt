@@ -29,14 +29,14 @@ use Rattle.agreement.proofs.RulesAbsorbed.{wider, set_local, sound-at, good-at, 
 
 ended-walk : {s : List ℕ} (ms : Processes) (m : Mode) → All 2 s ms → settle_each ms m s ≡ s
 ended-walk {s} empty m h = walk_none m s
-ended-walk {s} (also p ms) m (All.All-more e h) = rw (walk-also p ms m s, see-over p (starts m) s 0 e) (ended-walk ms (next_mode m (state_of s p)) h)
+ended-walk {s} (also p ms) m (All.all_more e h) = rw (walk-also p ms m s, see-over p (starts m) s 0 e) (ended-walk ms (next_mode m (state_of s p)) h)
 
 chosen-walk : {s : List ℕ} (ms : Processes) → GoodM s by_step ms → {q : Process} → Among q ms → state_of s q ≡ 2 → settle_each ms by_step s ≡ s
 chosen-walk empty h a e = elim a [ ]
-chosen-walk (also p ms) (pass i h) Among.IsAmong-first e = absurd (omega (arith, i (row_of p) (row_in p)))
-chosen-walk {s} (also p ms) (pass i h) (Among.IsAmong-later a) e = rw (walk-also p ms by_step s, see-idle p s (i (row_of p) (row_in p))) (chosen-walk ms h a e)
-chosen-walk {s} (also p ms) (pick g i) Among.IsAmong-first e = rw (walk-also p ms by_step s, see-over p false s 0 e) (idle-walk ms s i)
-chosen-walk (also p ms) (pick g i) {q} (Among.IsAmong-later a) e = absurd (omega (arith, i (row_of q) (among-row a)))
+chosen-walk (also p ms) (pass i h) Among.among_first e = absurd (omega (arith, i (row_of p) (row_in p)))
+chosen-walk {s} (also p ms) (pass i h) (Among.among_later a) e = rw (walk-also p ms by_step s, see-idle p s (i (row_of p) (row_in p))) (chosen-walk ms h a e)
+chosen-walk {s} (also p ms) (pick g i) Among.among_first e = rw (walk-also p ms by_step s, see-over p false s 0 e) (idle-walk ms s i)
+chosen-walk (also p ms) (pick g i) {q} (Among.among_later a) e = absurd (omega (arith, i (row_of q) (among-row a)))
 
 -- ---- members of which one is started
 
@@ -56,8 +56,8 @@ module _ (n : ℕ) where
       rw (walk-also p ms in_turn t, see-over p true t 0 e', e', walk-also p ms in_turn s, see-over p true s 0 e, e) (next-walk ms d.1 s l x z)
 
   among-walk : {q : Process} (ms : Processes) → SoundM ms n → (s : List ℕ) → length s ≡ n → Among q ms → state_of s q ≡ 0 → settle_each ms together (set s (row_of q) 1) ≡ settle_each ms together s
-  among-walk (also p ms) d s l Among.IsAmong-first z = start-here p ms together refl s (rw l (sound-row p n d.0)) z
-  among-walk {q} (also p ms) d s l (Among.IsAmong-later a) z =
+  among-walk (also p ms) d s l Among.among_first z = start-here p ms together refl s (rw l (sound-row p n d.0)) z
+  among-walk {q} (also p ms) d s l (Among.among_later a) z =
       let s1 = settle p true s in
       let o : Out (row_of q) (rows_in p) = λ m. d.2 (row_of q) m (among-row a) in
       rw (walk-also p ms together (set s (row_of q) 1), off-put (see-local p true) s (row_of q) 1 o, walk-also p ms together s)
@@ -74,9 +74,9 @@ module _ (n : ℕ) where
       past (a (row_of p) (row_in p) ∙ e) (good-agree (good_m-head h) a) (next-good ms d.1 s l (good_m-tail h) x z)
 
   among-good : {q : Process} (ms : Processes) → SoundM ms n → (s : List ℕ) → length s ≡ n → GoodM s together ms → Among q ms → state_of s q ≡ 0 → GoodM (set s (row_of q) 1) together ms
-  among-good (also p ms) d s l (each g h) Among.IsAmong-first z =
+  among-good (also p ms) d s l (each g h) Among.among_first z =
       each (good_start p n d.0 s l g z) (good_m-agree h (λ y q. get_or-set_other s (row_of p) y 1 0 (λ u. d.2 y (Memᴰ.cast u (row_in p)) q)))
-  among-good {q} (also p ms) d s l (each g h) (Among.IsAmong-later a) z =
+  among-good {q} (also p ms) d s l (each g h) (Among.among_later a) z =
       each (good-agree g (λ y m. get_or-set_other s (row_of q) y 1 0 (λ u. d.2 y m (Memᴰ.cast u (among-row a))))) (among-good ms d.1 s l h a z)
 
 -- ---- the blocks that start in members of which one is started: what starts with it, and those that start after it
@@ -115,8 +115,8 @@ module _ (n : ℕ) (vs : List Variable) where
 
   among-begun : {q : Process} (ms : Processes) → SoundM ms n → (s : List ℕ) → length s ≡ n → Among q ms → state_of s q ≡ 0
       → Joined (begun_each ms together vs (set s (row_of q) 1)) vs (begun_each ms together vs s)
-  among-begun (also p ms) d s l Among.IsAmong-first z = start-begun p ms together vs refl s (rw l (sound-row p n d.0)) z
-  among-begun {q} (also p ms) d s l (Among.IsAmong-later c) z =
+  among-begun (also p ms) d s l Among.among_first z = start-begun p ms together vs refl s (rw l (sound-row p n d.0)) z
+  among-begun {q} (also p ms) d s l (Among.among_later c) z =
       let s1 = settle p true s in
       let t = set s (row_of q) 1 in
       let o : Out (row_of q) (rows_in p) = λ m. d.2 (row_of q) m (among-row c) in

@@ -158,6 +158,7 @@ module _ (sheet : Sheet) (x : Store) (n : ℕ) where
 
 -- rising rows are each another, and all below n
 floor : (n lo : ℕ) (l : List Offer) → RisingO n lo l → (p : Offer) → Memᴰ p l → (lo ≤ option_row p) × (option_row p < n)
+floor n lo [] r p x'' = elim x'' [ ]
 floor n lo (o ∷ l) r p (Memᴰ.head e) = rw e (r.0, r.1)
 floor n lo (o ∷ l) r p (Memᴰ.tail m) = let h = floor n (suc (option_row o)) l r.2 p m in (omega (arith, r.0, h.0), h.1)
 

@@ -131,8 +131,8 @@ idle-process (node a r ms) s whole c i e x (Memᴰ.tail m) = c.beneath-idle a r 
 
 idle-members : (s : List ℕ) (whole : Process) → CoherentRows s whole → (ms : Processes) → ((q : Process) → Among q ms → Inside whole q) → All 0 s ms → AllIdle s (rows_beneath ms)
 idle-members s whole c empty i h x m = absurd (Memᴰ.not-nil m)
-idle-members s whole c (also p ms) i (All.All-more e h) x m =
-    ⊎_elim (idle-process p s whole c (i p Among.IsAmong-first) e x) (idle-members s whole c ms (λ q a. i q (Among.IsAmong-later a)) h x) (Memᴰ.append_cases (rows_in p) m)
+idle-members s whole c (also p ms) i (All.all_more e h) x m =
+    ⊎_elim (idle-process p s whole c (i p Among.among_first) e x) (idle-members s whole c ms (λ q a. i q (Among.among_later a)) h x) (Memᴰ.append_cases (rows_in p) m)
 
 pub members-tell : ProcessesTell
 members-tell rows ok sheet l s o a r ms i h =

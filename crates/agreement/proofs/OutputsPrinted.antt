@@ -29,6 +29,7 @@ use Rattle.agreement.proofs.MissingPrinted.{printed-empty, numbered-line, line-n
 
 -- a member of a list, by its place
 place_of : (l : List ℕ) (x : ℕ) → Memᴰ x l → (j : ℕ) × (j < length l) × (get_or l j 0 ≡ x)
+place_of [] x x3 = elim x3 [ ]
 place_of (y ∷ l) x (Memᴰ.head e) = (0, omega arith, sym e)
 place_of (y ∷ l) x (Memᴰ.tail m) = let (j, h, e) = place_of l x m in (suc j, omega arith, e)
 

@@ -71,6 +71,7 @@ module _ (rows : List ℤ) where
 
       -- the process at a place of the list is that of the member there
       from-chain : {m k i : ℕ} {ms : Processes} {x : Process} → Chain rows m ms → (m < row_count rows → MemberAt rows r k m) → AtPlace ms i x → (p : ℕ) × ComponentAt rows r (k + i) p × ((content_at rows p).process ≡ some x)
+      from-chain {k = k} {i = i} {x = x} (end {m = m} _) at x12 = elim x12 [ ]
       from-chain {k} {x} (link {m} {p} {b} h u f w c) at foremost =
           (p, subst (λ (j : ℕ). ComponentAt rows r j p) (omega arith) (component (at h) (process-refers rows passed m p b h f w.0)), w.2)
       from-chain {k} {x} (link {m} {p} {b} h u f w c) at (behind {i} q) =

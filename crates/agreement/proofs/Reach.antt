@@ -101,6 +101,7 @@ module _ (n : ℕ) where
 -- ---- a store of a step keeps it
 
 pub pick-child : (n : ℕ) (ms : Processes) → SoundM ms n → (s : List ℕ) → length s ≡ n → {x : ℕ} → Child x ms → Idle (rows_beneath ms) s → GoodM (set s x 1) by_step ms
+pick-child n empty d s l {x = x} x6 i = elim x6 [ ]
 pick-child n (also p ms) d s l (eldest e) i =
     rw e (pick (good_start p n d.0 s l (idle (λ y q. i y (Memᴰ.append_left (rows_beneath ms) q))) (i (row_of p) (Memᴰ.append_left (rows_beneath ms) (row_in p))))
     (λ y q. get_or-set_other s (row_of p) y 1 0 (λ z. d.2 y (Memᴰ.cast z (row_in p)) q) ∙ i y (Memᴰ.append_right (rows_in p) q)))
@@ -156,6 +157,7 @@ module _ {k : Action} {r : ℕ} {ms : Processes} where
     sub_in (node k' r' ps) (inside h) = Memᴰ.tail (sub_m-in ps h)
 
     pub sub_m-in : (ps : Processes) → SubM k r ms ps → Memᴰ r (rows_beneath ps)
+    sub_m-in empty x'' = elim x'' [ ]
     sub_m-in (also p ps) (front h) = Memᴰ.append_left (rows_beneath ps) (sub_in p h)
     sub_m-in (also p ps) (back h) = Memᴰ.append_right (rows_in p) (sub_m-in ps h)
 
@@ -215,6 +217,7 @@ module _ (a x v b y w : ℕ) (s : List ℕ) (ne : a ≢ b) where
     apart (node k r ms) g (under e h) (under e' h') = within (apart_m ms (mode k) (running g e) h h')
 
     apart_m : (ms : Processes) (m : Mode) → GoodM s m ms → AtM a x v s ms → AtM b y w s ms → ApartM a b m ms
+    apart_m empty m g x7 _ = elim x7 [ ]
     apart_m (also p ms) m g (first h) (first h') = in-first (apart p (good_m-head g) h h')
     apart_m (also p ms) m g (first h) (later h') = ab (sole g (at-run h) h') (at-row h) (at_m-row h')
     apart_m (also p ms) m g (later h) (first h') = ba (sole g (at-run h') h) (at-row h') (at_m-row h)

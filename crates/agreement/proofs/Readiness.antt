@@ -157,12 +157,14 @@ mem-offered r bs x (input_offer j q e a ∷ l) m =
     (λ (h : Memᴰ x (offered r bs l)). widen (input_offer j q e a) (mem-offered r bs x l h)) (mathlib.Core.List.Memᴰ.append_cases (map (take_with_output r j) (outputs_at e bs)) m)
 
 free-mem : (r j q : ℕ) (ws : List Write) (bs : List RunningRow) (l : List Offer) → Memᴰ (open_offer j q ws) l → Memᴰ (take_option r j) (offered r bs l)
+free-mem r j q ws bs [] x' = elim x' [ ]
 free-mem r j q ws bs (open_offer i p us ∷ l) (mathlib.Core.List.Memᴰ.head e) = mathlib.Core.List.Memᴰ.head (ap (λ (o : Offer). take_option r (option_row o)) e)
 free-mem r j q ws bs (open_offer i p us ∷ l) (mathlib.Core.List.Memᴰ.tail m) = mathlib.Core.List.Memᴰ.tail (free-mem r j q ws bs l m)
 free-mem r j q ws bs (input_offer i p e a ∷ l) (mathlib.Core.List.Memᴰ.head z) = let y : ◌≡◌ {A = ℕ} 0 1 = cc in absurd (omega arith)
 free-mem r j q ws bs (input_offer i p e a ∷ l) (mathlib.Core.List.Memᴰ.tail m) = mathlib.Core.List.Memᴰ.append_right (map (take_with_output r i) (outputs_at e bs)) (free-mem r j q ws bs l m)
 
 meets-mem : (r j q e a o : ℕ) (bs : List RunningRow) (l : List Offer) → Memᴰ (input_offer j q e a) l → Memᴰ o (outputs_at e bs) → Memᴰ (take_with_output r j o) (offered r bs l)
+meets-mem r j q e a o bs [] x'' n = elim x'' [ ]
 meets-mem r j q e a o bs (open_offer i p us ∷ l) (mathlib.Core.List.Memᴰ.head z) n = let y : ◌≡◌ {A = ℕ} 0 1 = cc in absurd (omega arith)
 meets-mem r j q e a o bs (open_offer i p us ∷ l) (mathlib.Core.List.Memᴰ.tail m) n = mathlib.Core.List.Memᴰ.tail (meets-mem r j q e a o bs l m n)
 meets-mem r j q e a o bs (input_offer i p d c ∷ l) (mathlib.Core.List.Memᴰ.head z) n =

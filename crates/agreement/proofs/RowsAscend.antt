@@ -71,6 +71,7 @@ rows-ascend rows sheet a s (l, o) = let F = fit rows a.0 in ready-ascends rows s
 -- two lists in ascending rows with the same members are one
 
 row-above : (from : ℕ) (l : List Label) → Ascending from (map order_row l) → (x : Label) → Memᴰ x l → from ≤ order_row x
+row-above from [] a x x4 = elim x4 [ ]
 row-above from (y ∷ l) a x (Memᴰ.head e) = rw e a.0
 row-above from (y ∷ l) a x (Memᴰ.tail m) = let h = row-above (suc (order_row y)) l a.1 x m in omega (arith, a.0)
 

@@ -28,6 +28,7 @@ module _ {k : Action} {r : ℕ} {ms : Processes} where
     sound-at (node k' r' ps) n (inside u) d = sound_m-at ps n u d.2
 
     sound_m-at : (ps : Processes) (n : ℕ) → SubM k r ms ps → SoundM ps n → Sound (node k r ms) n
+    sound_m-at empty n x4 d = elim x4 [ ]
     sound_m-at (also p ps) n (front u) d = sound-at p n u d.0
     sound_m-at (also p ps) n (back u) d = sound_m-at ps n u d.1
 

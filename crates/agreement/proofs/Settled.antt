@@ -53,11 +53,11 @@ ended_is (suc (suc zero)) e = refl
 ended_is (suc (suc (suc k))) e = absurd (true≢false (sym e))
 
 pub all-ended : (ms : Processes) (s : List ℕ) → all_of is_ended (states_of ms s) ≡ true → All 2 s ms
-all-ended empty s e = All.All-none
+all-ended empty s e = All.all_none
 all-ended (also p ms) s e = go (is_ended (state_of s p)) refl e (λ z. all-ended ms s z)
   where
     go : (t : Bool) → is_ended (state_of s p) ≡ t → (t && all_of is_ended (states_of ms s)) ≡ true → (all_of is_ended (states_of ms s) ≡ true → All 2 s ms) → All 2 s (also p ms)
-    go true g e k = All.All-more (ended_is (state_of s p) g) (k e)
+    go true g e k = All.all_more (ended_is (state_of s p) g) (k e)
     go false g e k = absurd (true≢false (sym e))
 
 some-ended : (ms : Processes) (s : List ℕ) → any_of is_ended (states_of ms s) ≡ true → (q : Process) × (Among q ms × (state_of s q ≡ 2))
@@ -66,8 +66,8 @@ some-ended (also p ms) s e = go (is_ended (state_of s p)) refl e (λ z. some-end
   where
     go : (t : Bool) → is_ended (state_of s p) ≡ t → (t || any_of is_ended (states_of ms s)) ≡ true → (any_of is_ended (states_of ms s) ≡ true → (q : Process) × (Among q ms × (state_of s q ≡ 2)))
         → (q : Process) × (Among q (also p ms) × (state_of s q ≡ 2))
-    go true g e k = (p, (Among.IsAmong-first, ended_is (state_of s p) g))
-    go false g e k = let (q, (a, z)) = k e in (q, (Among.IsAmong-later a, z))
+    go true g e k = (p, (Among.among_first, ended_is (state_of s p) g))
+    go false g e k = let (q, (a, z)) = k e in (q, (Among.among_later a, z))
 
 second : (a b : Bool) → (a && b) ≡ true → b ≡ true
 second true b e = e
@@ -99,7 +99,7 @@ module _ (whole : Process) (n : ℕ) where
 
   may-first : (m : Mode) (vs : List Variable) (p : Process) (ms : Processes) (s : List ℕ) → May m vs (also p ms) s → starts m ≡ true → state_of s p ≡ 0 → Starts vs s p
   may-first in_turn vs p ms s k b e = k s (λ x o. refl) p Next.next_here e
-  may-first together vs p ms s k b e = k s (λ x o. refl) p Among.IsAmong-first e
+  may-first together vs p ms s k b e = k s (λ x o. refl) p Among.among_first e
   may-first by_step vs p ms s k b e = absurd (true≢false (sym b))
 
   -- nothing changes but what stands in the first or in the others
@@ -112,7 +112,7 @@ module _ (whole : Process) (n : ℕ) where
   may-next in_turn vs p ms s o h (suc zero) e = tt
   may-next in_turn vs p ms s o h (suc (suc zero)) e = λ t k q x z. h t (keeps p ms true s t k) q (Next.next-after (k (row_of p) (o (row_of p) (row_in p)) ∙ e) x) z
   may-next in_turn vs p ms s o h (suc (suc (suc i))) e = tt
-  may-next together vs p ms s o h k e = λ t g q x z. h t (keeps p ms true s t g) q (Among.IsAmong-later x) z
+  may-next together vs p ms s o h k e = λ t g q x z. h t (keeps p ms true s t g) q (Among.among_later x) z
   may-next by_step vs p ms s o h k e = tt
 
   may-later : (m : Mode) (vs : List Variable) (p : Process) (ms : Processes) (s : List ℕ) → Off (rows_in p) (rows_beneath ms) → May m vs (also p ms) s → May (after p m s) vs ms (settle p (starts m) s)
@@ -195,8 +195,8 @@ module _ (whole : Process) (n : ℕ) where
         let ws = begun p (starts m) s in
         let m1 = after p m s in
         rw (walk_after p ms m s, begun-also p ms m vs s, unset-append us (ws ++ begun_each ms m1 vs t) x, unset-append ws (begun_each ms m1 vs t) (unset_all us x))
-        (more (see-settles p (starts m) vs s (sound-row p n d.0) l (λ b e. may-first m vs p ms s k b e) (λ u v e y. body-settles p (i p Among.IsAmong-first) d.0 h.0 u v e y) x)
-        (walk-settles ms m1 vs d.1 h.1 (λ q x. i q (Among.IsAmong-later x)) t (may-later m vs p ms s d.2 k) (length-local (see-local p (starts m)) s ∙ l) (unset_all ws (unset_all us x))))
+        (more (see-settles p (starts m) vs s (sound-row p n d.0) l (λ b e. may-first m vs p ms s k b e) (λ u v e y. body-settles p (i p Among.among_first) d.0 h.0 u v e y) x)
+        (walk-settles ms m1 vs d.1 h.1 (λ q x. i q (Among.among_later x)) t (may-later m vs p ms s d.2 k) (length-local (see-local p (starts m)) s ∙ l) (unset_all ws (unset_all us x))))
 
   -- to settle, and to unset the cells of the blocks that start, makes changes that the rules allow
   pub settles : Sound whole n → Plain whole → (s : List ℕ) → length s ≡ n → (x : Store) → Settling whole (state_with s x) (state_with (settle whole false s) (unset_all (begun whole false s) x))

@@ -99,6 +99,7 @@ apart P sheet s n lo [] r = tt
 apart P sheet s n lo (b ∷ l) r = (λ c m e. higher n (suc b.row) l r.2 c m (omega arith) e, apart P sheet s n (suc b.row) l r.2)
   where
     floor : (n lo : ℕ) (l : List AltOption) → Rising n lo l → (c : AltOption) → Memᴰ c l → lo ≤ c.row
+    floor n lo [] r c x3 = elim x3 [ ]
     floor n lo (b ∷ l) r c (Memᴰ.head e) = rw e r.0
     floor n lo (b ∷ l) r c (Memᴰ.tail m) = let h = floor n (suc b.row) l r.2 c m in omega (arith, r.0)
 

@@ -36,6 +36,7 @@ module _ {k : Action} {a : ℕ} {ms : Processes} {j : Action} {r : ℕ} {ps : Pr
     sub-inside (node j' r' qs) (inside h) = inside (sub-inside_m qs h)
 
     sub-inside_m : (qs : Processes) → SubM j r ps qs → SubM k a ms qs
+    sub-inside_m empty x'' = elim x'' [ ]
     sub-inside_m (also p qs) (front h) = front (sub-inside p h)
     sub-inside_m (also p qs) (back h) = back (sub-inside_m qs h)
 
@@ -49,6 +50,7 @@ module _ {k : Action} {a : ℕ} {ms : Processes} (f : Action → List ℕ) (x : 
     sub-gather (node j r ps) (inside h) = Memᴰ.append_right (f j) (sub-gather_m ps h)
 
     sub-gather_m : (ps : Processes) → SubM k a ms ps → Memᴰ x (gather_all ps f)
+    sub-gather_m empty x3 = elim x3 [ ]
     sub-gather_m (also p ps) (front h) = Memᴰ.append_left (gather_all ps f) (sub-gather p h)
     sub-gather_m (also p ps) (back h) = Memᴰ.append_right (gather p f) (sub-gather_m ps h)
 
@@ -129,6 +131,7 @@ module _ (a b : ℕ) where
     find (node k r ps) (within h) = at-node k r ps (find_m ps (mode k) h)
 
     find_m : (ps : Processes) (m : Mode) → ApartM a b m ps → FoundM ps ⊎ Here m ps
+    find_m empty m x'' = elim x'' [ ]
     find_m (also p ps) m (in-first h) = at_first p m ps (find p h)
     find_m (also p ps) m (in-later h) = at-later p m ps (find_m ps m h)
     find_m (also p ps) m (ab e x y) = let (c, n, f, z) = pairs-with p ps b y in inr (e, (c, Memᴰ.append_left (pairs ps) n, inl (rw f x, z)))

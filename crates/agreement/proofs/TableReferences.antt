@@ -150,6 +150,14 @@ module _ (rows : List ℤ) where
 
     pub to_row : (r b : ℕ) (f : Field) (z : ℤ) → Leading f → Leads rows r f z → natural_of z ≡ b → b < row_count rows → RefersBy rows r f z b
     unfolding Leads RefersBy
+    to_row r b (channel _) z u h e l = elim u [ ]
+    to_row r b variable z u h e l = elim u [ ]
+    to_row r b operator z u h e l = elim u [ ]
+    to_row r b capacity z u h e l = elim u [ ]
+    to_row r b elements z u h e l = elim u [ ]
+    to_row r b (within _ _) z u h e l = elim u [ ]
+    to_row r b literal_value z u h e l = elim u [ ]
+    to_row r b unused z u h e l = elim u [ ]
     to_row r b (reference ks) z u h e l = let i : h.0 ≡ b = sym (ap natural_of h.1) ∙ e in (h.1 ∙ ap pos i, subst (IsTarget rows r ks) i h.2)
     to_row r b (link ks) z u (inl n) e l = absurd (let i : 4294967295 ≡ b = sym (ap natural_of n) ∙ e in omega (arith, few))
     to_row r b (link ks) z u (inr h) e l = let i : h.0 ≡ b = sym (ap natural_of h.1) ∙ e in (h.1 ∙ ap pos i, subst (IsTarget rows r ks) i h.2)

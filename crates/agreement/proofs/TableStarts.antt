@@ -28,6 +28,7 @@ use Rattle.agreement.proofs.TableTree.{part_at, Known, every-row}
 use Rattle.agreement.proofs.TableReferences.{while-shape, block-shape, choice-shape, option-shape, Shaped, Holding, Fields, fields-are, placed_at, leads-at}
 
 all_in : (P : ℕ → Type 0) (ks : List ℕ) → Each P ks → (k : ℕ) → Memᴰ k ks → P k
+all_in P [] _ k x3 = elim x3 [ ]
 all_in P (j ∷ ks) (each_more h f) k (Memᴰ.head e) = subst P (sym e) h
 all_in P (j ∷ ks) (each_more h f) k (Memᴰ.tail m) = all_in P ks f k m
 

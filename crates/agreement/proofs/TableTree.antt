@@ -39,6 +39,7 @@ Occupied empty = ⊥
 Occupied (also p ps) = Unit {0}
 
 occupied : {k : Action} {r : ℕ} {ms : Processes} (ps : Processes) → SubM k r ms ps → Occupied ps
+occupied {k = k} {r = r} {ms = ms} empty h = elim h [ ]
 occupied (also p ps) h = tt
 
 module _ (rows : List ℤ) where

@@ -36,6 +36,7 @@ pub record Clear (p q : Process) : Type 0 where
 
 quiet : (l : List Comparison) (c : Comparison) → first_clash l ≡ none → Memᴰ c l → clashes c ≡ false
 unfolding first_clash
+quiet [] c e m = elim m [ ]
 quiet (d ∷ l) c e m = go (clashes d) refl e m (quiet l c)
   where
     go : (t : Bool) → clashes d ≡ t → if_else t (some d) (first_clash l) ≡ none → Memᴰ c (d ∷ l) → (first_clash l ≡ none → Memᴰ c l → clashes c ≡ false) → clashes c ≡ false

@@ -25,6 +25,7 @@ cell-of a (v ∷ vs) m =
     (Memᴰ.append_cases (cells_of_variable v) m)
 
 pub cell_in : (a : ℕ) (v : Variable) (vs : List Variable) → Memᴰ v vs → Memᴰ a (cells_of_variable v) → Memᴰ a (cells_of_all vs)
+cell_in a v [] x'' h = elim x'' [ ]
 cell_in a v (u ∷ vs) (Memᴰ.head e) h = Memᴰ.append_left (cells_of_all vs) (subst (λ (w : Variable). Memᴰ a (cells_of_variable w)) e h)
 cell_in a v (u ∷ vs) (Memᴰ.tail m) h = Memᴰ.append_right (cells_of_variable u) (cell_in a v vs m h)
 

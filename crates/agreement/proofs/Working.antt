@@ -88,6 +88,7 @@ eqb_is : (m n : ℕ) → eqb m n ≡ true → m ≡ n
 eqb_is m n e = eqb→eq m n (subst (λ (t : Bool). T t) (sym e) tt)
 
 pub idle-all : (l s : List ℕ) → all_idle l s ≡ true → Idle l s
+idle-all [] s e b x3 = elim x3 [ ]
 idle-all (r ∷ l) s e b (mathlib.Core.List.Memᴰ.head q) = rw q (eqb_is (get_or s r 0) 0 (both_true (eqb (get_or s r 0) 0) (all_idle l s) e).0)
 idle-all (r ∷ l) s e b (mathlib.Core.List.Memᴰ.tail m) = idle-all l s (both_true (eqb (get_or s r 0) 0) (all_idle l s) e).1 b m
 

@@ -32,8 +32,8 @@ mutual
   sub-inside top (node j q ps) i (inside h) = sub_m-inside top ps (λ p a. Inside.beneath i a) h
 
   sub_m-inside : {k : Action} {r : ℕ} {ms : Processes} (top : Process) (ps : Processes) → ((p : Process) → Among p ps → Inside top p) → SubM k r ms ps → Inside top (node k r ms)
-  sub_m-inside top (also p ps) i (front h) = sub-inside top p (i p Among.IsAmong-first) h
-  sub_m-inside top (also p ps) i (back h) = sub_m-inside top ps (λ q a. i q (Among.IsAmong-later a)) h
+  sub_m-inside top (also p ps) i (front h) = sub-inside top p (i p Among.among_first) h
+  sub_m-inside top (also p ps) i (back h) = sub_m-inside top ps (λ q a. i q (Among.among_later a)) h
 
 -- ---- tests
 

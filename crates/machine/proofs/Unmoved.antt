@@ -58,17 +58,17 @@ module _ (P : Program) (sheet : Sheet) (s : State) (r : ℕ) where
 final-by-step : (top p : Process) (s : State) → Final top s → Inside top p → get_or s.states (row_of p) 0 ≡ 1 → Idle (rows_beneath (processes_in p)) s.states → mode (action_of p) ≡ by_step
 final-by-step top (node stop r ms) s f i u h = refl
 final-by-step top (node skip r ms) s f i u h = absurd (f _ (Settles.skip-ends (i, u)))
-final-by-step top (node sequence r empty) s f i u h = absurd (f _ (Settles.seq-ends (i, u) All.All-none))
+final-by-step top (node sequence r empty) s f i u h = absurd (f _ (Settles.seq-ends (i, u) All.all_none))
 final-by-step top (node sequence r (also p ms)) s f i u h = absurd (f _ (Settles.seq-starts (i, u) Next.next_here (h (row_of p) (Memᴰ.append_left (rows_beneath ms) (row_in p)))))
-final-by-step top (node parallel r empty) s f i u h = absurd (f _ (Settles.par-ends (i, u) All.All-none))
-final-by-step top (node parallel r (also p ms)) s f i u h = absurd (f _ (Settles.par-starts (i, u) Among.IsAmong-first (h (row_of p) (Memᴰ.append_left (rows_beneath ms) (row_in p)))))
+final-by-step top (node parallel r empty) s f i u h = absurd (f _ (Settles.par-ends (i, u) All.all_none))
+final-by-step top (node parallel r (also p ms)) s f i u h = absurd (f _ (Settles.par-starts (i, u) Among.among_first (h (row_of p) (Memᴰ.append_left (rows_beneath ms) (row_in p)))))
 final-by-step top (node (assign v a b) r ms) s f i u h = refl
 final-by-step top (node (input c) r ms) s f i u h = refl
 final-by-step top (node (output c a b) r ms) s f i u h = refl
 final-by-step top (node (conditional ts) r ms) s f i u h = refl
 final-by-step top (node (loop a b) r ms) s f i u h = refl
 final-by-step top (node (alternation bs) r ms) s f i u h = refl
-final-by-step top (node (block v) r empty) s f i u h = absurd (f _ (Settles.block-ends (i, u) All.All-none))
+final-by-step top (node (block v) r empty) s f i u h = absurd (f _ (Settles.block-ends (i, u) All.all_none))
 final-by-step top (node (block v) r (also p ms)) s f i u h = absurd (f _ (Settles.block-starts (i, u) Next.next_here (h (row_of p) (Memᴰ.append_left (rows_beneath ms) (row_in p)))))
 
 -- ---- accepted tables
