@@ -224,7 +224,7 @@ module _ (rows : List ℤ) (sound : FormPassed rows) (r : ℕ) (d : declarations
       new of_c t w = place-new of_c nb vc (omega (arith, ea, eb)) lc t w
 
   -- and they are those that the row gives
-  pub field-same : (p : Column) → is_reference (K.field_meant (entry_of s p)) ≡ is_reference (field_of (shape_for (kind_at rows r)) p)
+  field-same : (p : Column) → is_reference (K.field_meant (entry_of s p)) ≡ is_reference (field_of (shape_for (kind_at rows r)) p)
   field-same p = go (knows p)
     where
       go : Known p → is_reference (K.field_meant (entry_of s p)) ≡ is_reference (field_of (shape_for (kind_at rows r)) p)

@@ -2,16 +2,16 @@
 use mathlib.Core.Path.{◌≡◌, refl, sym, ap, ◌∙◌, subst}
 use mathlib.Core.Logic.{inl, inr}
 use mathlib.Core.Bool.{Bool, true, false≢true}
-use mathlib.Core.List.{List, [], ◌∷◌, ◌++◌, append_assoc}
+use mathlib.Core.List.{List}
 use mathlib.Core.Option.{Option, some, none-ne-some}
-use Prim.Native.Nat.{ℕ, suc, ◌+◌, ◌*◌, ◌/◌, ◌%◌, ◌≤◌, ◌<◌}
+use Prim.Native.Nat.{ℕ, zero, suc, ◌+◌, ◌*◌, ◌/◌, ◌%◌, ◌≤◌, ◌<◌}
 use native.Mathlib.Decide.{dec_lt}
 use native.Mathlib.Omega.{arith}
 use lib.IntN.{ℤ, pos, negsuc}
 use lib.Dec.{ltb}
 use borrow.Author.Tests.{lt-ltb, le-ltb}
-use lib.ListN.{length, get_or, take, drop, set, get_or-append, get_or-eq_default}
-use lib.Seq.{length-take-le, take-suc, drop-cons, set_at, ext_get_or}
+use lib.ListN.{length, get_or, set, length-set, get_or-eq_default}
+use lib.Seq.{set_out, get_or-set_same, get_or-set_other, ext_get_or}
 use Rattle.meaning.specs.Basics.{if_else}
 use Rattle.meaning.specs.Rows.{natural_of, row_count, field_at, kind_at}
 use Rattle.meaning.specs.Kinds as M
@@ -22,37 +22,99 @@ use Rattle.meaning.specs.Faults.{Leads}
 use Rattle.base_kinds.specs.declared.Shape.{Shape}
 use Rattle.base_kinds.specs.Table as K
 use Rattle.base_kinds.specs.Table.{meant_shape}
-use Rattle.base_top_down.specs.Forms.{Form, absent, is_reference, or_plain, referred, item_of, form_at, form_size, written_field, rows_from, form_of, declared, table_of, numbered_down}
+use Rattle.base_top_down.specs.Forms.{Form, absent, is_reference, or_plain, referred, item_of, form_at, form_size, written_field, top_down}
 use Rattle.base_top_down.specs.Laid.{Laid, SameCount}
-use Rattle.base_top_down.specs.New.{FormPassed, item_of_row, child_row, New, at-child, RightAt, Numbers, NewOne, NewOnto}
+use Rattle.base_top_down.specs.New.{FormPassed, item_of_row, child_row, New, at-child, RightAt, Numbers, NewOne, NewOnto, RightNumber, Wrote}
 use Rattle.base_top_down.proofs.Flat.{above, form_at-at}
-use Rattle.base_top_down.proofs.Again.{declared-length, numbered_down-count, numbered_down-length}
+use Rattle.base_top_down.proofs.Again.{declared-number, top_down-count, top_down-length}
 use Rattle.base_top_down.proofs.Good.{RightRow, right-row}
 use Rattle.base_top_down.proofs.New.{stands, number-within, new-one, new-onto, refers-bounds}
 use Rattle.base_top_down.proofs.Size.{same_count}
-use Rattle.base_ordering.specs.Written.{renumbered_in, RightNumber, Wrote}
-use Rattle.base_ordering.proofs.Right.{four-wrote, WrittenTo}
-use Rattle.base_numbering.proofs.RowLaws.{entry_of, Known, known, knows, field-same}
-use Rattle.base_renumbering.specs.Written.{written_for, with_row}
+use Rattle.base_renumbering.specs.Written.{renumbered_in, set_four}
+use Rattle.base_numbering.proofs.RowLaws.{entry_of, Known, known, knows}
 
--- one number more is copied
-pub number-copied : (rows old : List ℤ) (i : ℕ) → i < length rows → i < length old → set (take i rows ++ drop i old) i (get_or rows i (pos 0)) ≡ take (i + 1) rows ++ drop (i + 1) old
-number-copied rows old i h l =
-    let v = get_or rows i (pos 0) in
-    let e : suc i ≡ i + 1 = omega arith in
-    ap (λ (x : List ℤ). set (take i rows ++ x) i v) (drop-cons old i (pos 0) l)
-    ∙ set_at (take i rows) (get_or old i (pos 0)) (drop (suc i) old) v i (length-take-le i rows (omega arith))
-    ∙ sym (append_assoc (take i rows) (v ∷ []) (drop (suc i) old))
-    ∙ ap (λ (x : List ℤ). x ++ drop (suc i) old) (sym (take-suc rows i (pos 0) h))
-    ∙ ap (λ (n : ℕ). take n rows ++ drop n old) e
+-- a right number set
+module _ (rows out : List ℤ) (q : ℕ) (v : ℤ) (e : v ≡ get_or (top_down rows) q (pos 0)) where
+  pub set_keeps : (p : ℕ) → RightNumber rows out p → RightNumber rows (set out q v) p
+  unfolding RightNumber
+  set_keeps p h = go (dec_lt p q) (dec_lt q p) (dec_lt q (length out))
+    where
+      go : Dec (p < q) → Dec (q < p) → Dec (q < length out) → get_or (set out q v) p (pos 0) ≡ get_or (top_down rows) p (pos 0)
+      go (yes x) y z = get_or-set_other out q p v (pos 0) (λ i. omega arith) ∙ h
+      go (no x) (yes y) z = get_or-set_other out q p v (pos 0) (λ i. omega arith) ∙ h
+      go (no x) (no y) (yes z) = let i : q ≡ p = omega arith in subst (λ (j : ℕ). get_or (set out q v) j (pos 0) ≡ get_or (top_down rows) j (pos 0)) i (get_or-set_same out q v (pos 0) z ∙ e)
+      go (no x) (no y) (no z) = ap (λ (l : List ℤ). get_or l p (pos 0)) (set_out out q v (omega arith)) ∙ h
 
--- the declarations are right when they are copied
-pub copied-right : (rows old : List ℤ) (p : ℕ) → p < 4 * declarations rows → RightNumber (numbered_down rows) (take (4 * declarations rows) rows ++ drop (4 * declarations rows) old) p
-unfolding RightNumber numbered_down table_of declared
-copied-right rows old p h =
-    let e = declared-length rows in
-    get_or-append (declared rows) (drop (4 * declarations rows) old) (pos 0) p (omega arith)
-    ∙ sym (get_or-append (declared rows) (rows_from (declarations rows) (form_of rows)) (pos 0) p (omega arith))
+  pub set_new : q < length out → RightNumber rows (set out q v) q
+  unfolding RightNumber
+  set_new h = get_or-set_same out q v (pos 0) h ∙ e
+
+-- one declaration's number more
+pub one_more : (rows out : List ℤ) (i : ℕ) → i < 4 * declarations rows → i < length out → ((p : ℕ) → p < i → RightNumber rows out p) → (p : ℕ) → p < i + 1 → RightNumber rows (set out i (get_or rows i (pos 0))) p
+one_more rows out i l h f p j = go (dec_lt p i)
+  where
+    e : get_or rows i (pos 0) ≡ get_or (top_down rows) i (pos 0)
+    e = sym (declared-number rows i l)
+
+    go : Dec (p < i) → RightNumber rows (set out i (get_or rows i (pos 0))) p
+    go (yes a) = set_keeps rows out i (get_or rows i (pos 0)) e p (f p a)
+    go (no a) = let q : i ≡ p = omega arith in subst (RightNumber rows (set out i (get_or rows i (pos 0)))) q (set_new rows out i (get_or rows i (pos 0)) e h)
+
+-- four of them
+four : (rows out : List ℤ) (m : ℕ) (k a b c : ℤ) → 4 * m + 3 < length out → k ≡ field_at (top_down rows) m 0 → a ≡ field_at (top_down rows) m 1 → b ≡ field_at (top_down rows) m 2 → c ≡ field_at (top_down rows) m 3 → Wrote rows m out (set_four out (4 * m) k a b c)
+four rows out m k a b c h ek ea eb ec = record { long = lc ∙ lb ∙ la ∙ lk; kept = λ p i. kc p (kb p (ka p (kk p i))); given = new }
+  where
+    P : ℕ
+    P = 4 * m
+
+    T : List ℤ
+    T = top_down rows
+
+    zeroth : k ≡ get_or T P (pos 0)
+    zeroth = ek ∙ ap (λ (x : ℕ). get_or T x (pos 0)) (omega arith)
+
+    ok : List ℤ
+    ok = set out (4 * m) k
+
+    oa : List ℤ
+    oa = set ok (4 * m + 1) a
+
+    ob : List ℤ
+    ob = set oa (4 * m + 2) b
+
+    oc : List ℤ
+    oc = set ob (4 * m + 3) c
+
+    lk : length ok ≡ length out
+    lk = length-set out (4 * m) k
+
+    la : length oa ≡ length ok
+    la = length-set ok (4 * m + 1) a
+
+    lb : length ob ≡ length oa
+    lb = length-set oa (4 * m + 2) b
+
+    lc : length oc ≡ length ob
+    lc = length-set ob (4 * m + 3) c
+
+    kk : (p : ℕ) → RightNumber rows out p → RightNumber rows ok p
+    kk = set_keeps rows out (4 * m) k zeroth
+
+    ka : (p : ℕ) → RightNumber rows ok p → RightNumber rows oa p
+    ka = set_keeps rows ok (4 * m + 1) a ea
+
+    kb : (p : ℕ) → RightNumber rows oa p → RightNumber rows ob p
+    kb = set_keeps rows oa (4 * m + 2) b eb
+
+    kc : (p : ℕ) → RightNumber rows ob p → RightNumber rows oc p
+    kc = set_keeps rows ob (4 * m + 3) c ec
+
+    new : (j : ℕ) → j < 4 → RightNumber rows oc (4 * m + j)
+    new zero l = let i : 4 * m ≡ 4 * m + 0 = omega arith in subst (RightNumber rows oc) i (kc (4 * m) (kb (4 * m) (ka (4 * m) (set_new rows out (4 * m) k zeroth (omega arith)))))
+    new (suc zero) l = kc (4 * m + 1) (kb (4 * m + 1) (set_new rows ok (4 * m + 1) a ea (omega (arith, lk))))
+    new (suc (suc zero)) l = kc (4 * m + 2) (set_new rows oa (4 * m + 2) b eb (omega (arith, lk, la)))
+    new (suc (suc (suc zero))) l = set_new rows ob (4 * m + 3) c ec (omega (arith, lk, la, lb))
+    new (suc (suc (suc (suc j)))) l = absurd (omega arith)
 
 -- a known kind is no negative number
 kind-is : (z : ℤ) (u : M.Shape) → shape_of (natural_of z) ≡ some u → pos (natural_of z) ≡ z
@@ -137,57 +199,69 @@ module _ (rows : List ℤ) (sound : FormPassed rows) (r : ℕ) (d : declarations
       (ap (λ (c : Bool). if_else c (pos (get_or numbers 4294967295 0)) (negsuc 0)) (sym (le-ltb 4294967295 (length numbers) (let q = w.short in omega arith))))
   field-written (link kinds) z v (inr h) x = child-written z v h.0 h.1 h.2.0 h.2.1 (x h.0 (h.1, h.2))
 
-  item-written : (p : Column) → written_field (child_row rows r p m) (item_of_row rows r p) ≡ written_for rows numbers r p
+  item-written : (p : Column) → written_field (child_row rows r p m) (item_of_row rows r p) ≡ renumbered_in numbers (is_reference (K.field_meant (entry_of s p))) (number_of rows r p)
   unfolding NewOne Refers
   item-written p = go (knows rows sound r d l k i s e p)
     where
-      go : Known rows sound r d l k i s e p → written_field (child_row rows r p m) (item_of_row rows r p) ≡ written_for rows numbers r p
+      go : Known rows sound r d l k i s e p → written_field (child_row rows r p m) (item_of_row rows r p) ≡ renumbered_in numbers (is_reference (K.field_meant (entry_of s p))) (number_of rows r p)
       go (known u a b h) =
           ap (λ (o : Option M.Shape). written_field (child_row rows r p m) (item_of at (is_reference (field_of (or_plain o) p)) (number_of rows r p))) a
           ∙ field-written (field_of u p) (number_of rows r p) (child_row rows r p m) h
           (λ t x. let q = refers-bounds rows r t p (u, a, x) in let g = q.0 in
           new-one rows sound.tree t (get_or numbers t 0) (child_row rows r p m) (is-new t (omega arith) q.1) (at-child p (is-new r d l) (u, a, x)))
-          ∙ ap (λ (o : Option M.Shape). renumbered_in numbers (is_reference (field_of (or_plain o) p)) (number_of rows r p)) (sym a)
+          ∙ ap (λ (g : Field). renumbered_in numbers (is_reference g) (number_of rows r p)) (sym b)
 
   -- the row as it stands in the new table
-  here : Laid (numbered_down rows) m (form_at rows r)
+  here : Laid (top_down rows) m (form_at rows r)
   here = stands rows r m (is-new r d l)
 
-  pub row_wrote : (out : List ℤ) → length out ≡ 4 * row_count rows → Wrote (numbered_down rows) m out (with_row rows numbers r out)
-  unfolding Laid RightRow with_row
-  row_wrote out h =
+  pub wrote : (out : List ℤ) (z a b c : ℤ) → length out ≡ 4 * row_count rows
+      → z ≡ field_at rows r 0
+      → a ≡ renumbered_in numbers (is_reference (K.field_meant s.a)) (field_at rows r 1)
+      → b ≡ renumbered_in numbers (is_reference (K.field_meant s.b)) (field_at rows r 2)
+      → c ≡ renumbered_in numbers (is_reference (K.field_meant s.c)) (field_at rows r 3)
+      → Wrote rows m out (set_four out (4 * m) z a b c)
+  unfolding Laid RightRow
+  wrote out z a b c h ez ea eb ec =
       let q = row_small in
-      let n = subst (Laid (numbered_down rows) m) (form_at-at rows r l) here in
+      let n = subst (Laid (top_down rows) m) (form_at-at rows r l) here in
       let u = right-row rows sound.form sound.tree r d l in
-      four-wrote (numbered_down rows) out m (field_at rows r 0) (written_for rows numbers r of-a) (written_for rows numbers r of-b) (written_for rows numbers r of_c) (omega arith)
-      (sym (kind-is (field_at rows r 0) u.1.0 u.1.1) ∙ sym n.0.1)
-      (sym (item-written of-a) ∙ sym n.0.2)
-      (sym (item-written of-b) ∙ sym n.0.3)
-      (sym (item-written of_c) ∙ sym n.0.4)
-
-  -- by the entries of its kind
-  pub entry-written : (p : Column) (z : ℤ) → z ≡ renumbered_in numbers (is_reference (K.field_meant (entry_of s p))) (number_of rows r p) → z ≡ written_for rows numbers r p
-  entry-written p z h = h ∙ ap (λ (t : Bool). renumbered_in numbers t (number_of rows r p)) (field-same rows sound r d l k i s e p)
+      four rows out m z a b c (omega arith)
+      (ez ∙ sym (kind-is (field_at rows r 0) u.1.0 u.1.1) ∙ sym n.0.1)
+      (ea ∙ sym (item-written of-a) ∙ sym n.0.2)
+      (eb ∙ sym (item-written of-b) ∙ sym n.0.3)
+      (ec ∙ sym (item-written of_c) ∙ sym n.0.4)
 
 -- when the declarations and all rows are written, so is the table
 pub whole : (rows : List ℤ) → FormPassed rows → (numbers : List ℕ) → Numbers rows numbers → (out : List ℤ) → length out ≡ 4 * row_count rows
-    → ((p : ℕ) → p < 4 * declarations rows → RightNumber (numbered_down rows) out p)
-    → WrittenTo (numbered_down rows) (λ q. get_or numbers q 0) (declarations rows) (row_count rows) out
-    → out ≡ numbered_down rows
+    → ((p : ℕ) → p < 4 * declarations rows → RightNumber rows out p)
+    → ((q : ℕ) → declarations rows ≤ q → q < row_count rows → (j : ℕ) → j < 4 → RightNumber rows out (4 * get_or numbers q 0 + j))
+    → out ≡ top_down rows
 unfolding RightNumber RightAt NewOne NewOnto SameCount
 whole rows sound numbers w out h f g =
-    let c = numbered_down-count rows in
+    let c = top_down-count rows in
     let s = same_count rows sound.tree in
-    let n = numbered_down-length rows in
-    ext_get_or (pos 0) out (numbered_down rows) (omega arith) each
+    let n = top_down-length rows in
+    ext_get_or (pos 0) out (top_down rows) (omega arith) each
   where
-    each : (p : ℕ) → p < length out → get_or out p (pos 0) ≡ get_or (numbered_down rows) p (pos 0)
+    each : (p : ℕ) → p < length out → get_or out p (pos 0) ≡ get_or (top_down rows) p (pos 0)
     each p l = go (dec_lt p (4 * declarations rows))
       where
-        go : Dec (p < 4 * declarations rows) → get_or out p (pos 0) ≡ get_or (numbered_down rows) p (pos 0)
+        go : Dec (p < 4 * declarations rows) → get_or out p (pos 0) ≡ get_or (top_down rows) p (pos 0)
         go (yes a) = f p a
         go (no a) =
             let t = new-onto rows sound.tree (p / 4) (omega arith) (omega arith) in
             let e = new-one rows sound.tree t.0 (get_or numbers t.0 0) (p / 4) (w.right t.0 t.2 t.3) t.1 in
             let i : 4 * get_or numbers t.0 0 + p % 4 ≡ p = omega arith in
-            subst (λ (x : ℕ). get_or out x (pos 0) ≡ get_or (numbered_down rows) x (pos 0)) i (g t.0 t.2 t.3 (p % 4) (omega arith))
+            subst (λ (x : ℕ). get_or out x (pos 0) ≡ get_or (top_down rows) x (pos 0)) i (g t.0 t.2 t.3 (p % 4) (omega arith))
+
+-- the rows below r are written
+abbrev pub WrittenTo : List ℤ → List ℕ → ℕ → List ℤ → Type 0
+WrittenTo rows numbers r out = (q : ℕ) → declarations rows ≤ q → q < r → (j : ℕ) → j < 4 → RightNumber rows out (4 * get_or numbers q 0 + j)
+
+pub written-more : (rows : List ℤ) (numbers : List ℕ) (r : ℕ) (before after : List ℤ) → WrittenTo rows numbers r before → Wrote rows (get_or numbers r 0) before after → WrittenTo rows numbers (r + 1) after
+written-more rows numbers r before after f w q d l j h = go (dec_lt q r)
+  where
+    go : Dec (q < r) → RightNumber rows after (4 * get_or numbers q 0 + j)
+    go (yes a) = w.kept (4 * get_or numbers q 0 + j) (f q d a j h)
+    go (no a) = let e : r ≡ q = omega arith in subst (λ (x : ℕ). RightNumber rows after (4 * get_or numbers x 0 + j)) e (w.given j h)

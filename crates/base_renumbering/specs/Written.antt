@@ -1,15 +1,12 @@
 -- What is written for a row.
-use Rattle.std.specs.Prelude.{List, ℕ, ◌*◌, ℤ, get_or}
-use Rattle.meaning.specs.Rows.{field_at, kind_at}
-use Rattle.meaning.specs.References.{Column, of-a, of-b, of_c, field_of, number_of}
-use Rattle.base_top_down.specs.Forms.{is_reference, shape_for}
-use Rattle.base_ordering.specs.Written.{renumbered_in, set_four}
+use Rattle.std.specs.Prelude.{Bool, ◌&&◌, List, ℕ, ◌+◌, ℤ, pos, ltb, length, get_or, set}
+use Rattle.meaning.specs.Basics.{if_else}
+use Rattle.meaning.specs.Rows.{natural_of}
 
-module _ (rows : List ℤ) (numbers : List ℕ) (r : ℕ) where
-  -- what is written for field p of row r
-  abbrev pub written_for : Column → ℤ
-  written_for p = renumbered_in numbers (is_reference (field_of (shape_for (kind_at rows r)) p)) (number_of rows r p)
+-- what is written for a field: the number of the row that it refers to, and any other number as it is
+abbrev pub renumbered_in : List ℕ → Bool → ℤ → ℤ
+renumbered_in numbers refers z = if_else (refers && ltb (natural_of z) (length numbers)) (pos (get_or numbers (natural_of z) 0)) z
 
-  -- some rows, with row r where its new number says
-  unfoldable pub with_row : List ℤ → List ℤ
-  with_row out = set_four out (4 * get_or numbers r 0) (field_at rows r 0) (written_for of-a) (written_for of-b) (written_for of_c)
+-- four numbers from place p on
+abbrev pub set_four : List ℤ → ℕ → ℤ → ℤ → ℤ → ℤ → List ℤ
+set_four l p k a b c = set (set (set (set l p k) (p + 1) a) (p + 2) b) (p + 3) c

@@ -45,15 +45,15 @@ module _ (ws : List ℕ) (s x t y : ℕ) (l : length ws ≡ 16) (hs : s < 4) (ht
   unfolding with_one
   one_holds = go (ltb x 256) refl
     where
-      word-of : x < 256 → (b : Bool) → eqb (4 * t + y / 64) here ≡ b → on (get_or (set ws here word) (4 * t + y / 64) 0) (y % 64) ≡ (eqb (4 * y + t) (4 * x + s) || holds ws t y)
-      word-of h true e = same_word h (eqb-true (4 * t + y / 64) here e)
-      word-of h false e =
+      word_of : x < 256 → (b : Bool) → eqb (4 * t + y / 64) here ≡ b → on (get_or (set ws here word) (4 * t + y / 64) 0) (y % 64) ≡ (eqb (4 * y + t) (4 * x + s) || holds ws t y)
+      word_of h true e = same_word h (eqb-true (4 * t + y / 64) here e)
+      word_of h false e =
           let n = eqb-false (4 * t + y / 64) here e in
           ap (λ (w : ℕ). on w (y % 64)) (get_or-set_other ws here (4 * t + y / 64) word 0 n)
           ∙ ap (λ (b : Bool). b || holds ws t y) (sym (ne_eqb (4 * y + t) (4 * x + s) (λ p. n (omega arith))))
 
       go : (b : Bool) → ltb x 256 ≡ b → holds (if_else b (set ws here word) ws) t y ≡ (eqb (4 * y + t) (4 * x + s) || holds ws t y)
-      go true e = word-of (ltb-true x 256 e) (eqb (4 * t + y / 64) here) refl
+      go true e = word_of (ltb-true x 256 e) (eqb (4 * t + y / 64) here) refl
       go false e = let h = ltb-false x 256 e in ap (λ (b : Bool). b || holds ws t y) (sym (ne_eqb (4 * y + t) (4 * x + s) (λ p. omega arith)))
 
 pub one-length : (ws : List ℕ) (s x : ℕ) → length (with_one ws s x) ≡ length ws

@@ -14,8 +14,8 @@ use lib.Seq.{get_or-take, take_at}
 use Rattle.meaning.specs.Basics.{if_else}
 use Rattle.meaning.specs.Rows.{natural_of, row_count, field_at, kind_at}
 use Rattle.meaning.specs.Declarations.{declares, leading, declarations, root}
-use Rattle.base_top_down.specs.Forms.{Form, absent, row, form_step, form_at, form_size, rows_from, form_of, declared, table_of, numbered_down, is_row}
-use Rattle.base_top_down.specs.Laid.{Laid, DecodedShaped, SameForm, NumberedAgain}
+use Rattle.base_top_down.specs.Forms.{Form, absent, row, form_step, form_at, form_size, rows_from, form_of, declared, table_of, top_down, is_row}
+use Rattle.base_top_down.specs.Laid.{Laid, DecodedShaped, SameForm, TopDownAgain}
 use Rattle.base_top_down.proofs.Flat.{flat-length, laid-flat, decodes, form_at-at, form_at-past}
 use Rattle.base_top_down.proofs.Each.{decoded-shaped}
 
@@ -104,25 +104,25 @@ module _ (rows : List ℤ) where
       let l = table-laid (row k a b c) in
       ends_there (row k a b c) (λ i. ap (λ (z : ℤ). eqb (natural_of z) 1 || eqb (natural_of z) 2) l.0.1 ∙ u)
 
-  pub numbered_down-length : length (numbered_down rows) ≡ 4 * (declarations rows + form_size (form_of rows))
-  unfolding numbered_down
-  numbered_down-length = table-length (form_of rows)
+  pub top_down-length : length (top_down rows) ≡ 4 * (declarations rows + form_size (form_of rows))
+  unfolding top_down
+  top_down-length = table-length (form_of rows)
 
-  pub numbered_down-count : row_count (numbered_down rows) ≡ declarations rows + form_size (form_of rows)
-  unfolding numbered_down
-  numbered_down-count = table-count (form_of rows)
+  pub top_down-count : row_count (top_down rows) ≡ declarations rows + form_size (form_of rows)
+  unfolding top_down
+  top_down-count = table-count (form_of rows)
 
-  pub declared-number : (p : ℕ) → p < 4 * declarations rows → get_or (numbered_down rows) p (pos 0) ≡ get_or rows p (pos 0)
-  unfolding numbered_down
+  pub declared-number : (p : ℕ) → p < 4 * declarations rows → get_or (top_down rows) p (pos 0) ≡ get_or rows p (pos 0)
+  unfolding top_down
   declared-number = table-number (form_of rows)
 
-  pub declared-fields : (q j : ℕ) → q < declarations rows → j < 4 → field_at (numbered_down rows) q j ≡ field_at rows q j
-  unfolding numbered_down
+  pub declared-fields : (q j : ℕ) → q < declarations rows → j < 4 → field_at (top_down rows) q j ≡ field_at rows q j
+  unfolding top_down
   declared-fields = table-fields (form_of rows)
 
-  pub numbered_down-laid : Laid (numbered_down rows) (declarations rows) (form_of rows)
-  unfolding numbered_down
-  numbered_down-laid = table-laid (form_of rows)
+  pub top_down-laid : Laid (top_down rows) (declarations rows) (form_of rows)
+  unfolding top_down
+  top_down-laid = table-laid (form_of rows)
 
   -- the form of the root, if there is one
   pub rooted : declarations rows < row_count rows → (at : ℕ → Form) × (form_of rows ≡ form_step rows (declarations rows) at)
@@ -138,8 +138,8 @@ module _ (rows : List ℤ) where
   unrooted-size h = ap form_size (unrooted h)
 
   -- so the root is the same row
-  pub same-declarations : declarations (numbered_down rows) ≡ declarations rows
-  unfolding numbered_down
+  pub same-declarations : declarations (top_down rows) ≡ declarations rows
+  unfolding top_down
   same-declarations = go (dec_lt (declarations rows) (row_count rows)) (declarations-end rows)
     where
       go : Dec (declarations rows < row_count rows) → Ends rows (row_count rows) 0 (declarations rows) → declarations (table_of rows (form_of rows)) ≡ declarations rows
@@ -152,29 +152,29 @@ module _ (rows : List ℤ) where
           ends_there (form_of rows) (λ i. absurd (omega arith))
 
 -- the form of the root stands at the root
-kept : (rows : List ℤ) → form_at (numbered_down rows) (declarations rows) ≡ form_of rows
+kept : (rows : List ℤ) → form_at (top_down rows) (declarations rows) ≡ form_of rows
 unfolding DecodedShaped form_of root
 kept rows = go (dec_lt (declarations rows) (row_count rows))
   where
-    go : Dec (declarations rows < row_count rows) → form_at (numbered_down rows) (declarations rows) ≡ form_of rows
+    go : Dec (declarations rows < row_count rows) → form_at (top_down rows) (declarations rows) ≡ form_of rows
     go (yes h) =
         let r = rooted rows h in
-        decodes (numbered_down rows) (declarations rows) (form_of rows) (numbered_down-laid rows) (decoded-shaped rows (declarations rows)) (ap is_row r.1)
+        decodes (top_down rows) (declarations rows) (form_of rows) (top_down-laid rows) (decoded-shaped rows (declarations rows)) (ap is_row r.1)
     go (no h) =
         let z = unrooted-size rows (omega arith) in
-        let c = numbered_down-count rows in
-        form_at-past (numbered_down rows) (declarations rows) (omega arith) ∙ sym (unrooted rows (omega arith))
+        let c = top_down-count rows in
+        form_at-past (top_down rows) (declarations rows) (omega arith) ∙ sym (unrooted rows (omega arith))
 
 pub same-form : SameForm
 unfolding SameForm form_of root
-same-form rows = ap (form_at (numbered_down rows)) (same-declarations rows) ∙ kept rows
+same-form rows = ap (form_at (top_down rows)) (same-declarations rows) ∙ kept rows
 
-again : (rows : List ℤ) (d : ℕ) (f : Form) → d ≡ declarations rows → f ≡ form_of rows → take (4 * d) (numbered_down rows) ++ rows_from d f ≡ numbered_down rows
-unfolding numbered_down table_of
+again : (rows : List ℤ) (d : ℕ) (f : Form) → d ≡ declarations rows → f ≡ form_of rows → take (4 * d) (top_down rows) ++ rows_from d f ≡ top_down rows
+unfolding top_down table_of
 again rows d f e i =
-    (λ j. take (4 * e j) (numbered_down rows) ++ rows_from (e j) (i j))
+    (λ j. take (4 * e j) (top_down rows) ++ rows_from (e j) (i j))
     ∙ ap (λ (l : List ℤ). l ++ rows_from (declarations rows) (form_of rows)) (take_at (declared rows) (rows_from (declarations rows) (form_of rows)) (4 * declarations rows) (declared-length rows))
 
-pub numbered_down-again : NumberedAgain
-unfolding NumberedAgain SameForm numbered_down table_of declared
-numbered_down-again rows = again rows (declarations (numbered_down rows)) (form_of (numbered_down rows)) (same-declarations rows) (same-form rows)
+pub top_down-again : TopDownAgain
+unfolding TopDownAgain SameForm top_down table_of declared
+top_down-again rows = again rows (declarations (top_down rows)) (form_of (top_down rows)) (same-declarations rows) (same-form rows)

@@ -1,13 +1,11 @@
--- Examples, computed: the run on paper with its rows in another order is numbered as on paper; the variable of a block that is declared first comes after the others.
+-- An example, computed: the run on paper with its rows in another order is numbered as on paper.
 use mathlib.Core.Path.{◌≡◌, refl}
-use mathlib.Core.List.{List, [], ◌∷◌, flatten}
+use mathlib.Core.List.{List, [], ◌∷◌}
 use lib.IntN.{ℤ, pos, negsuc}
-use Rattle.meaning.specs.Basics.{any_passes, all_below}
 use Rattle.meaning.specs.Kinds.{shapes, shape_in, shape_of}
 use Rattle.meaning.specs.Declarations.{leading, declarations, root}
 use Rattle.meaning.specs.HigherRows.{last_rows, at_row}
-use Rattle.base_top_down.specs.Forms.{is_reference, form_at, form_size, rows_from, form_of, declared, table_of, numbered_down}
-use Rattle.base_top_down.specs.TopDown.{block_variables, declared_order, place_in, is_name, renamed_field, declared_in, top_down}
+use Rattle.base_top_down.specs.Forms.{is_reference, form_at, form_size, rows_from, form_of, declared, table_of, top_down}
 
 abbrev paper : List ℤ
 paper =
@@ -47,39 +45,10 @@ shuffled =
     ∷ pos 10 ∷ pos 0 ∷ pos 0 ∷ pos 0
     ∷ pos 10 ∷ pos 5 ∷ pos 0 ∷ pos 0 ∷ []
 
-pub renumbered : numbered_down shuffled ≡ paper
-unfolding leading declarations root last_rows at_row shapes shape_in shape_of is_reference form_at form_size rows_from form_of declared table_of numbered_down
+pub renumbered : top_down shuffled ≡ paper
+unfolding leading declarations root last_rows at_row shapes shape_in shape_of is_reference form_at form_size rows_from form_of declared table_of top_down
 renumbered = refl
 
-pub unchanged : numbered_down paper ≡ paper
-unfolding leading declarations root last_rows at_row shapes shape_in shape_of is_reference form_at form_size rows_from form_of declared table_of numbered_down
+pub unchanged : top_down paper ≡ paper
+unfolding leading declarations root last_rows at_row shapes shape_in shape_of is_reference form_at form_size rows_from form_of declared table_of top_down
 unchanged = refl
-
--- a block's variable, and an input to it
-abbrev block_first : List ℤ
-block_first =
-    pos 1 ∷ pos 1 ∷ pos 0 ∷ pos 0
-    ∷ pos 2 ∷ pos 1 ∷ pos 1 ∷ pos 0
-    ∷ pos 30 ∷ pos 3 ∷ pos 0 ∷ pos 0
-    ∷ pos 40 ∷ pos 4 ∷ negsuc 0 ∷ pos 0
-    ∷ pos 35 ∷ pos 0 ∷ pos 5 ∷ pos 0
-    ∷ pos 23 ∷ pos 1 ∷ pos 6 ∷ pos 7
-    ∷ pos 10 ∷ pos 0 ∷ pos 0 ∷ pos 0
-    ∷ pos 11 ∷ pos 0 ∷ pos 8 ∷ pos 0
-    ∷ pos 10 ∷ pos 0 ∷ pos 0 ∷ pos 0 ∷ []
-
-abbrev block_last : List ℤ
-block_last =
-    pos 2 ∷ pos 1 ∷ pos 1 ∷ pos 0
-    ∷ pos 1 ∷ pos 1 ∷ pos 0 ∷ pos 0
-    ∷ pos 30 ∷ pos 3 ∷ pos 0 ∷ pos 0
-    ∷ pos 40 ∷ pos 4 ∷ negsuc 0 ∷ pos 0
-    ∷ pos 35 ∷ pos 1 ∷ pos 5 ∷ pos 0
-    ∷ pos 23 ∷ pos 0 ∷ pos 6 ∷ pos 7
-    ∷ pos 10 ∷ pos 0 ∷ pos 0 ∷ pos 0
-    ∷ pos 11 ∷ pos 1 ∷ pos 8 ∷ pos 0
-    ∷ pos 10 ∷ pos 0 ∷ pos 0 ∷ pos 0 ∷ []
-
-pub declared-after : top_down block_first ≡ block_last
-unfolding leading declarations root last_rows at_row shapes shape_in shape_of is_reference form_at form_size rows_from form_of declared table_of top_down declared_order block_variables any_passes all_below place_in is_name renamed_field declared_in flatten
-declared-after = refl

@@ -12,7 +12,7 @@ use lib.Dec.{ltb, eqb}
 use Rattle.meaning.specs.Basics.{if_else}
 use borrow.Author.Tests.{eqb-true, ne_eqb, not-true}
 use Rattle.meaning.specs.Rows.{row_count, field_at, kind_at}
-use Rattle.meaning.specs.Kinds.{Field, unused, literal_value, within, elements, capacity, operator, variable, channel, reference, link, Shape, shape, from_to, shapes, shape_in, shape_of}
+use Rattle.meaning.specs.Kinds.{Field, unused, literal_value, within, elements, capacity, operator, variable, channel, reference, link, Shape, shapes, shape_in, shape_of}
 use Rattle.meaning.specs.Declarations.{declarations}
 use Rattle.meaning.specs.Verdict.{form_fault, tree_fault}
 use Rattle.meaning.specs.References.{Column, of-a, of-b, of_c, field_of, number_of, IsTarget, IsOf}
@@ -27,11 +27,11 @@ use Rattle.base_top_down.proofs.Stages.{well-formed, well-placed}
 -- The table of kinds ------------------------------------------------------------------------------------------------------------
 
 -- a test of every shape of the table
-unfoldable pub all : (Shape → Bool) → List Shape → Bool
+all : (Shape → Bool) → List Shape → Bool
 all test [] = true
 all test (s ∷ ss) = if_else (test s) (all test ss) false
 
-pub listed : (test : Shape → Bool) (ss : List Shape) (k : ℕ) (s : Shape) → all test ss ≡ true → shape_in ss k ≡ some s → (test s ≡ true) × (k ≡ s.kind)
+listed : (test : Shape → Bool) (ss : List Shape) (k : ℕ) (s : Shape) → all test ss ≡ true → shape_in ss k ≡ some s → (test s ≡ true) × (k ≡ s.kind)
 unfolding all shape_in
 listed test [] k s e i = absurd (none-ne-some s i)
 listed test (u ∷ ss) k s e i = go (test u) refl (eqb k u.kind) refl e i (listed test ss k s)
@@ -43,22 +43,6 @@ listed test (u ∷ ss) k s e i = go (test u) refl (eqb k u.kind) refl e i (liste
     go true x true y e i f =
         let same = some-injective u s i in
         subst (λ (w : Shape). (test w ≡ true) × (k ≡ w.kind)) same (x, eqb-true k u.kind y)
-
--- a test of the fields of a shape
-abbrev some_pass : (Field → Bool) → Shape → Bool
-some_pass test s = test s.a || test s.b || test s.c
-
-none_pass : (test : Field → Bool) (s : Shape) → some_pass test s ≡ false → (p : Column) → test (field_of s p) ≡ false
-none_pass test s h of-a = (or-false (test s.a) (test s.b) (or-false (test s.a || test s.b) (test s.c) h).0).0
-none_pass test s h of-b = (or-false (test s.a) (test s.b) (or-false (test s.a || test s.b) (test s.c) h).0).1
-none_pass test s h of_c = (or-false (test s.a || test s.b) (test s.c) h).1
-
--- one that no field of a declaration passes
-pub of-declaration : (test : Field → Bool) → some_pass test (shape 1 (from_to 1 64) unused unused) ≡ false → some_pass test (shape 2 elements (from_to 0 2) capacity) ≡ false
-    → (k : ℕ) (s : Shape) → shape_of k ≡ some s → (k ≡ 1) ⊎ (k ≡ 2) → (p : Column) → test (field_of s p) ≡ false
-unfolding shape_of shape_in shapes
-of-declaration test x y k s e (inl i) = none_pass test s (subst (λ (w : Shape). some_pass test w ≡ false) (some-injective _ s (ap shape_of (sym i) ∙ e)) x)
-of-declaration test x y k s e (inr i) = none_pass test s (subst (λ (w : Shape). some_pass test w ≡ false) (some-injective _ s (ap shape_of (sym i) ∙ e)) y)
 
 -- a field whose range hangs on the role of its row
 unfoldable pub is_size : Field → Bool
@@ -79,7 +63,7 @@ sizeless s = eqb s.kind 1 || eqb s.kind 2 || not (is_size s.a || is_size s.b || 
 
 no_size : (k : ℕ) (s : Shape) → shape_of k ≡ some s → ¬ (k ≡ 1) → ¬ (k ≡ 2) → (p : Column) → is_size (field_of s p) ≡ false
 unfolding shape_of all sizeless shapes is_size
-no_size k s e n m = none_pass is_size s both
+no_size k s e n m = λ p. go (is_size s.a) (is_size s.b) (is_size s.c) refl refl refl both p
   where
     l : (sizeless s ≡ true) × (k ≡ s.kind)
     l = listed sizeless shapes k s refl e
@@ -89,6 +73,11 @@ no_size k s e n m = none_pass is_size s both
 
     both : (is_size s.a || is_size s.b || is_size s.c) ≡ false
     both = not-true (is_size s.a || is_size s.b || is_size s.c) (left (eqb s.kind 1) (eqb s.kind 2) (not (is_size s.a || is_size s.b || is_size s.c)) (ne_eqb s.kind 1 (λ i. n (l.1 ∙ i))) (ne_eqb s.kind 2 (λ i. m (l.1 ∙ i))) l.0)
+
+    go : (x y z : Bool) → is_size s.a ≡ x → is_size s.b ≡ y → is_size s.c ≡ z → (x || y || z) ≡ false → (p : Column) → is_size (field_of s p) ≡ false
+    go x y z u v w h of-a = u ∙ (or-false x y (or-false (x || y) z h).0).0
+    go x y z u v w h of-b = v ∙ (or-false x y (or-false (x || y) z h).0).1
+    go x y z u v w h of_c = w ∙ (or-false (x || y) z h).1
 
 -- a field whose range hangs on the row that field b refers to
 unfoldable pub is_operator : Field → Bool
@@ -118,8 +107,19 @@ always_refers (link kinds) = false
 
 -- declarations have no operator
 pub no-operator : (k : ℕ) (s : Shape) → shape_of k ≡ some s → (k ≡ 1) ⊎ (k ≡ 2) → (p : Column) → is_operator (field_of s p) ≡ false
-unfolding is_operator
-no-operator = of-declaration is_operator refl refl
+unfolding shape_of shape_in shapes is_operator
+no-operator k s e = go
+  where
+    to : (n : ℕ) (u : Shape) → k ≡ n → shape_of n ≡ some u → (p : Column) → is_operator (field_of u p) ≡ false → is_operator (field_of s p) ≡ false
+    to n u j h p f = subst (λ (w : Shape). is_operator (field_of w p) ≡ false) (some-injective u s (sym h ∙ ap shape_of (sym j) ∙ e)) f
+
+    go : (k ≡ 1) ⊎ (k ≡ 2) → (p : Column) → is_operator (field_of s p) ≡ false
+    go (inl i) of-a = to 1 _ i refl of-a refl
+    go (inl i) of-b = to 1 _ i refl of-b refl
+    go (inl i) of_c = to 1 _ i refl of_c refl
+    go (inr i) of-a = to 2 _ i refl of-a refl
+    go (inr i) of-b = to 2 _ i refl of-b refl
+    go (inr i) of_c = to 2 _ i refl of_c refl
 
 -- beside an operator, field b refers to a row
 operands : Shape → Bool

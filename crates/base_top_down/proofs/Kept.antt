@@ -21,7 +21,7 @@ use Rattle.meaning.proofs.Decides.{Decides, holding, failing, decides-le, decide
 use Rattle.meaning.proofs.OneTreeLaw.{declared as declares-either}
 use Rattle.meaning.proofs.Counting.{occurrences-append}
 use Rattle.meaning.proofs.ReferenceCounts.{decides-target, Never, count-all, never-zero, once-one}
-use Rattle.base_top_down.specs.Forms.{Form, absent, number, row, form_size, written_field, row_of_b, row_of_c, form_of, table_of, numbered_down}
+use Rattle.base_top_down.specs.Forms.{Form, absent, number, row, form_size, written_field, row_of_b, row_of_c, form_of, table_of, top_down}
 use Rattle.base_top_down.specs.Laid.{Laid, FormKept, TreeKept}
 use Rattle.base_top_down.specs.Good.{Child, Suited, Good, FlattenRight}
 use Rattle.base_top_down.proofs.Again.{declarations-le, table-count, table-fields, table-laid, table-declarations, rooted}
@@ -232,7 +232,7 @@ module _ (rows T : List ℤ) (same : declarations T ≡ declarations rows) (fiel
       let e : row_of_c n a b + form_size c ≡ n + suc (form_size a + form_size b + form_size c) = omega arith in
       subst (λ (x : ℕ). if_else (eqb t n) 1 0 + referred_to t x + from x t ≡ referred_to t n + from n t) e (omega arith)
 
-pub root-process : (rows : List ℤ) → tree_fault rows ≡ none → declarations rows < row_count rows → Memᴰ (kind_at rows (declarations rows)) processes
+root-process : (rows : List ℤ) → tree_fault rows ≡ none → declarations rows < row_count rows → Memᴰ (kind_at rows (declarations rows)) processes
 unfolding WellPlaced Placed
 root-process rows e l = ((well-placed rows e (declarations rows) (omega arith)).1 (omega arith, l)).1 refl
 
@@ -356,8 +356,8 @@ module _ (rows : List ℤ) (fine : form_fault rows ≡ none) (fine' : tree_fault
       let n = (well-placed rows fine' (row_count rows) (omega arith)).0 refl in
       omega arith
 
-  both : (form_fault (numbered_down rows) ≡ none) × (tree_fault (numbered_down rows) ≡ none)
-  unfolding form_of root numbered_down FlattenRight
+  both : (form_fault (top_down rows) ≡ none) × (tree_fault (top_down rows) ≡ none)
+  unfolding form_of root top_down FlattenRight
   both =
       let w = rooted rows has-root in
       let g = subst (Good rows) w.1 (good rows fine fine' (row_count rows) (declarations rows) (omega arith) (omega arith)) in

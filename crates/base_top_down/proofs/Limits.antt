@@ -13,7 +13,7 @@ use Rattle.meaning.specs.Limits.{max_cells, max_elements, max_host_channels, max
 use Rattle.meaning.specs.Refusals.{Refusal}
 use Rattle.meaning.specs.Declarations.{declarations, sum_below, is_variable, is_channel, has_role, cells_at, elements_at, host_channels_at, capacity_at}
 use Rattle.meaning.specs.Verdict.{over_limit, limit_fault}
-use Rattle.base_top_down.specs.Forms.{numbered_down}
+use Rattle.base_top_down.specs.Forms.{top_down}
 use Rattle.base_top_down.specs.Laid.{LimitKept}
 use Rattle.base_top_down.proofs.Again.{declared-fields, same-declarations}
 
@@ -29,7 +29,7 @@ same-lowest p q at (suc k) h = λ j. if_else (h at (omega arith) (omega arith) j
 
 module _ (rows : List ℤ) where
   abbrev T : List ℤ
-  T = numbered_down rows
+  T = top_down rows
 
   module _ (q : ℕ) (l : q < declarations rows) where
     field : (j : ℕ) → j < 4 → natural_at T q j ≡ natural_at rows q j
@@ -72,5 +72,5 @@ module _ (rows : List ℤ) where
 pub limit-kept : LimitKept
 unfolding LimitKept limit_fault lowest
 limit-kept rows =
-    ap (λ (n : ℕ). map {B = Refusal} (λ r. (6, r)) (lowest_from (over_limit (numbered_down rows)) 0 n)) (same-declarations rows)
-    ∙ ap (map {B = Refusal} (λ r. (6, r))) (same-lowest (over_limit (numbered_down rows)) (over_limit rows) 0 (declarations rows) (λ i a b. over rows i (omega arith)))
+    ap (λ (n : ℕ). map {B = Refusal} (λ r. (6, r)) (lowest_from (over_limit (top_down rows)) 0 n)) (same-declarations rows)
+    ∙ ap (map {B = Refusal} (λ r. (6, r))) (same-lowest (over_limit (top_down rows)) (over_limit rows) 0 (declarations rows) (λ i a b. over rows i (omega arith)))

@@ -10,7 +10,7 @@ use lib.ListN.{length, take, length-append, get_or-append}
 use lib.Seq.{take_at}
 use Rattle.meaning.specs.Rows.{natural_of, row_count, field_at}
 use Rattle.meaning.specs.Declarations.{declares, declarations, root}
-use Rattle.base_top_down.specs.Forms.{Form, row, form_at, form_size, rows_from, form_of, declared, table_of, numbered_down, Shaped}
+use Rattle.base_top_down.specs.Forms.{Form, row, form_at, form_size, rows_from, form_of, declared, table_of, top_down, Shaped}
 use Rattle.base_top_down.specs.Laid.{Laid}
 use Rattle.base_top_down.proofs.Flat.{flat-length, laid-flat, decodes}
 use Rattle.base_top_down.proofs.Again.{ends, one_end, declarations-end}
@@ -45,8 +45,8 @@ module _ (ds : List ℤ) (n k : ℕ) (a b c : Form) (sized : length ds ≡ 4 * n
   unfolding form_of root
   made-form = ap (form_at made) made-declarations ∙ decodes made n (row k a b c) made-laid shaped refl
 
-  pub made-top-down : numbered_down made ≡ made
-  unfolding numbered_down table_of declared
+  pub made-top-down : top_down made ≡ made
+  unfolding top_down table_of declared
   made-top-down = again (declarations made) (form_of made) made-declarations made-form
     where
       again : (d : ℕ) (f : Form) → d ≡ n → f ≡ row k a b c → take (4 * d) made ++ rows_from d f ≡ made

@@ -17,11 +17,11 @@ use Rattle.meaning.specs.References.{Column, of-a, of-b, of_c, field_of, number_
 use Rattle.meaning.specs.Faults.{Leads, Once, WellPlaced, Placed}
 use Rattle.meaning.proofs.ReferenceCounts.{bounds}
 use Rattle.meaning.proofs.OneTreeLaw.{declared, declares-only}
-use Rattle.base_top_down.specs.Forms.{Form, absent, number, row, is_reference, or_plain, referred, item_of, form_at, form_size, row_of_b, row_of_c, form_of, numbered_down}
+use Rattle.base_top_down.specs.Forms.{Form, absent, number, row, is_reference, or_plain, referred, item_of, form_at, form_size, row_of_b, row_of_c, form_of, top_down}
 use Rattle.base_top_down.specs.Laid.{Laid, SameCount, SizeIsCount}
 use Rattle.base_top_down.specs.New.{item_of_row, child_row, New, at-root, at-child, NewStands, NewEach, NewOne, NewOnto}
 use Rattle.base_top_down.proofs.Flat.{above, form_at-at}
-use Rattle.base_top_down.proofs.Again.{numbered_down-laid}
+use Rattle.base_top_down.proofs.Again.{top_down-laid}
 use Rattle.base_top_down.proofs.Stages.{well-placed}
 use Rattle.base_top_down.proofs.Size.{same_count, size-is-count}
 
@@ -85,10 +85,10 @@ module _ (rows : List ℤ) where
       go (yes h) = absurd (declares-only rows r p t (declared rows r h) w)
       go (no h) = let b = refers-bounds r t p w in omega arith
 
-  pub stands : (t m : ℕ) → New rows t m → Laid (numbered_down rows) m (form_at rows t)
+  pub stands : (t m : ℕ) → New rows t m → Laid (top_down rows) m (form_at rows t)
   unfolding form_of root
-  stands t m at-root = numbered_down-laid rows
-  stands t m (at-child {r} {m = i} p n w) = let b = refers-bounds r t p w in child-stands (numbered_down rows) r t i p (omega arith) (stands r i n) w
+  stands t m at-root = top_down-laid rows
+  stands t m (at-child {r} {m = i} p n w) = let b = refers-bounds r t p w in child-stands (top_down rows) r t i p (omega arith) (stands r i n) w
 
   module _ (tree : tree_fault rows ≡ none) where
     -- a row after the root is referred to by a row from the root on
@@ -116,12 +116,12 @@ module _ (rows : List ℤ) where
             (_, at-child w.1 s.1 w.2)
 
     -- it ends within the rows, and so no form has more rows than the table
-    pub number-within : (r m : ℕ) → r < row_count rows → Laid (numbered_down rows) m (form_at rows r) → m + form_size (form_at rows r) ≤ row_count rows
+    pub number-within : (r m : ℕ) → r < row_count rows → Laid (top_down rows) m (form_at rows r) → m + form_size (form_at rows r) ≤ row_count rows
     unfolding SameCount
     number-within r m l h =
-        let f = fields_laid (numbered_down rows) r m l h in
+        let f = fields_laid (top_down rows) r m l h in
         let i = f.0 in
-        let w = laid-within (numbered_down rows) m (form_at rows r) (omega arith) h in
+        let w = laid-within (top_down rows) m (form_at rows r) (omega arith) h in
         let c = same_count rows tree in
         omega arith
 

@@ -22,17 +22,17 @@ use Rattle.meaning.proofs.OneTreeLaw.{declared, declares-only}
 use Rattle.base_top_down.specs.Forms.{Form, absent, is_reference, or_plain, referred, item_of, form_at, form_size, form_of}
 use Rattle.base_top_down.specs.Laid.{SizeIsCount, SameCount}
 use Rattle.base_top_down.proofs.Flat.{above, form_at-at, form_at-past}
-use Rattle.base_top_down.proofs.Again.{declarations-le, numbered_down-count}
+use Rattle.base_top_down.proofs.Again.{declarations-le, top_down-count}
 use Rattle.base_top_down.proofs.Stages.{well-placed, no-targets-below}
 
 -- Sums --------------------------------------------------------------------------------------------------------------------------
 
 -- the sum of g over a list
-unfoldable pub sum_over : (ℕ → ℕ) → List ℕ → ℕ
+sum_over : (ℕ → ℕ) → List ℕ → ℕ
 sum_over g [] = 0
 sum_over g (u ∷ us) = g u + sum_over g us
 
-pub sum_over-append : (g : ℕ → ℕ) (l m : List ℕ) → sum_over g (l ++ m) ≡ sum_over g l + sum_over g m
+sum_over-append : (g : ℕ → ℕ) (l m : List ℕ) → sum_over g (l ++ m) ≡ sum_over g l + sum_over g m
 unfolding sum_over
 sum_over-append g [] m = omega arith
 sum_over-append g (u ∷ l) m = let h = sum_over-append g l m in omega arith
@@ -64,7 +64,7 @@ no-sum g zero = refl
 no-sum g (suc n) = let h = no-sum g n in omega arith
 
 -- over a list, and over all numbers by how often each is in it
-pub weighed : (g : ℕ → ℕ) (n : ℕ) → ((t : ℕ) → n ≤ t → g t ≡ 0) → (l : List ℕ) → sum_over g l ≡ sum_below (λ t. occurrences t l * g t) n
+weighed : (g : ℕ → ℕ) (n : ℕ) → ((t : ℕ) → n ≤ t → g t ≡ 0) → (l : List ℕ) → sum_over g l ≡ sum_below (λ t. occurrences t l * g t) n
 unfolding sum_over occurrences
 weighed g n z [] = sym (no-sum g n)
 weighed g n z (u ∷ us) = ap₂ (λ (x y : ℕ). x + y) (go (decides-lt u n)) (weighed g n z us) ∙ sym (pick g (λ t. occurrences t us) u n)
@@ -238,4 +238,4 @@ size-is-count rows e = size_is rows e
 
 pub same_count : SameCount
 unfolding SameCount
-same_count rows e = let c = numbered_down-count rows in let s = size_is rows e in let l = declarations-le rows in omega arith
+same_count rows e = let c = top_down-count rows in let s = size_is rows e in let l = declarations-le rows in omega arith

@@ -93,9 +93,10 @@ declared rows = take (4 * declarations rows) rows
 unfoldable pub table_of : List ℤ → Form → List ℤ
 table_of rows f = declared rows ++ rows_from (declarations rows) f
 
--- a table whose rows after the declarations are numbered from the top; the declarations stand as they did
-unfoldable pub numbered_down : List ℤ → List ℤ
-numbered_down rows = table_of rows (form_of rows)
+-- a table in top-down numbering. (Request 05: the variables of blocks follow the other declarations in the order of their blocks, so that `declared`
+-- becomes the declarations in that order, and names in the form are renamed by it before it is flattened.)
+unfoldable pub top_down : List ℤ → List ℤ
+top_down rows = table_of rows (form_of rows)
 
 -- the forms of all rows of a form, in that order
 unfoldable pub forms : Form → List Form

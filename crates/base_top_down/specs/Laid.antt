@@ -4,7 +4,7 @@ use Rattle.std.proofs.Math.Option.{none}
 use Rattle.meaning.specs.Rows.{row_count, field_at}
 use Rattle.meaning.specs.Declarations.{declarations}
 use Rattle.meaning.specs.Verdict.{form_fault, tree_fault, limit_fault}
-use Rattle.base_top_down.specs.Forms.{Form, absent, number, row, form_at, form_size, written_field, row_of_b, row_of_c, rows_from, form_of, numbered_down, forms, Shaped, is_row}
+use Rattle.base_top_down.specs.Forms.{Form, absent, number, row, form_at, form_size, written_field, row_of_b, row_of_c, rows_from, form_of, top_down, forms, Shaped, is_row}
 
 -- the rows of a form stand in a table from row n on
 unfoldable pub Laid : List ℤ → ℕ → Form → Type 0
@@ -33,21 +33,21 @@ DecodedShaped = (rows : List ℤ) (r : ℕ) → Shaped (form_at rows r)
 
 -- 3, of any rows
 unfoldable pub SameForm : Type 0
-SameForm = (rows : List ℤ) → form_of (numbered_down rows) ≡ form_of rows
+SameForm = (rows : List ℤ) → form_of (top_down rows) ≡ form_of rows
 
-unfoldable pub NumberedAgain : Type 0
-NumberedAgain = (rows : List ℤ) → numbered_down (numbered_down rows) ≡ numbered_down rows
+unfoldable pub TopDownAgain : Type 0
+TopDownAgain = (rows : List ℤ) → top_down (top_down rows) ≡ top_down rows
 
 -- 4
 unfoldable pub FormKept : Type 0
-FormKept = (rows : List ℤ) → form_fault rows ≡ none → tree_fault rows ≡ none → form_fault (numbered_down rows) ≡ none
+FormKept = (rows : List ℤ) → form_fault rows ≡ none → tree_fault rows ≡ none → form_fault (top_down rows) ≡ none
 
 unfoldable pub TreeKept : Type 0
-TreeKept = (rows : List ℤ) → form_fault rows ≡ none → tree_fault rows ≡ none → tree_fault (numbered_down rows) ≡ none
+TreeKept = (rows : List ℤ) → form_fault rows ≡ none → tree_fault rows ≡ none → tree_fault (top_down rows) ≡ none
 
 -- and stage 6 answers the same, for any rows
 unfoldable pub LimitKept : Type 0
-LimitKept = (rows : List ℤ) → limit_fault (numbered_down rows) ≡ limit_fault rows
+LimitKept = (rows : List ℤ) → limit_fault (top_down rows) ≡ limit_fault rows
 
 -- 5, whatever stage 4 says
 unfoldable pub SizeIsCount : Type 0
@@ -55,4 +55,4 @@ SizeIsCount = (rows : List ℤ) → tree_fault rows ≡ none → form_size (form
 
 -- so that a table and its top-down numbering have as many rows
 unfoldable pub SameCount : Type 0
-SameCount = (rows : List ℤ) → tree_fault rows ≡ none → row_count (numbered_down rows) ≡ row_count rows
+SameCount = (rows : List ℤ) → tree_fault rows ≡ none → row_count (top_down rows) ≡ row_count rows

@@ -1,12 +1,12 @@
 -- The new number of each row: where its form stands in the table that is numbered top down.
-use Rattle.std.specs.Prelude.{◌≡◌, List, ℕ, suc, ◌+◌, ◌≤◌, ◌<◌, ℤ, ltb, length, get_or}
+use Rattle.std.specs.Prelude.{◌≡◌, List, ℕ, suc, ◌+◌, ◌*◌, ◌≤◌, ◌<◌, ℤ, pos, ltb, length, get_or}
 use Rattle.std.proofs.Math.Option.{none}
 use Rattle.meaning.specs.Basics.{if_else}
 use Rattle.meaning.specs.Rows.{row_count, kind_at}
 use Rattle.meaning.specs.Declarations.{declarations}
 use Rattle.meaning.specs.Verdict.{form_fault, tree_fault}
 use Rattle.meaning.specs.References.{Column, of-a, of-b, of_c, field_of, number_of, Refers, Beneath}
-use Rattle.base_top_down.specs.Forms.{Form, absent, is_reference, shape_for, item_of, form_at, form_size, row_of_b, row_of_c, numbered_down}
+use Rattle.base_top_down.specs.Forms.{Form, absent, is_reference, shape_for, item_of, form_at, form_size, row_of_b, row_of_c, top_down}
 use Rattle.base_top_down.specs.Laid.{Laid}
 
 -- rows in which the stages 3, 4 and 5 find nothing
@@ -38,7 +38,7 @@ pub data New (rows : List ℤ) : ℕ → ℕ → Type 0 where
 
 -- its form stands there in the table that is numbered top down
 unfoldable pub NewStands : Type 0
-NewStands = (rows : List ℤ) (t m : ℕ) → New rows t m → Laid (numbered_down rows) m (form_at rows t)
+NewStands = (rows : List ℤ) (t m : ℕ) → New rows t m → Laid (top_down rows) m (form_at rows t)
 
 -- every row after the declarations has one new number, and every number from the root on is that of a row
 unfoldable pub NewEach : Type 0
@@ -65,6 +65,16 @@ pub record Numbers (rows : List ℤ) (numbers : List ℕ) : Type 0 where
   pub room : row_count rows ≤ length numbers
   pub short : length numbers ≤ 1024
   pub right : (t : ℕ) → declarations rows ≤ t → t < row_count rows → RightAt rows numbers t
+
+-- number p of some rows is that of the table that is numbered top down
+unfoldable pub RightNumber : List ℤ → List ℤ → ℕ → Type 0
+RightNumber rows out p = get_or out p (pos 0) ≡ get_or (top_down rows) p (pos 0)
+
+-- rows after row m was written: it is right, and nothing that was right is wrong
+pub record Wrote (rows : List ℤ) (m : ℕ) (before after : List ℤ) : Type 0 where
+  pub long : length after ≡ length before
+  pub kept : (p : ℕ) → RightNumber rows before p → RightNumber rows after p
+  pub given : (j : ℕ) → j < 4 → RightNumber rows after (4 * m + j)
 
 -- no two rows have one new number
 unfoldable pub NewApart : Type 0

@@ -13,7 +13,7 @@ ghost use Rattle.check_blocks.specs.Blocks.{has_block, FromRoot, NamesVariable, 
 use meaning::Verdict;
 
 // In the list of lowest blocks: a name has no block.
-pub const NONE: u16 = 1024;
+const NONE: u16 = 1024;
 
 // Whether there is a block.
 fn has_block(rows: &[i32]) -> bool
@@ -44,7 +44,7 @@ fn note_row(rows: &[i32], r: usize, blocks: &mut [u16; 1024])
 }
 
 // Notes the lowest block of each name.
-pub fn note_blocks(rows: &[i32], blocks: &mut [u16; 1024])
+fn note_blocks(rows: &[i32], blocks: &mut [u16; 1024])
     requires { FormPassed rows.now × BlocksNoted rows.now 0 blocks.old }
     ensures { BlocksNoted rows.now (row_count rows.now) blocks.new }
 {

@@ -107,9 +107,6 @@ row_in (c ∷ ds) (suc q) d j l e =
     let D = flatten (map declaration_row ds) in
     ap (λ (n : ℕ). get_or (declaration_row c ++ D) n (pos 0)) i ∙ past c D (4 * q + j) ∙ row_in ds q d j l e
 
-pub field-there : (ds : List Declaration) (rest : List ℤ) (q : ℕ) (d : Declaration) → get_elem? ds q ≡ some d → (j : ℕ) → j < 4 → field_at (flatten (map declaration_row ds) ++ rest) q j ≡ get_or (declaration_row d) j (pos 0)
-field-there ds rest q d e j l = get_or-append (flatten (map declaration_row ds)) rest (pos 0) (4 * q + j) (omega (arith, l, (entry-is ds q d d e).0, rows-sized ds)) ∙ row_in ds q d j l e
-
 module _ (ds : List Declaration) (rest : List ℤ) (counted : table.declarations (flatten (map declaration_row ds) ++ rest) ≡ length ds) where
   abbrev rows : List ℤ
   rows = flatten (map declaration_row ds) ++ rest
@@ -121,7 +118,8 @@ module _ (ds : List Declaration) (rest : List ℤ) (counted : table.declarations
   declaration-there q d e = omega (arith, counted, (entry-is ds q d d e).0)
 
   number-there : (q : ℕ) (d : Declaration) → At q d → (j : ℕ) → j < 4 → natural_at rows q j ≡ natural_of (get_or (declaration_row d) j (pos 0))
-  number-there q d e j l = ap natural_of (field-there ds rest q d e j l)
+  number-there q d e j l =
+      ap natural_of (get_or-append (flatten (map declaration_row ds)) rest (pos 0) (4 * q + j) (omega (arith, l, (entry-is ds q d d e).0, rows-sized ds)) ∙ row_in ds q d j l e)
 
   -- a declaration that serves for a use has a row that may be named so
   pub may-be-named : (q : ℕ) (d : Declaration) (s : Sort) → At q d → Serves d s → MayHold rows 0 (field_for s) (pos q)

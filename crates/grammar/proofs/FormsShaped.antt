@@ -18,12 +18,12 @@ abbrev pub Whole : Form → Type 0
 Whole f = Suits true f × Shaped f
 
 -- a list of members
-abbrev pub Members : Form → Type 0
+abbrev Members : Form → Type 0
 Members absent = Unit {0}
 Members (number z) = ⊥
 Members (row k a b c) = (k ≡ 40) × Whole (row k a b c)
 
-abbrev pub Held : Expect → Form → Type 0
+abbrev Held : Expect → Form → Type 0
 Held members f = Members f
 Held choices f = Whole f
 Held options f = Whole f
@@ -162,7 +162,7 @@ module _ (names : List (List ℕ)) where
       go true = first-members (declaration_in x) later m
       go false = (refl, (tt, ((process-whole x b h, members-whole later m), (tt, tt))))
 
-  pub either-members : (t : Bool) (f : Form) → Held (if_else t one-member members) f → Members f
+  either-members : (t : Bool) (f : Form) → Held (if_else t one-member members) f → Members f
   either-members true f h = h
   either-members false f h = h
 
@@ -195,7 +195,7 @@ module _ (names : List (List ℕ)) where
         let below = or_nothing names (expected_beneath e x) in
         line-held e x (trees_form names ps below) (later (expected_after e x)) (held_whole below (trees_form names ps below) (trees-held ps below)) (h (expected_after e x))
 
-    pub trees-held : (ts : Trees) (e : Expect) → Held e (trees_form names ts e)
+    trees-held : (ts : Trees) (e : Expect) → Held e (trees_form names ts e)
     trees-held empty e = none-held e
     trees-held (also p qs) e = tree-held p e (trees_form names qs) (trees-held qs)
 

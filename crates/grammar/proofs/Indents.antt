@@ -15,7 +15,7 @@ use Rattle.grammar.proofs.LinesSound.{split-and}
 use Rattle.grammar.proofs.TokenTable.{tokens-exact}
 
 -- no body begins with a space
-pub no_lead : (ts : List Token) (b : ℕ) (bs : List ℕ) → body_of (b ∷ bs) ≡ some ts → eqb b space ≡ false
+no_lead : (ts : List Token) (b : ℕ) (bs : List ℕ) → body_of (b ∷ bs) ≡ some ts → eqb b space ≡ false
 unfolding tokens items read
 no_lead ts b bs h = go (eqb b space) (glue token_of hang needs_space b (items token_of hang needs_space bs)) h
   where

@@ -22,26 +22,6 @@ use Rattle.grammar.specs.TextRows.{unused, bare_row, name_form, expression_form,
 use Rattle.grammar.proofs.TokensInRange.{IsElement, RangedElement, RangedLine}
 use Rattle.grammar.proofs.ExpressionsRight.{Right, row-right, unused-fits, NamedAs, UseNamed, ElementNamed, name-fits, element-kind, expression-right, element-row}
 
--- a line that starts a block declares a variable
-pub block-line : (x : OutlineLine) → starts_block x ≡ true → (z : ℤ) × ((n : List ℕ) × (x ≡ declare (variable z n)))
-block-line (declare (variable z n)) h = (z, (n, refl))
-block-line (declare (channel z n)) h = absurd (false≢true h)
-block-line (declare (source n)) h = absurd (false≢true h)
-block-line (declare (sink z n)) h = absurd (false≢true h)
-block-line skip h = absurd (false≢true h)
-block-line stop h = absurd (false≢true h)
-block-line (assign a e) h = absurd (false≢true h)
-block-line (input c a) h = absurd (false≢true h)
-block-line (output c e) h = absurd (false≢true h)
-block-line seq h = absurd (false≢true h)
-block-line par h = absurd (false≢true h)
-block-line ifs h = absurd (false≢true h)
-block-line alts h = absurd (false≢true h)
-block-line (while e) h = absurd (false≢true h)
-block-line (test e) h = absurd (false≢true h)
-block-line (guarded e c a) h = absurd (false≢true h)
-block-line (allowed e) h = absurd (false≢true h)
-
 module _ (rows : List ℤ) (names : List (List ℕ)) where
   -- Processes -----------------------------------------------------------------------------------------------------------------------
 
@@ -126,6 +106,26 @@ module _ (rows : List ℤ) (names : List (List ℕ)) where
   process-right (allowed f) e b h r g = absurd (none-ne-some e h)
 
   -- Blocks --------------------------------------------------------------------------------------------------------------------------
+
+  -- a line that starts a block declares a variable
+  block-line : (x : OutlineLine) → starts_block x ≡ true → (z : ℤ) × ((n : List ℕ) × (x ≡ declare (variable z n)))
+  block-line (declare (variable z n)) h = (z, (n, refl))
+  block-line (declare (channel z n)) h = absurd (false≢true h)
+  block-line (declare (source n)) h = absurd (false≢true h)
+  block-line (declare (sink z n)) h = absurd (false≢true h)
+  block-line skip h = absurd (false≢true h)
+  block-line stop h = absurd (false≢true h)
+  block-line (assign a e) h = absurd (false≢true h)
+  block-line (input c a) h = absurd (false≢true h)
+  block-line (output c e) h = absurd (false≢true h)
+  block-line seq h = absurd (false≢true h)
+  block-line par h = absurd (false≢true h)
+  block-line ifs h = absurd (false≢true h)
+  block-line alts h = absurd (false≢true h)
+  block-line (while e) h = absurd (false≢true h)
+  block-line (test e) h = absurd (false≢true h)
+  block-line (guarded e c a) h = absurd (false≢true h)
+  block-line (allowed e) h = absurd (false≢true h)
 
   block-right : (x : OutlineLine) (p : Form) → starts_block x ≡ true → LineRight x → Process p → Process (block_form names (declaration_in x) p)
   unfolding Suited shapes shape_in shape_of any_passes

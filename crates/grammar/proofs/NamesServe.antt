@@ -17,7 +17,7 @@ use Rattle.grammar.specs.NameClaims.{Serves, DeclaredOn, UsedAt, Misnamed, again
 use Rattle.grammar.proofs.NamesExact.{decides-serves, line-is, Finding, not-declared, declared-first, finding}
 
 module _ (ls : List Lined) (ordered : Lowest (Misnamed ls) (suc (length ls)) none) where
-  pub right-line : (i : ℕ) (y : Lined) → get_elem? ls i ≡ some y → ¬ Misnamed ls (suc i)
+  right-line : (i : ℕ) (y : Lined) → get_elem? ls i ≡ some y → ¬ Misnamed ls (suc i)
   right-line i y e = ordered (suc i) (let (l, _) = entry-is ls i y y e in omega arith)
 
   pub one-declaration : (i j : ℕ) (n : List ℕ) (c d : Declaration) (y z : ℤ) → DeclaredOn ls i n c y → DeclaredOn ls j n d z → c ≡ d

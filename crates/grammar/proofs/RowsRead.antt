@@ -13,7 +13,7 @@ use Rattle.meaning.specs.Basics.{if_else}
 use Rattle.meaning.specs.Lines.{lines}
 use Rattle.meaning.specs.Rows.{natural_of}
 use Rattle.meaning.specs.Declarations as table
-use Rattle.base_top_down.specs.Forms.{Form, row, Shaped, rows_from, form_of, numbered_down}
+use Rattle.base_top_down.specs.Forms.{Form, row, Shaped, rows_from, form_of, top_down}
 use Rattle.base_top_down.proofs.Made.{made-declarations, made-form, made-top-down}
 use Rattle.grammar.specs.Grammar.{literal, bare, at, monadic, dyadic}
 use Rattle.grammar.specs.Outline.{Declaration, variable, channel, source, sink, OutlineLine, declare, skip, stop, assign, input, output, seq, par, ifs, alts, while, test, guarded, allowed, Lined, lined, Expect, nothing, heads, process_beneath, is_declaration, expected_beneath, expected_after, may_end, node, Trees, also, Block, end, more, grown}
@@ -22,7 +22,7 @@ use Rattle.grammar.specs.TextBytes.{IsTextLine, text_line}
 use Rattle.grammar.specs.Names.{name_of}
 use Rattle.grammar.specs.TextRows.{declaration_row, declarations, process_form, or_nothing, tree_form, trees_form, lines_rows, text_lines, text_rows}
 use Rattle.grammar.specs.TextClaims.{OfGrammar}
-use Rattle.grammar.specs.RowClaims.{RowsHold}
+use Rattle.grammar.specs.RowClaims.{RowsHold, RowsTopDown}
 use Rattle.grammar.proofs.LinesComplete.{lines-complete}
 use Rattle.grammar.proofs.TextPlaces.{lines_are, by_lines}
 use Rattle.grammar.proofs.FormsShaped.{trees-whole}
@@ -137,7 +137,7 @@ module _ (text : List ℕ) (ps : Trees) (g : OfGrammar text ps) where
   rows-there ds e = rw (e, there, grown-there)
 
   abbrev Read : List Declaration → Form → List ℤ → Type 0
-  Read ds f rows = (table.declarations rows ≡ length ds) × (form_of rows ≡ f) × (numbered_down rows ≡ rows)
+  Read ds f rows = (table.declarations rows ≡ length ds) × (form_of rows ≡ f) × (top_down rows ≡ rows)
 
   read : (ds : List Declaration) → Read ds (trees_form (map name_of ds) ps heads) (flatten (map declaration_row ds) ++ rows_from (length ds) (trees_form (map name_of ds) ps heads))
   read ds =
@@ -158,6 +158,5 @@ module _ (text : List ℕ) (ps : Trees) (g : OfGrammar text ps) where
 pub rows-hold : RowsHold
 rows-hold text ps g = let (d, f, _) = all_read text ps g in (d, f)
 
--- and they are numbered from the top
-pub rows-numbered : (text : List ℕ) (ps : Trees) → OfGrammar text ps → numbered_down (text_rows text) ≡ text_rows text
-rows-numbered text ps g = (all_read text ps g).2
+pub rows-top-down : RowsTopDown
+rows-top-down text ps g = (all_read text ps g).2

@@ -9,7 +9,7 @@ use Rattle.meaning.specs.Declarations as table
 use Rattle.meaning.specs.Kinds.{processes}
 use Rattle.meaning.specs.Faults.{WellFormed}
 use Rattle.meaning.specs.Verdict.{form_fault, tree_fault}
-use Rattle.base_top_down.specs.Forms.{Form, absent, number, row, rows_from, form_of, table_of, numbered_down}
+use Rattle.base_top_down.specs.Forms.{Form, absent, number, row, rows_from, table_of, top_down}
 use Rattle.base_top_down.specs.Good.{Child, Good, FlattenRight}
 use Rattle.base_top_down.proofs.Kept.{flatten-right}
 use Rattle.grammar.specs.Outline.{Declaration, variable, OutlineLine, declare, Lined, lined, heads}
@@ -21,7 +21,7 @@ use Rattle.grammar.specs.TextRead.{ReadText}
 use Rattle.grammar.specs.RowClaims.{RowsRight}
 use Rattle.grammar.proofs.NamesExact.{its-name, name-is}
 use Rattle.grammar.proofs.TextPlaces.{by_lines}
-use Rattle.grammar.proofs.RowsRead.{there, rows-there, rows-hold, rows-numbered}
+use Rattle.grammar.proofs.RowsRead.{there, rows-there, rows-hold, rows-top-down}
 use Rattle.grammar.proofs.TextRead.{text-exactly}
 use Rattle.grammar.proofs.TokensInRange.{InRangeLine, lines-range}
 use Rattle.grammar.proofs.ExpressionsRight.{NamedAs}
@@ -51,7 +51,7 @@ module _ (text : List ℕ) (r : ReadText text) where
   names = map name_of ds
 
   -- at the place of a declared name stands its declaration
-  pub its-place : (i : ℕ) (n : List ℕ) (d : Declaration) (z : ℤ) → DeclaredOn ls i n d z → get_elem? ds (name_row names n) ≡ some d
+  its-place : (i : ℕ) (n : List ℕ) (d : Declaration) (z : ℤ) → DeclaredOn ls i n d z → get_elem? ds (name_row names n) ≡ some d
   its-place i n d z (l, e, k) =
       let o : name_of d ≡ n = sym (name-is k).0 in
       let (c, q, m) = place_of ds d (listed ls l d (entry_in ls i (lined l (declare d)) e)) in
@@ -84,26 +84,14 @@ module _ (text : List ℕ) (r : ReadText text) where
   line-right : (y : Lined) → Memᴰ y ls → LinedRight (text_rows text) names y
   line-right (lined l x) m = let (i, e) = in_entry ls (lined l x) m in (in-range (lined l x) m, uses-named i l x e, block-named i l x e)
 
-  -- its lines, and their process
-  pub whole : Text ls r.trees
-  whole = subst (λ (k : List Lined). Text k r.trees) (sym (there text r.trees r.of-grammar)) ((by_lines text r.trees).0 r.of-grammar).1.2
-
-  abbrev process : Form
-  process = trees_form names r.trees heads
-
-  process-right : Child processes process × Good (text_rows text) process
-  process-right = lines-right (text_rows text) names whole line-right
-
-  -- the names in it are right
-  pub good-form : Good (text_rows text) (form_of (text_rows text))
-  good-form = subst (Good (text_rows text)) (sym (rows-hold text r.trees r.of-grammar).1) process-right.1
-
 pub rows_right : RowsRight
-unfolding numbered_down
+unfolding top_down
 rows_right text e declared =
     let r = (text-exactly text).0.0 e in
     let g = r.of-grammar in
     let rows = text_rows text in
-    let (c, w) = process-right text r in
-    let same : table_of rows (process text r) ≡ rows = ap (table_of rows) (sym (rows-hold text r.trees g).1) ∙ rows-numbered text r.trees g in
-    subst (RightRows rows declared) same (process-rows rows declared (process text r) c w)
+    let f = trees_form (names text r) r.trees heads in
+    let whole : Text (text_lines text) r.trees = subst (λ (k : List Lined). Text k r.trees) (sym (there text r.trees g)) ((by_lines text r.trees).0 g).1.2 in
+    let (c, w) = lines-right rows (names text r) whole (line-right text r) in
+    let same : table_of rows f ≡ rows = ap (table_of rows) (sym (rows-hold text r.trees g).1) ∙ rows-top-down text r.trees g in
+    subst (RightRows rows declared) same (process-rows rows declared f c w)

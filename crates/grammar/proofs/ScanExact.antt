@@ -56,7 +56,7 @@ module _ {T : Type 0} (token_of : List ℕ → Option T) (hang : ℕ → ℕ →
   unfolding glue
   glue-hung b c cs is h = rw h refl
 
-  pub items-spell : (s bs : List ℕ) → Hangs token_of hang clash s → Part s bs → Items (s ++ bs) ≡ chunk s ∷ Items bs
+  items-spell : (s bs : List ℕ) → Hangs token_of hang clash s → Part s bs → Items (s ++ bs) ≡ chunk s ∷ Items bs
   unfolding items
   items-spell [] bs h a = absurd h
   items-spell (b ∷ []) bs h a = rw h (glue-apart b bs a)
@@ -65,14 +65,14 @@ module _ {T : Type 0} (token_of : List ℕ → Option T) (hang : ℕ → ℕ →
       let q = items-spell (c ∷ cs) bs k a in
       ap (λ (t : Bool). if_else t (gap ∷ Items ((c ∷ cs) ++ bs)) (Glue b (Items ((c ∷ cs) ++ bs)))) f ∙ ap (λ (l : List Item). Glue b l) q ∙ glue-hung b c cs (Items bs) g
 
-  pub read-chunk : (e : Edge T) (s : List ℕ) (is : List Item) → Read e (chunk s ∷ is) ≡ put_token token_of hang clash e (token_of s) (λ t. Read (token t) is)
+  read-chunk : (e : Edge T) (s : List ℕ) (is : List Item) → Read e (chunk s ∷ is) ≡ put_token token_of hang clash e (token_of s) (λ t. Read (token t) is)
   unfolding read
   read-chunk start s is = refl
   read-chunk blank s is = refl
   read-chunk (token p) s is = refl
 
   module _ (table : Table token_of hang clash) where
-    pub rendered-read : {e : Edge T} {ts : List T} {bs : List ℕ} → Spelt e ts bs → Read e (Items bs) ≡ some ts
+    rendered-read : {e : Edge T} {ts : List T} {bs : List ℕ} → Spelt e ts bs → Read e (Items bs) ≡ some ts
     unfolding read items
     rendered-read finish = refl
     rendered-read (after-token r) = rendered-read r

@@ -36,7 +36,7 @@ line_read : {bs : List ℕ} {y : Lined} → IsLine bs y → line_of_bytes bs ≡
 unfolding line_of_bytes
 line_read (is-line {l} {ts} {x} {bs} p s) = ap lined_of ((line-bytes-exact bs (written l ts)).0 p) ∙ ap (at_level l) (line-complete ts x s)
 
-pub line-from : (bs : List ℕ) (y : Lined) → line_of_bytes bs ≡ some y → IsLine bs y
+line-from : (bs : List ℕ) (y : Lined) → line_of_bytes bs ≡ some y → IsLine bs y
 unfolding line_of_bytes
 line-from bs y h = go (line_from_bytes bs) refl h
   where
@@ -104,7 +104,7 @@ lines_are done = refl
 lines_are (next {b} {y} p s) = rw (fed-read b y p, lines_are s)
 
 -- lines of the grammar, one after the other, are the lines of their bytes
-pub cut_again : {bs : List (List ℕ)} {ls : List Lined} → Spelt IsTextLine text_line bs ls → lines (flatten bs) ≡ bs
+cut_again : {bs : List (List ℕ)} {ls : List Lined} → Spelt IsTextLine text_line bs ls → lines (flatten bs) ≡ bs
 unfolding lines flatten
 cut_again done = refl
 cut_again (next {b} {bs = bs} p s) =

@@ -21,7 +21,7 @@ use Rattle.grammar.specs.LineBytes.{TokensExact}
 use Rattle.grammar.proofs.ScanExact.{scan-exact}
 use Rattle.grammar.proofs.LinesSound.{split-and}
 
-abbrev pub Hung : List ℕ → Type 0
+abbrev Hung : List ℕ → Type 0
 Hung s = Hangs token_of hang needs_space s
 
 no-space : (b : ℕ) → is_word_byte b ≡ true → eqb b space ≡ false
@@ -36,13 +36,13 @@ unfolding all_word_bytes
 word-hung b [] h g = no-space b h
 word-hung b (c ∷ cs) h g = let (u, v) = split-and (is_word_byte c) (all_word_bytes cs) g in (no-space b h, rw (u, h) refl, word-hung c cs u v)
 
-pub letter-word : (b : ℕ) → is_letter b ≡ true → is_word_byte b ≡ true
+letter-word : (b : ℕ) → is_letter b ≡ true → is_word_byte b ≡ true
 letter-word b h = ap (λ (t : Bool). is_digit b || (t || eqb b 95)) h ∙ or-true (is_digit b)
 
-pub digit-word : (b : ℕ) → is_digit b ≡ true → is_word_byte b ≡ true
+digit-word : (b : ℕ) → is_digit b ≡ true → is_word_byte b ≡ true
 digit-word b h = ap (λ (t : Bool). t || (is_letter b || eqb b 95)) h
 
-pub digits-words : (n v : ℕ) (bs : List ℕ) → digits_value n bs ≡ some v → all_word_bytes bs ≡ true
+digits-words : (n v : ℕ) (bs : List ℕ) → digits_value n bs ≡ some v → all_word_bytes bs ≡ true
 unfolding digits_value all_word_bytes
 digits-words n v [] h = refl
 digits-words n v (b ∷ bs) h =
@@ -50,7 +50,7 @@ digits-words n v (b ∷ bs) h =
     ap (λ (t : Bool). t && all_word_bytes bs) (digit-word b u) ∙ digits-words (n * 10 + (b - digit0)) v bs k
 
 -- a digit, and then digits
-abbrev pub Digits : List ℕ → Type 0
+abbrev Digits : List ℕ → Type 0
 Digits [] = ⊥
 Digits (b ∷ bs) = (is_digit b ≡ true) × (all_word_bytes bs ≡ true)
 
@@ -60,7 +60,7 @@ first-digit n v b bs h =
     let (u, k) = let_through (is_digit b) (digits_value (n * 10 + (b - digit0)) bs) v h in
     (u, digits-words (n * 10 + (b - digit0)) v bs k)
 
-pub natural-digits : (s : List ℕ) (v : ℕ) → natural s ≡ some v → Digits s
+natural-digits : (s : List ℕ) (v : ℕ) → natural s ≡ some v → Digits s
 unfolding natural
 natural-digits [] v h = absurd (none-ne-some v h)
 natural-digits (b ∷ []) v h = first-digit 0 v b [] h
@@ -118,7 +118,7 @@ unfolding is_word
 is-word-hung [] h = absurd (false≢true h)
 is-word-hung (b ∷ bs) h = let (u, v) = split-and (is_letter b) (all_word_bytes bs) h in word-hung b bs (letter-word b u) v
 
-pub token-hung : (s : List ℕ) (t : Token) → token_of s ≡ some t → Hung s
+token-hung : (s : List ℕ) (t : Token) → token_of s ≡ some t → Hung s
 unfolding token_of or_number
 token-hung s t h = go (is_word s) refl h
   where
@@ -131,7 +131,7 @@ token-hung s t h = go (is_word s) refl h
     go true e h = is-word-hung s e
     go false e h = other (token_spelt symbols s) (numerals.number s) refl refl h
 
-pub table : Table token_of hang needs_space
+table : Table token_of hang needs_space
 table = record { hangs = token-hung; parts = λ b. refl }
 
 pub tokens-exact : TokensExact

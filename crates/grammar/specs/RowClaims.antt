@@ -1,11 +1,10 @@
--- What is claimed of the rows that a text is read to: its declarations and its process stand in them, they are in top-down form, and they are a program.
+-- What is claimed of the rows that a text is read to: its declarations and its process stand in them, they are in top-down numbering, and they are a program.
 use Rattle.std.specs.Prelude.{◌≡◌, List, map, ℕ, ◌<◌, length}
 use Rattle.std.proofs.Math.Option.{none}
 use Rattle.meaning.specs.Declarations as table
 use Rattle.meaning.specs.Faults.{WellFormed}
 use Rattle.meaning.specs.Verdict.{form_fault, tree_fault}
-use Rattle.base_top_down.specs.Forms.{form_of}
-use Rattle.base_top_down.specs.TopDown.{top_down}
+use Rattle.base_top_down.specs.Forms.{form_of, top_down}
 use Rattle.grammar.specs.Outline.{heads, Trees}
 use Rattle.grammar.specs.Names.{name_of}
 use Rattle.grammar.specs.TextRows.{declarations, trees_form, text_lines, text_rows}
@@ -18,10 +17,9 @@ RowsHold = (text : List ℕ) (ps : Trees) → OfGrammar text ps
     → let ds = declarations (text_lines text) in
     (table.declarations (text_rows text) ≡ length ds) × (form_of (text_rows text) ≡ trees_form (map name_of ds) ps heads)
 
--- "Rows are numbered from the top, each row before the rows of its a, b and c in turn", and declarations of blocks "follow the others in the order of their blocks":
--- the rows of a text that is read are in top-down form, whatever the sizes in it
+-- "Rows are numbered from the top, each row before the rows of its a, b and c in turn"
 abbrev pub RowsTopDown : Type 0
-RowsTopDown = (text : List ℕ) → text_fault text ≡ none → top_down (text_rows text) ≡ text_rows text
+RowsTopDown = (text : List ℕ) (ps : Trees) → OfGrammar text ps → top_down (text_rows text) ≡ text_rows text
 
 -- "a text that is read" makes a program: if its declarations are right, the stages 4 and 5 find nothing
 abbrev pub RowsRight : Type 0

@@ -2,4 +2,3 @@ pub mod Packing
 pub mod PackingClaims
 pub mod Exports
 pub mod RowsLent
-pub mod TextLent

@@ -10,8 +10,6 @@ use Rattle.meaning.specs.declared.Verdict.TheVariants.{Accepted, Rejected}
 use Rattle.meaning.specs.declared.Checked.{Checked}
 use Rattle.read_text.specs.declared.TextRead.{TextRead}
 use Rattle.read_text.specs.declared.TextRead.TheVariants as read
-use Rattle.call_writing.specs.declared.TextWritten.{TextWritten}
-use Rattle.call_writing.specs.declared.TextWritten.TheVariants as write
 
 -- an outcome's number
 abbrev pub outcome_number : Outcome → ℕ
@@ -33,11 +31,6 @@ checked_number c = verdict_number c.verdict + 4294967296 * c.pairs
 abbrev pub read_number : TextRead → ℕ
 read_number (read.Rows n) = 65536 * n
 read_number (read.Refused n p) = n + 65536 * p
-
--- what writing a text comes to: 0 with how many bytes it has, or a refusal's number with its place
-abbrev pub written_number : TextWritten → ℕ
-written_number (write.Written n) = 65536 * n
-written_number (write.Refused n p) = n + 65536 * p
 
 -- an answer: a refusal's number with its place, or an outcome with its steps and, by 2 to the 40, the ready steps
 abbrev pub answer_number : Answer → ℕ

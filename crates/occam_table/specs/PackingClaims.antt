@@ -1,7 +1,6 @@
 -- One number, one answer, as types: what a C caller may conclude from the number of an exported function.
 use Rattle.std.specs.Prelude.{◌≡◌, List, ℕ, ◌≤◌, ℤ}
 use Rattle.meaning.specs.Buffers.{Buffers}
-use Rattle.meaning.specs.Stages.{Table}
 use Rattle.meaning.specs.Answers.{Task, check, check_bytes, verdict_of, check_counted, check_bytes_counted, reply, reply_to_bytes}
 use Rattle.meaning.specs.Trace.{TraceLists, reply_traced, reply_to_bytes_traced}
 use Rattle.meaning.specs.declared.Answer.{Answer}
@@ -13,10 +12,7 @@ use Rattle.grammar.specs.TextCalls.{check_text, reply_to_text}
 use Rattle.read_text.specs.Reading.{text_read}
 use Rattle.read_text.specs.declared.TextRead.{TextRead}
 use Rattle.read_text.specs.declared.TextRead.TheVariants as read
-use Rattle.call_writing.specs.Writing.{text_written}
-use Rattle.call_writing.specs.declared.TextWritten.{TextWritten}
-use Rattle.call_writing.specs.declared.TextWritten.TheVariants as write
-use Rattle.occam_table.specs.Packing.{verdict_number, checked_number, read_number, written_number, answer_number}
+use Rattle.occam_table.specs.Packing.{verdict_number, checked_number, read_number, answer_number}
 
 -- the answers that can be given: a run of 65,536 steps at most with 1,024 ready at most, or one of the numbered refusals, 1 to 14
 abbrev pub PossibleAnswer : Answer → Type 0
@@ -32,11 +28,6 @@ PossibleVerdict (Rejected number place) = (2 ≤ number) × (number ≤ 14)
 abbrev pub PossibleRead : TextRead → Type 0
 PossibleRead (read.Rows n) = n ≤ 1024
 PossibleRead (read.Refused number place) = (1 ≤ number) × (number ≤ 14)
-
--- what writing a text can come to: 32,768 bytes at most, or one of the refusals
-abbrev pub PossibleWritten : TextWritten → Type 0
-PossibleWritten (write.Written n) = n ≤ 32768
-PossibleWritten (write.Refused number place) = (1 ≤ number) × (number ≤ 14)
 
 -- with a count: the place of a refusal is at most 1,026
 abbrev pub PlaceWithin : Verdict → Type 0
@@ -59,9 +50,6 @@ ChecksTold = (c d : Checked) → PossibleChecked c → PossibleChecked d → che
 abbrev pub ReadsTold : Type 0
 ReadsTold = (r s : TextRead) → PossibleRead r → PossibleRead s → read_number r ≡ read_number s → r ≡ s
 
-abbrev pub WritesTold : Type 0
-WritesTold = (r s : TextWritten) → PossibleWritten r → PossibleWritten s → written_number r ≡ written_number s → r ≡ s
-
 -- every call, traced or not, and every check, counted or not, gives such a one
 abbrev pub CallsPossible : Type 0
 CallsPossible = ((t : Task) (b : Buffers) → PossibleAnswer (reply t b).answer)
@@ -82,7 +70,3 @@ abbrev pub TextsPossible : Type 0
 TextsPossible = ((text : List ℕ) → PossibleVerdict (verdict_of (check_text text)))
     × ((text sheet choices : List ℕ) (budget : ℕ) (b : Buffers) → PossibleAnswer (reply_to_text text sheet choices budget b).answer)
     × ((text : List ℕ) (rows : List ℤ) → PossibleRead (text_read text rows).0)
-
--- and every text that is written
-abbrev pub WritesPossible : Type 0
-WritesPossible = (t : Table) (old : List ℕ) → PossibleWritten (text_written t old).0

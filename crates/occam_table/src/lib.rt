@@ -1,9 +1,8 @@
 // The public entries, and the exported functions: a table's verdict, alone or with the count of pairs compared, a run's answer with what it leaves in the lent buffers, a table's rows, the same of a
-// text, the text of a table, and the strip of an output channel. A slice is a pointer and a length.
+// text, and the strip of an output channel. A slice is a pointer and a length.
 #![tactic(auto)]
 
 ghost use Rattle.std.specs.Prelude.{◌≡◌};
-ghost use Rattle.meaning.specs.Stages.{of_numbers, of_bytes};
 ghost use Rattle.meaning.specs.Answers.{check, check_bytes, verdict_of, check_counted, check_bytes_counted, reply, reply_to_bytes};
 ghost use Rattle.grammar.specs.TextCalls.{check_text, reply_to_text};
 ghost use Rattle.meaning.specs.Trace.{reply_traced, reply_to_bytes_traced};
@@ -12,16 +11,14 @@ ghost use Rattle.write_buffers.specs.Lending.{lent_task, lent_buffers, left_buff
 ghost use Rattle.occam_table.specs.Packing.{verdict_number, checked_number};
 ghost use Rattle.occam_table.specs.Exports.{packed, packed_traced, strip_number};
 ghost use Rattle.occam_table.specs.RowsLent.{rows_lent, read_lent};
-ghost use Rattle.occam_table.specs.TextLent.{written_lent};
 
 mod packing; // packing.rt: answers as one number
 
 use read_table::TableRead;
 
-// The public entries of Rattle callers: the verdict, alone or with its count, the run, untraced and traced, the same of a text and its rows, a table's text, the strip of a host channel and its marks.
+// The public entries of Rattle callers: the verdict, alone or with its count, the run, untraced and traced, the same of a text and its rows, the strip of a host channel and its marks.
 pub use call_table::{run_rows, run_rows_traced, run_table, run_table_traced};
 pub use call_texts::{check_text, run_text};
-pub use call_writing::{write_table, write_text};
 pub use check_verdict::{check_rows, check_rows_counted, check_table, check_table_counted};
 pub use read_text::read_text;
 pub use write_strips::{strip, strip_marks};
@@ -262,22 +259,6 @@ pub extern "C" fn occam_run_text(
         counts,
         output_marks,
     ))
-}
-
-// The text of rows lent as numbers, at the start of a lent buffer: how many bytes it has, or the refusal.
-#[unsafe(no_mangle)]
-pub extern "C" fn occam_write_text(rows: &[i32], out: &mut [u8]) -> u64
-    ensures { (result, out.new) ≡ written_lent (of_numbers rows.now) out.old }
-{
-    packing::written_number(call_writing::write_text(rows, out))
-}
-
-// The text of a table's bytes.
-#[unsafe(no_mangle)]
-pub extern "C" fn occam_write_table(table: &[u8], out: &mut [u8]) -> u64
-    ensures { (result, out.new) ≡ written_lent (of_bytes table.now) out.old }
-{
-    packing::written_number(call_writing::write_table(table, out))
 }
 
 // Where the strip of an output channel begins, in the output numbers as in their marks, and its capacity.

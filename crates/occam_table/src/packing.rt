@@ -1,9 +1,8 @@
 // Answers as one number.
 ghost use Rattle.std.specs.Prelude.{◌≡◌};
-ghost use Rattle.occam_table.specs.Packing.{outcome_number, verdict_number, checked_number, read_number, written_number, answer_number};
-ghost use Rattle.occam_table.specs.PackingClaims.{PossibleChecked, PossibleRead, PossibleWritten, PossibleAnswer};
+ghost use Rattle.occam_table.specs.Packing.{outcome_number, verdict_number, checked_number, read_number, answer_number};
+ghost use Rattle.occam_table.specs.PackingClaims.{PossibleChecked, PossibleRead, PossibleAnswer};
 
-use call_writing::TextWritten;
 use meaning::{Answer, Checked, Outcome, Verdict};
 use read_text::TextRead;
 
@@ -34,17 +33,6 @@ pub fn read_number(r: TextRead) -> u64
     match r {
         TextRead::Rows(count) => 65536 * (count as u64),
         TextRead::Refused(number, place) => number as u64 + 65536 * (place as u64),
-    }
-}
-
-// What writing a text comes to: how many bytes it has, or the refusal's number with its place.
-pub fn written_number(r: TextWritten) -> u64
-    requires { PossibleWritten r }
-    ensures { result ≡ written_number r }
-{
-    match r {
-        TextWritten::Written(length) => 65536 * (length as u64),
-        TextWritten::Refused(number, place) => number as u64 + 65536 * (place as u64),
     }
 }
 

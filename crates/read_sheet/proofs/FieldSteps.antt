@@ -30,9 +30,9 @@ not-number : (o : Option ℤ) → parsed_of o ≡ Malformed → o ≡ none
 not-number none e = refl
 not-number (some z) e = absurd (let c : ◌≡◌ {A = ℕ} 0 1 = cc in omega arith)
 
-is-number : (o : Option ℤ) (z : ℤ) → parsed_of o ≡ Number z → o ≡ some z
-is-number none z e = absurd (let c : ◌≡◌ {A = ℕ} 0 1 = cc in omega arith)
-is-number (some y) z e = let same : y ≡ z = cc in ap some same
+is_number : (o : Option ℤ) (z : ℤ) → parsed_of o ≡ Number z → o ≡ some z
+is_number none z e = absurd (let c : ◌≡◌ {A = ℕ} 0 1 = cc in omega arith)
+is_number (some y) z e = let same : y ≡ z = cc in ap some same
 
 module _ (sheet : List ℕ) (at stop end : ℕ) (e : end ≡ at + field_size (drop at sheet)) where
   there : drop (field_size (drop at sheet)) (drop at sheet) ≡ drop end sheet
@@ -71,4 +71,4 @@ module _ (sheet : List ℕ) (at stop end : ℕ) (e : end ≡ at + field_size (dr
       field-misread n i = field-filled n ∙ ap (λ (o : Option ℤ). field_as (map some o) (end + 1)) (not-number (number (take (end - at) (drop at sheet))) i)
 
       pub field-read : (at ≡ end → ⊥) → (z : ℤ) → parsed_of (number (take (end - at) (drop at sheet))) ≡ Number z → reading_field stop (drop at sheet) at ≡ field_as (some (some z)) (end + 1)
-      field-read n z i = field-filled n ∙ ap (λ (o : Option ℤ). field_as (map some o) (end + 1)) (is-number (number (take (end - at) (drop at sheet))) z i)
+      field-read n z i = field-filled n ∙ ap (λ (o : Option ℤ). field_as (map some o) (end + 1)) (is_number (number (take (end - at) (drop at sheet))) z i)

@@ -6,7 +6,7 @@ mod chunks; // chunks.rt: which bytes hang together
 mod table; // table.rt: the words and symbols
 mod tokens; // tokens.rt: the token that bytes are
 
-pub use chunks::{chunk_end, hang, is_word_byte};
+pub use chunks::{chunk_end, is_word_byte};
 pub use tokens::token_of;
 
 // A token as two numbers: its sort, and what the sort does not say of it.

@@ -2,8 +2,7 @@
 //!
 //! `cargo run --offline --release -p bench` prints one table, `bench pairs` its lines about the count of
 //! pairs compared (request 03), `bench texts` those about the reading of the largest texts (request 02),
-//! `bench written` those about their tables written back (request 04), `bench largest` its last lines: the
-//! largest sheets. The other words are
+//! `bench largest` its last lines: the largest sheets. The other words are
 //! for counts of instructions (`rust/bench/instructions`): `bench once SHEET SIDE BUDGET` makes one
 //! call on a sheet that `bench sheets` lists, `bench grown PART NUMBER SIDE BUDGET` one on a sheet with
 //! so many of a part that `bench growth` lists, and `bench calls NUMBER SIDE` so many on a table of one
@@ -15,7 +14,7 @@ mod tree;
 
 use occam_table::{calls, Buffers};
 use reference::{
-    answer_bytes, check_bytes, check_bytes_counted, read_text, Answer, Source, BUFFER_LENGTHS,
+    answer_bytes, check_bytes, check_bytes_counted, read_text, Answer, BUFFER_LENGTHS,
 };
 use sheets::Sheet;
 use std::hint::black_box;
@@ -55,10 +54,6 @@ fn main() {
             print_headings();
             print_texts();
         }
-        ["written"] => {
-            print_headings();
-            print_written();
-        }
         ["largest"] => print_largest(),
         ["sheets"] => print_sheets(),
         ["growth"] => print_growth(),
@@ -75,7 +70,7 @@ fn main() {
         }
         _ => {
             eprintln!(
-                "usage: bench | bench pairs | bench texts | bench written | bench largest | bench sheets | bench growth | bench once SHEET SIDE BUDGET | \
+                "usage: bench | bench pairs | bench texts | bench largest | bench sheets | bench growth | bench once SHEET SIDE BUDGET | \
                  bench grown PART NUMBER SIDE BUDGET | bench calls NUMBER SIDE"
             );
             std::process::exit(2);
@@ -138,21 +133,6 @@ fn read(side: Side, text: &[u8], rows: &mut [i32]) -> usize {
     }
 }
 
-/// Writes the text of rows; tells how many bytes it has, or 0 if they are refused.
-fn write(side: Side, rows: &[i32], out: &mut [u8]) -> usize {
-    let rows = black_box(rows);
-    match side {
-        Side::Proved => match calls::write_text(rows, out) {
-            packed if packed as u8 == 0 => (packed >> 16) as usize,
-            _ => 0,
-        },
-        Side::Separate => {
-            let text = black_box(Source::Numbers(rows).written(out.len()));
-            text.map_or(0, |text| text.len())
-        }
-    }
-}
-
 /// The least and the middle of some times, in microseconds.
 struct Times {
     least: f64,
@@ -187,7 +167,6 @@ fn print_times() {
     }
     print_pairs();
     print_texts();
-    print_written();
     for sheet in sheets::runs() {
         print_runs(&sheet, ROUNDS);
     }
@@ -218,26 +197,6 @@ fn print_texts() {
             "{}",
             columns(&format!("read: {name}"), count, text.len(), 0, &taken)
         );
-    }
-}
-
-/// Prints the times of writing the tables of the largest texts back; the column of bytes has those
-/// of the text that is written.
-fn print_written() {
-    let mut rows = vec![0; 4 * occam_table::ROWS];
-    let mut out = vec![0; occam_table::TEXT_BYTES];
-    for (name, text) in sheets::texts() {
-        let count = read(Side::Proved, text.as_bytes(), &mut rows);
-        let table = &rows[..4 * count];
-        let bytes = write(Side::Separate, table, &mut out);
-        if bytes > 0 {
-            let writing = |side| assert_eq!(write(side, table, &mut out), bytes);
-            let taken = times(writing, CHECKS, ROUNDS);
-            println!(
-                "{}",
-                columns(&format!("write: {name}"), count, bytes, 0, &taken)
-            );
-        }
     }
 }
 

@@ -9,7 +9,6 @@ pub mod random;
 mod texts;
 mod traces;
 pub mod trials;
-mod written;
 
 pub use beginnings::{compare_beginnings, Ahead};
 use checks::{compare_checks_of_bytes, compare_checks_of_rows};
@@ -20,7 +19,6 @@ use reference::table::rows_of_bytes;
 use reference::{answer_bytes, Answer, Ran, Source, BUFFER_LENGTHS, TRACE_LENGTH};
 pub use texts::compare_text;
 pub use traces::compare_traces;
-pub use written::{compare_written_bytes, compare_written_rows};
 
 /// What one comparison is given.
 #[derive(Clone, Debug)]
@@ -57,10 +55,7 @@ pub fn compare(given: &Given, machine: &mut Machine) -> Result<Answer, String> {
     let answer = compare_bytes(given)?;
     let rows = compare_rows_read(given)?;
     compare_strips(&rows, &answer)?;
-    let numbers = given.numbers.as_ref().unwrap_or(&rows);
-    compare_numbers(given, numbers)?;
-    compare_written_bytes(&given.table)?;
-    compare_written_rows(numbers)?;
+    compare_numbers(given, given.numbers.as_ref().unwrap_or(&rows))?;
     compare_binding(given, machine)?;
     compare_beginnings(given, &answer, machine)?;
     Ok(answer)

@@ -62,7 +62,7 @@ pub fn compare_asked<I: Iterator<Item = Given>>(
 }
 
 /// A number from the surroundings.
-pub fn asked(name: &str, otherwise: u64) -> u64 {
+fn asked(name: &str, otherwise: u64) -> u64 {
     let given = std::env::var(name).ok();
     given.map_or(otherwise, |text| text.parse().expect("a whole number"))
 }

@@ -5,9 +5,9 @@
 
 mod tables;
 
-use fuzz::{compare, compare_text, compare_written_bytes, compare_written_rows, Given};
+use fuzz::{compare, compare_text, Given};
 use occam_table::{calls, check_rows_counted, check_table_counted};
-use occam_table::{Buffers, Checked, Machine, Refusal, STACK, TEXT_BYTES};
+use occam_table::{Buffers, Checked, Machine, Refusal, STACK};
 use reference::generate::occam::largest::{largest_read, largest_refused, Named};
 use std::process::{Command, Stdio};
 use std::thread;
@@ -248,81 +248,6 @@ fn the_largest_texts_that_are_read() {
 #[test]
 fn the_largest_texts_that_are_refused() {
     answer_texts(largest_refused());
-}
-
-/// Writes each of these tables within the stack of a call, from bytes and from rows; then the comparison,
-/// with room for the separate program. Tells how many have a text that is not too long.
-fn written(tables: Vec<Vec<[i32; 4]>>) -> usize {
-    let mut count = 0;
-    for rows in tables {
-        let table = bytes(&rows);
-        let packed = within(stack(), {
-            let (rows, table) = (rows.clone(), table.clone());
-            move || {
-                let mut out = vec![0; TEXT_BYTES];
-                let of_rows = calls::write_text(rows.as_flattened(), &mut out);
-                [calls::write_table(&table, &mut out), of_rows]
-            }
-        });
-        assert_eq!(packed[0], packed[1]);
-        let compared = within(65_536, move || {
-            let of_bytes = compare_written_bytes(&table)?;
-            compare_written_rows(rows.as_flattened())?;
-            Ok::<_, String>(of_bytes)
-        });
-        let text = compared.expect("equal texts");
-        count += usize::from(text.is_some());
-    }
-    count
-}
-
-#[test]
-fn deep_processes_written() {
-    let tables = vec![
-        nested(30),
-        nested(31),
-        deep_ifs(),
-        deep_alts(),
-        deep_loops(),
-        deep_pars_in_a_loop(),
-        deep_blocks_in_a_loop(),
-        nested_pars(),
-    ];
-    assert_eq!(written(tables), 0, "two spaces for each level are too much");
-}
-
-#[test]
-fn deep_expressions_written() {
-    let tables = vec![
-        deep_expression(),
-        deep_sum(true),
-        deep_sum(false),
-        deep_subscript(),
-        deep_constant(),
-        deep_given(),
-    ];
-    assert_eq!(written(tables), 6);
-}
-
-#[test]
-fn wide_tables_written() {
-    let tables = vec![
-        skips(511),
-        wide_in_a_loop(30),
-        wide_in_a_loop(31),
-        blocks_of_all_cells(),
-        absences_everywhere(),
-        largest(),
-    ];
-    assert_eq!(written(tables), 6);
-}
-
-#[test]
-fn the_largest_texts_that_are_read_written() {
-    let texts = largest_read().into_iter();
-    let tables = texts.filter_map(|(_, text)| occam_table::read_text(text.as_bytes()).ok());
-    let tables: Vec<Vec<[i32; 4]>> = tables.collect();
-    assert!(tables.len() > 5 && written(tables) > 2);
 }
 
 /// The names of the tests above.

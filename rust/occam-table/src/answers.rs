@@ -166,9 +166,8 @@ pub(crate) fn checked(packed: u64) -> Checked {
     }
 }
 
-/// The length that a packed answer tells, or its refusal: how many rows a text was read to, or how
-/// many bytes a table was written as.
-pub(crate) fn length(packed: u64) -> Result<usize, Refusal> {
+/// How many rows a packed reading of a text tells, or its refusal.
+pub(crate) fn rows_read(packed: u64) -> Result<usize, Refusal> {
     match refusal(packed) {
         Some(refusal) => Err(refusal),
         None => Ok(middle(packed) as usize),
@@ -203,7 +202,7 @@ fn refusal(packed: u64) -> Option<Refusal> {
     (number != 0).then_some(Refusal { number, place })
 }
 
-/// The 24 bits of a packed answer from bit 16 on: a refusal's place, the steps, or a length.
+/// The 24 bits of a packed answer from bit 16 on: a refusal's place, the steps, or the rows read.
 fn middle(packed: u64) -> u32 {
     (packed >> 16) as u32 & 0xFF_FFFF
 }
@@ -232,14 +231,8 @@ mod tests {
         assert_eq!(verdict(0), Ok(()));
         assert_eq!(verdict(4 + 65_536 * 12), Err(refused));
         assert_eq!(answer(4 + 65_536 * 12), Err(refused));
-        assert_eq!(length(65_536 * 1_024), Ok(1_024));
-        assert_eq!(length(65_536 * 32_768), Ok(32_768));
-        let too_long = Refusal {
-            number: 1,
-            place: 0,
-        };
-        assert_eq!(length(1), Err(too_long));
-        assert_eq!(length(4 + 65_536 * 12), Err(refused));
+        assert_eq!(rows_read(65_536 * 1_024), Ok(1_024));
+        assert_eq!(rows_read(4 + 65_536 * 12), Err(refused));
         let of = |verdict, pairs| Checked { verdict, pairs };
         assert_eq!(checked(390_915 << 32), of(Ok(()), 390_915));
         let clash = 4 + 65_536 * 12 + (7 << 32);

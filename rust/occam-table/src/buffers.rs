@@ -8,8 +8,6 @@ pub const CELLS: usize = 256;
 pub const HOST_CHANNELS: usize = 8;
 /// Most positions in all strips together.
 pub const CAPACITIES: usize = 1_024;
-/// Most bytes of a text.
-pub const TEXT_BYTES: usize = 32_768;
 /// Greatest budget.
 pub const BUDGET: u32 = 65_536;
 

@@ -64,18 +64,6 @@ mod exported {
             rows: *mut i32,
             rows_length: usize,
         ) -> u64;
-        pub fn occam_write_text(
-            rows: *const i32,
-            rows_length: usize,
-            out: *mut u8,
-            out_length: usize,
-        ) -> u64;
-        pub fn occam_write_table(
-            table: *const u8,
-            table_length: usize,
-            out: *mut u8,
-            out_length: usize,
-        ) -> u64;
         pub fn occam_strip(rows: *const i32, rows_length: usize, channel: usize) -> u64;
     }
 }
@@ -216,20 +204,6 @@ pub fn check_text(text: &[u8]) -> u64 {
 /// The packed answer to a text; a run leaves its state in what is lent.
 pub fn run_text(text: &[u8], sheet: &[u8], choices: &[u16], budget: u32, lent: Lent) -> u64 {
     call_run!(occam_run_text(text, (sheet, choices, budget), lent))
-}
-
-/// The packed writing of rows lent as numbers: their text at the start of `out`, all past it untouched,
-/// and 65,536 times its length; or a refusal, which writes nothing. A text of more than 32,768 bytes, or
-/// longer than `out`, is refusal 1, after all that the rows are refused for.
-pub fn write_text(rows: &[i32], out: &mut [u8]) -> u64 {
-    // SAFETY: both pointers come from slices, with their lengths; `out` is borrowed alone.
-    unsafe { exported::occam_write_text(rows.as_ptr(), rows.len(), out.as_mut_ptr(), out.len()) }
-}
-
-/// The packed writing of a table's bytes, as [`write_text`] gives it.
-pub fn write_table(table: &[u8], out: &mut [u8]) -> u64 {
-    // SAFETY: both pointers come from slices, with their lengths; `out` is borrowed alone.
-    unsafe { exported::occam_write_table(table.as_ptr(), table.len(), out.as_mut_ptr(), out.len()) }
 }
 
 /// Where the strip of an output channel begins, and 65,536 times its capacity; `channel`

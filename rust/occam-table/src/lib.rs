@@ -45,22 +45,6 @@
 //! # Ok::<(), occam_table::Refusal>(())
 //! ```
 //!
-//! # A table as text
-//!
-//! An accepted table is written as occam by [`write_table`], and its rows by [`write_text`]; read back
-//! they give the table with its rows numbered from the top.
-//!
-//! ```
-//! use occam_table::{read_text, write_table};
-//!
-//! // WHILE 1 SKIP, with the SKIP before the boolean
-//! let text = write_table(b"kind,a,b,c\n33,2,1,0\n21,0,0,0\n10,1,0,0\n")?;
-//! assert_eq!(text, "WHILE 1\n  SKIP\n");
-//! let rows = read_text(text.as_bytes())?;
-//! assert_eq!(rows, [[33, 1, 2, 0], [10, 1, 0, 0], [21, 0, 0, 0]]);
-//! # Ok::<(), occam_table::Refusal>(())
-//! ```
-//!
 //! # A refusal
 //!
 //! ```
@@ -89,17 +73,15 @@ mod run;
 mod sizes;
 mod texts;
 mod traced;
-mod written;
 
 pub use answers::{Checked, Outcome, Reason, Refusal, RowState, Verdict};
 pub use buffers::{Buffers, Lent, LentTrace};
-pub use buffers::{BUDGET, CAPACITIES, CELLS, HOST_CHANNELS, ROWS, TEXT_BYTES, TRACE};
+pub use buffers::{BUDGET, CAPACITIES, CELLS, HOST_CHANNELS, ROWS, TRACE};
 pub use machine::{check_rows, check_rows_counted, check_table, check_table_counted};
 pub use machine::{read_rows, strip, Machine, Strip};
 pub use run::{Run, Snapshot};
 pub use texts::{check_text, read_text};
 pub use traced::{Step, Traced};
-pub use written::{write_table, write_table_into, write_text, write_text_into};
 
 /// What to do where the proved library is missing.
 pub const MISSING: &str = "target/staticlib/liboccam_table.a is missing: \
@@ -108,9 +90,8 @@ pub const MISSING: &str = "target/staticlib/liboccam_table.a is missing: \
 /// A stack in bytes within which every call answers: 1 MiB, half of what a thread of the standard
 /// library has by default.
 ///
-/// The tables and texts that need most are tested in a thread with this stack. The least that was
-/// enough for them was 608 KiB (x86-64, built for release): of a text; of a table 528 KiB to write
-/// it back, and 432 KiB for the rest.
+/// The tables that need most are tested in a thread with this stack. The least that was enough
+/// for them was 432 KiB (x86-64, built for release): a constant subscript 1,011 operators deep.
 pub const STACK: usize = 1 << 20;
 
 /// Whether the proved library is linked; without it every call fails with [`MISSING`].

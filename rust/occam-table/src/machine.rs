@@ -277,7 +277,7 @@ impl Held {
     /// The run of a packed answer to a text, or its refusal.
     fn run_of_text(&mut self, packed: u64, text: &[u8]) -> Result<Run<'_>, Refusal> {
         let told = answers::answer(packed)?;
-        let count = answers::length(calls::read_text(text, &mut self.rows))?;
+        let count = answers::rows_read(calls::read_text(text, &mut self.rows))?;
         let sizes = note_strips(&self.rows[..4 * count], &mut self.strips);
         Ok(Run::new(told, &self.buffers, sizes, &self.strips))
     }

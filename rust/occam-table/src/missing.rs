@@ -30,7 +30,5 @@ missing! {
     read_text(&[u8], &mut [i32]) -> u64;
     check_text(&[u8]) -> u64;
     run_text(&[u8], &[u8], &[u16], u32, Lent) -> u64;
-    write_text(&[i32], &mut [u8]) -> u64;
-    write_table(&[u8], &mut [u8]) -> u64;
     strip(&[i32], usize) -> u64;
 }

@@ -20,7 +20,7 @@ use crate::calls;
 /// ```
 pub fn read_text(text: &[u8]) -> Result<Vec<[i32; 4]>, Refusal> {
     let mut numbers = vec![0; 4 * ROWS];
-    let count = answers::length(calls::read_text(text, &mut numbers))?;
+    let count = answers::rows_read(calls::read_text(text, &mut numbers))?;
     let rows = numbers[..4 * count].chunks_exact(4);
     Ok(rows.map(|row| [row[0], row[1], row[2], row[3]]).collect())
 }

@@ -6,7 +6,7 @@ use std::process::{Command, Output};
 
 /// The words that neither `run` nor `ready` has: these cases are for other commands, or for the
 /// separate program.
-const OTHER_WORDS: [&str; 9] = [
+const OTHER_WORDS: [&str; 7] = [
     "--lengths",
     "--numbers",
     "--check",
@@ -14,8 +14,6 @@ const OTHER_WORDS: [&str; 9] = [
     "--trace",
     "--explore",
     "--read",
-    "--write",
-    "--top-down",
 ];
 
 /// The word of cases that run or check a text.
@@ -170,79 +168,4 @@ fn stored_readings_are_those_of_read() {
     }
     fs::remove_dir_all(&folder).expect("it is there");
     assert!(count > 200, "{count} readings");
-}
-
-/// The words of a case for `write` after `--write`, if it has them all; a budget is not looked at.
-fn flags_of_write(case: &Path) -> Option<Vec<String>> {
-    let words = words(case);
-    let (first, flags) = words.split_first()?;
-    if first != "--write" || flags.iter().any(|flag| flag == "--numbers") {
-        return None;
-    }
-    let pairs = flags.iter().scan(false, |value, flag| {
-        let of_a_budget = flag == "--budget" || *value;
-        *value = flag == "--budget";
-        Some((flag, of_a_budget))
-    });
-    let kept = pairs.filter(|(_, of_a_budget)| !of_a_budget);
-    Some(kept.map(|(flag, _)| flag.clone()).collect())
-}
-
-#[test]
-fn stored_texts_are_those_of_write() {
-    let cases = Path::new(env!("CARGO_MANIFEST_DIR")).join("../../cases");
-    let folder = own_folder("texts");
-    let (mut count, mut refused) = (0, 0);
-    for file in fs::read_dir(cases).expect("the folder is there") {
-        let case = file.expect("a file").path();
-        let is_case = case.extension().is_some_and(|extension| extension == "in");
-        let Some(flags) = flags_of_write(&case).filter(|_| is_case) else {
-            continue;
-        };
-        let input = fs::read(&case).expect("bytes");
-        let table = folder.join("table.in");
-        fs::write(&table, parted(&input).0).expect("written");
-        let stored = fs::read_to_string(case.with_extension("out")).expect("stored");
-        let printed = printed_plain("write", &table, &flags);
-        assert_eq!(printed, stored, "{}", case.display());
-        count += 1;
-        refused += usize::from(stored.starts_with("refused"));
-    }
-    fs::remove_dir_all(&folder).expect("it is there");
-    assert!(
-        count > 70 && refused > 15,
-        "{count} texts, {refused} refused"
-    );
-}
-
-#[test]
-fn stored_top_down_tables_are_those_of_read_after_write() {
-    let cases = Path::new(env!("CARGO_MANIFEST_DIR")).join("../../cases");
-    let folder = own_folder("top-down");
-    let (table, text) = (folder.join("table.in"), folder.join("text.in"));
-    let mut count = 0;
-    for file in fs::read_dir(cases).expect("the folder is there") {
-        let case = file.expect("a file").path();
-        let is_case = case.extension().is_some_and(|extension| extension == "in");
-        if !is_case || words(&case) != ["--top-down"] {
-            continue;
-        }
-        let input = fs::read(&case).expect("bytes");
-        fs::write(&table, parted(&input).0).expect("written");
-        let written = printed_plain("write", &table, &[]);
-        let stored = fs::read_to_string(case.with_extension("out")).expect("stored");
-        let found = match written.as_str() {
-            // a text over 32768 bytes is not written, though its table has a top-down form
-            "refused,1,0,0\n" => continue,
-            refused if refused.starts_with("refused") => written,
-            _ => {
-                fs::write(&text, written).expect("written");
-                printed_plain("read", &text, &[])
-            }
-        };
-        assert_eq!(found, stored, "{}", case.display());
-        count += 1;
-    }
-    fs::remove_dir_all(&folder).expect("it is there");
-    assert!(count >= 5, "{count} tables");
 }

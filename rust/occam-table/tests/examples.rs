@@ -84,7 +84,7 @@ fn every_table_has_readings_and_output() {
 fn rows_of_table(name: &str) -> Vec<reference::table::Row> {
     let table = fs::read(folder().join(format!("{name}.csv"))).expect("it is there");
     let rows = reference::table::rows_of_bytes(&table).expect("rows");
-    reference::top_down(&rows)
+    reference::generate::occam::top_down(&rows)
 }
 
 #[test]

@@ -6,7 +6,7 @@ use crate::refusal::Refusal;
 use crate::run::{run, End, Outcome, Taken};
 use crate::sheet::readings_of_bytes;
 use crate::table::{rows_of_bytes, rows_of_numbers, Row, ROWS};
-use crate::text::{read_text, text_within, top_down};
+use crate::text::read_text;
 
 /// Greatest budget.
 pub const BUDGET_LIMIT: u64 = 65_536;
@@ -156,17 +156,6 @@ impl Source<'_> {
             .rows()
             .and_then(|rows| Program::check_counting(rows, &mut pairs));
         Checked { verdict, pairs }
-    }
-
-    /// The text written back (request 04) for a caller that lends a list of this length for it: all
-    /// that the table is refused for goes before refusal 1.
-    pub fn written(self, room: usize) -> Result<Vec<u8>, Refusal> {
-        text_within(&self.checked().verdict?.rows, room)
-    }
-
-    /// The rows of an accepted table in top-down numbering.
-    pub fn top_down(self) -> Result<Vec<Row>, Refusal> {
-        Ok(top_down(&self.checked().verdict?.rows))
     }
 }
 

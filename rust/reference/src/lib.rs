@@ -1,8 +1,7 @@
 //! The separate program: an occam table checker and runner, from the papers alone.
 //!
 //! The modules read top-down like document 01: the table and its refusals, usage,
-//! values, steps, readings and results, then the run on paper. `text` reads a table from occam text
-//! and writes it back.
+//! values, steps, readings and results, then the run on paper. `text` reads a table from occam text.
 
 pub mod number;
 pub mod refusal;
@@ -39,4 +38,4 @@ pub use answer::{check_bytes, check_bytes_counted, check_rows_counted, Checked};
 pub use answer::{BUDGET_LIMIT, BUFFER_LENGTHS, TRACE_LENGTH};
 pub use refusal::Refusal;
 pub use run::{Outcome, Taken};
-pub use text::{read_text, text_of, top_down};
+pub use text::read_text;

@@ -3,8 +3,8 @@
 use reference::explore::explore;
 use reference::number::read_number;
 use reference::printing::{printed, printed_ready, printed_trace, split_input};
-use reference::printing::{printed_pairs, printed_rows, printed_text, printed_verdict};
-use reference::text::{read_text_into, ROW_NUMBERS, TEXT_BYTES};
+use reference::printing::{printed_pairs, printed_rows, printed_verdict};
+use reference::text::{read_text_into, ROW_NUMBERS};
 use reference::{Source, BUDGET_LIMIT, BUFFER_LENGTHS, TRACE_LENGTH};
 use std::io::{self, Read, Write};
 use std::process::ExitCode;
@@ -26,13 +26,8 @@ With no flags it prints what the sheet runner of \"A run on paper\" prints.
   --text            the table part is an occam text (request 02)
   --read            only the table that the text is read to: its bytes, or
                     refused,NUMBER,PLACE,0 (12, 13 or 3)
-  --write           only the text that the table is written back as (request 04): its bytes,
-                    or refused,NUMBER,PLACE,0 (the table's own refusals, then 1)
-  --top-down        only the table in top-down numbering: its bytes, or
-                    refused,NUMBER,PLACE,0
   --room N          with --read the length of the list lent for the rows' numbers (default
-                    4096; shorter is refusal 1); with --write the length of the list lent
-                    for the text (default 32768; shorter than the text is refusal 1)
+                    4096; shorter is refusal 1)
   --full            after the paper's lines also: cell,ROW,I,V and mark,ROW,I,0|1 of
                     each cell; state,ROW,0,S of each row; place,CH,0,N of each role 1
                     channel; strip,CH,I,V and omark,CH,I,0|1 of each place of each role 2
@@ -69,9 +64,7 @@ struct Request {
     numbers: bool,
     text: bool,
     read: bool,
-    write: bool,
-    top_down: bool,
-    room: Option<usize>,
+    room: usize,
     full: bool,
     ready: bool,
     trace: bool,
@@ -125,9 +118,7 @@ fn requested(arguments: &[String]) -> Result<Request, String> {
         numbers: false,
         text: false,
         read: false,
-        write: false,
-        top_down: false,
-        room: None,
+        room: ROW_NUMBERS,
         full: false,
         ready: false,
         trace: false,
@@ -159,9 +150,7 @@ fn requested(arguments: &[String]) -> Result<Request, String> {
             "--numbers" => request.numbers = true,
             "--text" => request.text = true,
             "--read" => request.read = true,
-            "--write" => request.write = true,
-            "--top-down" => request.top_down = true,
-            "--room" => request.room = Some(one_number(flag, operand()?)?),
+            "--room" => request.room = one_number(flag, operand()?)?,
             "--full" => request.full = true,
             "--ready" => request.ready = true,
             "--trace" => request.trace = true,
@@ -195,8 +184,7 @@ fn numbers<N: FromStr>(flag: &str, text: &str) -> Result<Vec<N>, String> {
 fn respond(request: &Request, input: &[u8]) -> Result<String, String> {
     let (table, sheet) = split_input(input);
     if request.read {
-        let room = request.room.unwrap_or(ROW_NUMBERS);
-        return Ok(printed_rows(&read_text_into(table, room)));
+        return Ok(printed_rows(&read_text_into(table, request.room)));
     }
     if request.numbers {
         let numbers = lent_numbers(table)?;
@@ -209,15 +197,8 @@ fn respond(request: &Request, input: &[u8]) -> Result<String, String> {
     Ok(answered(request, source, sheet))
 }
 
-/// What is printed of the table written back or in top-down numbering, of the verdict, of all orders,
-/// of the trace, or of the answer.
+/// The text of the verdict, of all orders, of the trace, or of the answer.
 fn answered(request: &Request, source: Source, sheet: &[u8]) -> String {
-    if request.write {
-        return printed_text(&source.written(request.room.unwrap_or(TEXT_BYTES)));
-    }
-    if request.top_down {
-        return printed_rows(&source.top_down());
-    }
     let (choices, budget) = (&request.choices, request.budget);
     let (lengths, lists) = (request.lengths, request.lists);
     if request.check {

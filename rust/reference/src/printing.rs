@@ -49,18 +49,10 @@ pub fn printed_verdict(checked: &Checked) -> String {
     }
 }
 
-/// The table of these rows, read from a text or in top-down numbering, or a refusal.
+/// The table of the rows that a text is read to, or a refusal.
 pub fn printed_rows(read: &Result<Vec<Row>, Refusal>) -> String {
     match read {
         Ok(rows) => table_text(rows),
-        Err(refusal) => format!("{refusal}\n"),
-    }
-}
-
-/// The text that a table is written back as, or a refusal.
-pub fn printed_text(written: &Result<Vec<u8>, Refusal>) -> String {
-    match written {
-        Ok(text) => String::from_utf8_lossy(text).into_owned(),
         Err(refusal) => format!("{refusal}\n"),
     }
 }

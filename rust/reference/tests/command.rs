@@ -160,36 +160,6 @@ fn texts() {
 }
 
 #[test]
-fn written_texts() {
-    let text = "INT v0:\nHOSTOUT 2 c1:\nSEQ\n  v0:=4\n  c1!v0\n";
-    assert_eq!(reference("--write", TABLE), (0, text.to_string()));
-    let input = format!("{TABLE}=\nno sheet\n");
-    assert_eq!(reference("--write --budget 70000", &input).1, text);
-    let exact = format!("--write --room {}", text.len());
-    assert_eq!(reference(&exact, TABLE).1, text);
-    let short = format!("--write --room {}", text.len() - 1);
-    assert_eq!(reference(&short, TABLE).1, "refused,1,0,0\n");
-    let (_, rows) = TABLE.split_once('\n').expect("rows");
-    assert_eq!(reference("--numbers --write", rows).1, text);
-    assert_eq!(
-        reference("--numbers --write --room 0", "21").1,
-        "refused,3,0,0\n"
-    );
-    assert_eq!(reference("--write --room 0", "").1, "refused,2,1,0\n");
-    let top_down = reference("--read", text).1;
-    assert_eq!(reference("--top-down", TABLE).1, top_down);
-    assert_eq!(reference("--top-down --numbers", rows).1, top_down);
-    assert_eq!(reference("--top-down --room 0", TABLE).1, top_down);
-    assert_eq!(reference("--top-down", "").1, "refused,2,1,0\n");
-    let paper = "HOSTIN c0:\nHOSTOUT 4 c1:\nINT v2:\nSEQ\n  c0?v2\n  c1!v2+5\n";
-    assert_eq!(reference("--text --write", TEXT).1, paper);
-    assert_eq!(
-        reference("--text --write --room 0", "SEQ").1,
-        "refused,12,1,0\n"
-    );
-}
-
-#[test]
 fn ready_and_trace() {
     let input = format!("{TABLE}=\n\n");
     assert_eq!(reference("--ready", &input).1, "ready,0\n");
@@ -259,8 +229,6 @@ fn bad_flags_and_help() {
         "--numbers",
         "--text",
         "--read",
-        "--write",
-        "--top-down",
         "--room",
         "--full",
         "--ready",
@@ -309,17 +277,6 @@ fn generate_writes_texts() {
     let printed = generated("texts", &["--text"]);
     assert!(!printed.iter().any(|text| text.starts_with("refused,10,")));
     for begin in ["what,", "kind,", "accepted", "refused,12,", "refused,13,"] {
-        assert!(
-            printed.iter().any(|text| text.starts_with(begin)),
-            "{begin}"
-        );
-    }
-}
-
-#[test]
-fn generate_writes_tables_to_be_written_back() {
-    let printed = generated("written", &["--write"]);
-    for begin in ["INT ", "kind,", "refused,1,0,"] {
         assert!(
             printed.iter().any(|text| text.starts_with(begin)),
             "{begin}"

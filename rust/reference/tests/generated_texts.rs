@@ -4,14 +4,14 @@ mod common;
 
 use common::{assert_enough, Tally};
 use reference::generate::occam::{
-    damaged_line, damaged_names, some_text, with_many_rows, Expected,
+    damaged_line, damaged_names, some_text, top_down, with_many_rows, Expected,
 };
 use reference::generate::{generate, Aim};
 use reference::printing::split_input;
 use reference::program::Program;
 use reference::table::Row;
 use reference::text::TEXT_BYTES;
-use reference::{check_bytes, read_text, top_down, Refusal};
+use reference::{check_bytes, read_text, Refusal};
 
 /// The rows of accepted tables: small ones, larger ones, and some of unusual shapes.
 fn tables() -> impl Iterator<Item = (u64, Vec<Row>)> {

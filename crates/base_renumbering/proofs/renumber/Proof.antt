@@ -1,24 +1,20 @@
 -- The invariant: the declarations and the rows below r are written. Assumes nothing.
-use mathlib.Core.Path.{◌≡◌, sym, ap, ◌∙◌, subst}
-use mathlib.Core.List.{List, ◌++◌}
+use mathlib.Core.Path.{◌≡◌, sym, ◌∙◌}
 use Prim.Native.Nat.{ℕ, ◌-◌, ◌*◌, ◌≤◌, ◌<◌}
 use native.Mathlib.Omega.{arith}
-use lib.IntN.{ℤ}
-use lib.ListN.{length, get_or, take, drop, length-append, length-take, length-drop}
+use lib.ListN.{length}
 use Rattle.meaning.specs.Rows.{row_count}
 use Rattle.meaning.specs.Declarations.{declarations}
-use Rattle.base_top_down.specs.Forms.{numbered_down}
-use Rattle.base_top_down.proofs.Again.{declarations-le, declared-length}
-use Rattle.base_ordering.specs.Written.{RightNumber}
-use Rattle.base_ordering.proofs.Right.{WrittenTo, written-more}
-use Rattle.base_renumbering.proofs.WriteLaws.{copied-right, whole}
+use Rattle.base_top_down.specs.New.{RightNumber}
+use Rattle.base_top_down.proofs.Again.{declarations-le}
+use Rattle.base_renumbering.proofs.WriteLaws.{WrittenTo, written-more, whole}
 use borrow.Author.Rules.{rules}
 use Rattle.base_renumbering.proofs.renumber.Statement.{statement}
 use Rattle.base_renumbering.proofs.renumber.Tie as tie
 
 abbrev invariant-loop : tie.invariant-loop
 invariant-loop rows numbers out₀ table d n r₀ out r =
-    (d ≡ declarations rows) × (n ≡ row_count rows) × (d ≤ r) × (r ≤ n) × (length out ≡ 4 * row_count rows) × ((p : ℕ) → p < 4 * declarations rows → RightNumber (numbered_down rows) out p) × WrittenTo (numbered_down rows) (λ q. get_or numbers q 0) (declarations rows) r out
+    (d ≡ declarations rows) × (n ≡ row_count rows) × (d ≤ r) × (r ≤ n) × (length out ≡ 4 * row_count rows) × ((p : ℕ) → p < 4 * declarations rows → RightNumber rows out p) × WrittenTo rows numbers r out
 
 abbrev decreases-loop : tie.decreases-loop
 decreases-loop rows numbers out₀ table d n r₀ out r = n - r
@@ -33,36 +29,18 @@ row-count-requires : tie.Need-row-count-requires invariant-loop decreases-loop
 row-count-requires c κs = search rules
 
 copy-declarations-requires : tie.Need-copy-declarations-requires invariant-loop decreases-loop
-copy-declarations-requires c κs =
-    let n = c.before in
-    let s = n.before.before.before.before in
-    let h = declarations-le s.args.rows.now in
-    let d = n.before.declarations.ensures in
-    let f = s.requires.0.few in
-    let o = s.requires.1.1 in
-    (omega arith, (omega arith, omega arith))
+copy-declarations-requires c κs = search rules
 
 loop-holds : tie.Need-loop-init invariant-loop decreases-loop
 loop-holds c =
     let w = c.before in
     let n = w.before.before in
     let s = n.before.before.before.before in
-    let rows = s.args.rows.now in
-    let old = s.args.out.now in
     let d = n.before.declarations.ensures in
     let e = n.row_count.ensures in
-    let h = declarations-le rows in
-    let x = w.copy-declarations.ensures ∙ ap (λ (m : ℕ). take (4 * m) rows ++ drop (4 * m) old) d in
-    let l = declared-length rows in
-    let o = s.requires.1.1 in (
-      d,
-      e,
-      omega arith,
-      omega arith,
-      ap length x ∙ simp (length-append, length-take, length-drop) (omega arith),
-      λ p l. subst (λ (y : List ℤ). RightNumber (numbered_down rows) y p) (sym x) (copied-right rows old p l),
-      λ q a b j l. absurd (omega arith),
-    )
+    let h = declarations-le s.args.rows.now in
+    let x = w.copy-declarations.ensures in
+    (d, e, omega arith, omega arith, x.0 ∙ s.requires.1.1, λ p l. x.1 p (omega arith), λ q a b j l. absurd (omega arith))
 
 slice-aggregate-write-row : tie.Need-slice-aggregate-write-row invariant-loop decreases-loop
 slice-aggregate-write-row c = search rules
@@ -93,8 +71,8 @@ loop-again c =
     let t = w.before.before.before.loop-test.true in
     let i = a.loop.invariant in
     let i2 = i.2 in
-    let x = w.write-row.ensures.1 in
-    (i.0, i.1, omega arith, omega arith, x.long ∙ i.4, λ p l. x.kept p (i.5 p l), written-more (numbered_down s.args.rows.now) (λ q. get_or s.args.numbers.now q 0) (declarations s.args.rows.now) a.loop.r a.loop.out _ i.6 x)
+    let x = w.write-row.ensures in
+    (i.0, i.1, omega arith, omega arith, x.long ∙ i.4, λ p l. x.kept p (i.5 p l), written-more s.args.rows.now s.args.numbers.now a.loop.r a.loop.out _ i.6 x)
 
 same_length : tie.Need-same-length invariant-loop decreases-loop
 same_length c =

@@ -1,7 +1,7 @@
 //! Writes generated inputs for the sheet runner, each with a line of flags beside it.
 
 use reference::generate::occam::text_input;
-use reference::generate::{generate, written_input, Aim};
+use reference::generate::{generate, Aim};
 use std::path::PathBuf;
 use std::process::ExitCode;
 use std::{fs, io};
@@ -9,7 +9,7 @@ use std::{fs, io};
 const HELP: &str = "\
 generate: writes inputs for the sheet runner, from a seed alone
 
-  generate --seed S --count N --out DIR [--small] [--kind K | --text | --write]
+  generate --seed S --count N --out DIR [--small] [--kind K | --text]
 
 Writes DIR/000001.in and so on (a table, the line `=`, a sheet), and beside each
 DIR/000001.args, one line of flags (--budget, --choices; often empty).
@@ -22,8 +22,6 @@ DIR/000001.args, one line of flags (--budget, --choices; often empty).
               or 14
               (without it: a mix, about half accepted)
   --text      occam texts in place of tables, with flags that run, check or read them
-  --write     accepted tables without a sheet, with flags that write them back as text or number
-              them from the top (with --small at most 40 rows each)
 ";
 
 /// What the command line asks for.
@@ -34,7 +32,6 @@ struct Request {
     small: bool,
     aim: Option<Aim>,
     text: bool,
-    write: bool,
 }
 
 fn main() -> ExitCode {
@@ -58,7 +55,7 @@ fn main() -> ExitCode {
 /// Reads the flags.
 fn requested(arguments: &[String]) -> Result<Request, String> {
     let (mut seed, mut count, mut out) = (None, None, None);
-    let (mut small, mut aim, mut text, mut write) = (false, None, false, false);
+    let (mut small, mut aim, mut text) = (false, None, false);
     let mut rest = arguments.iter();
     while let Some(flag) = rest.next() {
         let mut operand = || {
@@ -71,7 +68,6 @@ fn requested(arguments: &[String]) -> Result<Request, String> {
             "--out" => out = Some(PathBuf::from(operand()?)),
             "--small" => small = true,
             "--text" => text = true,
-            "--write" => write = true,
             "--kind" => aim = Some(aim_named(operand()?)?),
             _ => return Err(format!("unknown flag {flag:?} (see --help)")),
         }
@@ -84,7 +80,6 @@ fn requested(arguments: &[String]) -> Result<Request, String> {
             small,
             aim,
             text,
-            write,
         }),
         _ => Err("--seed, --count and --out are needed (see --help)".to_string()),
     }
@@ -114,9 +109,6 @@ fn aim_named(name: &str) -> Result<Aim, String> {
 fn input_of(request: &Request, seed: u64) -> (Vec<u8>, String) {
     if request.text {
         return text_input(seed, request.small);
-    }
-    if request.write {
-        return written_input(seed, request.small);
     }
     let input = generate(seed, request.small, request.aim);
     let flags = input.flags();

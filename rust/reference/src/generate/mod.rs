@@ -1,7 +1,5 @@
 //! Generated inputs: good and damaged tables, sheets, choices and budgets, from a seed alone.
 
-mod accepted;
-mod any;
 mod arrays;
 mod blocks;
 mod choices;
@@ -20,8 +18,6 @@ mod subscripts;
 mod surroundings;
 mod text;
 mod tree;
-
-pub use accepted::{accepted_table, renumbered, written_input};
 
 use crate::answer::{answer_bytes, Answer, BUDGET_LIMIT, BUFFER_LENGTHS};
 use crate::kinds::{ALT, IF, PAR, SEQ, WHILE};
@@ -115,7 +111,21 @@ const SMALL_STEPS: u64 = 40;
 pub fn generate(seed: u64, small: bool, aim: Option<Aim>) -> Input {
     let mut random = Random::new(seed);
     let aim = aim.unwrap_or_else(|| some_aim(&mut random, small));
-    let plan = plan_of(&mut random, small, aim);
+    let plan = Plan {
+        small,
+        aim,
+        outcome: random.pick(&[
+            Outcome::Ended,
+            Outcome::Stuck,
+            Outcome::Broken,
+            Outcome::Spent,
+        ]),
+        first: random.pick(&[PAR, PAR, PAR, ALT, WHILE, IF, SEQ]),
+        apart: random.chance(match (small, aim) {
+            (false, _) | (_, Aim::Refusal(_)) => 60,
+            (true, _) => 45,
+        }),
+    };
     let mut best = None;
     for _ in 0..60 {
         let input = attempt(&mut random, plan);
@@ -150,25 +160,6 @@ struct Plan {
     first: i32,
     /// Whether the components of its PARs should often have numbers of one array each.
     apart: bool,
-}
-
-/// A plan of inputs, small or not, aimed at this.
-fn plan_of(random: &mut Random, small: bool, aim: Aim) -> Plan {
-    Plan {
-        small,
-        aim,
-        outcome: random.pick(&[
-            Outcome::Ended,
-            Outcome::Stuck,
-            Outcome::Broken,
-            Outcome::Spent,
-        ]),
-        first: random.pick(&[PAR, PAR, PAR, ALT, WHILE, IF, SEQ]),
-        apart: random.chance(match (small, aim) {
-            (false, _) | (_, Aim::Refusal(_)) => 60,
-            (true, _) => 45,
-        }),
-    }
 }
 
 /// Something to aim at: about half accepted.

@@ -4,7 +4,7 @@ use super::tokens::{tokens, Token};
 use crate::table::Line;
 
 /// Spaces for each level.
-pub const LEVEL_SPACES: usize = 2;
+const LEVEL_SPACES: usize = 2;
 
 /// One line of a text.
 pub struct TextLine<'t> {

@@ -1,9 +1,7 @@
-//! Occam as the chemists type it (request 02): an indented text is read to the rows of a table, and
-//! a table is written back as text (request 04).
+//! Occam as the chemists type it (request 02): an indented text is read to the rows of a table.
 //!
 //! From the bytes up: the symbols of a line, its level, the expressions in it, what it says, where
-//! it stands among the lines, the names of the text, the rows in their numbers. And back: the rows
-//! numbered from the top, the symbols of their lines, the spelling of a line.
+//! it stands among the lines, the names of the text, the rows in their numbers.
 
 mod lines;
 mod names;
@@ -13,13 +11,6 @@ mod rows;
 mod sentences;
 mod tokens;
 mod tree;
-
-pub(crate) mod spelling;
-mod top_down;
-mod written;
-
-pub use top_down::{in_order, top_down};
-pub use written::text_of;
 
 use crate::refusal::Refusal;
 use crate::table::Row;
@@ -42,15 +33,5 @@ pub fn read_text_into(bytes: &[u8], room: usize) -> Result<Vec<Row>, Refusal> {
     match room < ROW_NUMBERS {
         true => Err(Refusal::new(1, 0)),
         false => read_text(bytes),
-    }
-}
-
-/// The text of an accepted table's rows for a caller that lends a list of this length for it.
-/// Refusal 1 if the text is longer than a text may be or than the list.
-pub fn text_within(rows: &[Row], room: usize) -> Result<Vec<u8>, Refusal> {
-    let text = text_of(rows);
-    match text.len() > TEXT_BYTES.min(room) {
-        true => Err(Refusal::new(1, 0)),
-        false => Ok(text),
     }
 }

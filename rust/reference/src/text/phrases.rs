@@ -27,14 +27,14 @@ enum Open<'t> {
 }
 
 /// The dyadic operators by their numbers.
-pub const OPERATORS: [&str; 16] = [
+const OPERATORS: [&str; 16] = [
     "+", "-", "*", "/", "REM", "PLUS", "MINUS", "TIMES", "=", "<>", "<", "<=", ">", ">=", "AND",
     "OR",
 ];
 
 /// The monadic operators of which the operand may be any.
-pub const MINUS: i32 = 0;
-pub const NOT: i32 = 1;
+const MINUS: i32 = 0;
+const NOT: i32 = 1;
 
 /// The node of an expression; `None` if these symbols are none.
 pub fn expression<'t>(tree: &mut Tree<'t>, tokens: &[Token<'t>]) -> Option<usize> {

@@ -1,5 +1,6 @@
 //! A run as aligned columns, to be read by people. An unset cell and an absence are shown empty.
 
+use crate::kinds::kind_name;
 use crate::program::Program;
 use crate::ready::ready_words;
 use crate::sheet_lines::value_or_empty;
@@ -79,7 +80,7 @@ fn cells(program: &Program, run: &Run) -> String {
     for variable in program.variables() {
         for (number, cell) in program.part(variable).enumerate() {
             let value = value_or_empty(run.cell(cell));
-            columns.add(&[program.name_in_words(variable), number.to_string(), value]);
+            columns.add(&[program.name(variable), number.to_string(), value]);
         }
     }
     columns.text()
@@ -91,23 +92,14 @@ fn outputs(program: &Program, run: &Run) -> String {
     for (channel, list) in program.output_channels().zip(run.lists()) {
         for (position, message) in list.into_iter().enumerate() {
             let value = value_or_empty(message);
-            columns.add(&[program.name_in_words(channel), position.to_string(), value]);
+            columns.add(&[program.name(channel), position.to_string(), value]);
         }
     }
     columns.text()
 }
 
-/// Each stopped row with its reason in words, after an empty line.
-fn stops(program: &Program, run: &Run) -> String {
-    let text = stop_words(program, run);
-    match text.is_empty() {
-        true => text,
-        false => format!("\n{text}"),
-    }
-}
-
 /// Each stopped row with its reason in words.
-pub fn stop_words(program: &Program, run: &Run) -> String {
+fn stops(program: &Program, run: &Run) -> String {
     let mut text = String::new();
     for (row, state) in run.states().enumerate() {
         if let RowState::Stopped(reason) = state {
@@ -115,14 +107,17 @@ pub fn stop_words(program: &Program, run: &Run) -> String {
             text += &format!("{who} is stopped, reason {}: {reason}\n", reason.number());
         }
     }
-    text
+    match text.is_empty() {
+        true => text,
+        false => format!("\n{text}"),
+    }
 }
 
 /// Each row that is not idle.
 fn states(program: &Program, run: &Run) -> String {
     let headings = match program.origin {
         Some(_) => ["line", "text", "state"],
-        None => ["row", "occam", "state"],
+        None => ["row", "kind", "state"],
     };
     let mut columns = Columns::new(&headings);
     for (row, state) in run.states().enumerate() {
@@ -132,11 +127,10 @@ fn states(program: &Program, run: &Run) -> String {
             RowState::Ended => "ended",
             RowState::Stopped(_) => "stopped",
         };
-        let place = match &program.origin {
-            Some(origin) => origin.line(row),
-            None => row,
+        let (place, what) = match &program.origin {
+            Some(origin) => (origin.line(row), origin.source(row)),
+            None => (row, kind_name(program.rows[row].kind).to_string()),
         };
-        let what = program.line_or_kind(row);
         columns.add(&[place.to_string(), what, word.to_string()]);
     }
     columns.text()
@@ -146,7 +140,7 @@ fn states(program: &Program, run: &Run) -> String {
 fn places(program: &Program, run: &Run) -> String {
     let mut columns = Columns::new(&["channel", "readings taken"]);
     for (channel, place) in program.reading_channels().zip(run.places()) {
-        columns.add(&[program.name_in_words(channel), place.to_string()]);
+        columns.add(&[program.name(channel), place.to_string()]);
     }
     columns.text()
 }

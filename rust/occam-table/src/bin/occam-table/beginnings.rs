@@ -63,7 +63,7 @@ impl Beginnings {
         };
         let mut text = format!("{first}\n");
         for (row, channel) in program.output_channels().zip(&self.channels) {
-            let name = program.channel_and_line(row);
+            let name = program.sort_and_name(row);
             text += &format!("  {name} to the host: {}\n", channel.words());
         }
         text

@@ -30,7 +30,14 @@ fn report(verdict: Verdict, code: &Code, name: &str, plain: bool) -> Report {
         (Ok(()), true) => Report::accepted(ACCEPTED_LINE.to_string()),
         (Ok(()), false) => Report::accepted("accepted\n".to_string()),
         (Err(refusal), true) => Report::refused_line(refusal),
-        (Err(refusal), false) => Report::refused(refusal, name, &Given::alone(code)),
+        (Err(refusal), false) => {
+            let given = Given {
+                code,
+                sheet: &[],
+                budget: 0,
+            };
+            Report::refused(refusal, name, &given)
+        }
     }
 }
 

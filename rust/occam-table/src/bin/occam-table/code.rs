@@ -2,8 +2,7 @@
 
 use crate::program::Program;
 use occam_table::{check_rows_counted, check_table, check_table_counted, check_text};
-use occam_table::{read_rows, read_text, write_table_into, write_text_into};
-use occam_table::{Checked, Machine, Refusal, Run, Verdict, TEXT_BYTES};
+use occam_table::{read_rows, read_text, Checked, Machine, Refusal, Run, Verdict};
 
 /// The letters of a table's first line.
 const HEAD_LETTERS: &[u8] = b"kindabc";
@@ -59,17 +58,6 @@ impl Code {
         }
     }
 
-    /// The text that it is written back as, in a lent buffer of this length; of a text, that of the
-    /// rows that it is read to. No text is longer than [`TEXT_BYTES`], so that no more need be lent.
-    pub fn written(&self, room: u64) -> Result<String, Refusal> {
-        let mut out = vec![0; room.min(TEXT_BYTES as u64) as usize];
-        let length = match self.is_text {
-            true => write_text_into(read_text(&self.bytes)?.as_flattened(), &mut out)?,
-            false => write_table_into(&self.bytes, &mut out)?,
-        };
-        Ok(String::from_utf8_lossy(&out[..length]).into_owned())
-    }
-
     /// The rows, for words about them; none if they could not be read.
     pub fn program(&self) -> Program {
         match self.is_text {
@@ -77,10 +65,7 @@ impl Code {
                 let rows = read_text(&self.bytes).unwrap_or_default();
                 Program::of_text(&rows, &self.bytes)
             }
-            false => {
-                let rows = read_rows(&self.bytes).unwrap_or_default();
-                Program::of_table(&rows, self.written(TEXT_BYTES as u64))
-            }
+            false => Program::new(&read_rows(&self.bytes).unwrap_or_default()),
         }
     }
 }

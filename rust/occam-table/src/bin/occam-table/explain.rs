@@ -18,14 +18,11 @@ pub struct Meaning {
 /// The meanings of the refusals, in the order of their numbers, from 1 on.
 const MEANINGS: [Meaning; 14] = [
     Meaning {
-        summary: "a lent buffer is too short, or a text that is written does not fit",
+        summary: "a lent buffer is too short",
         place: "0",
-        advice: "The seven buffers of a run must be at least 256, 256, 1024, 8, 1024, 8 and 1024\n\
-                 long. Only a program that calls the library itself can lend shorter ones; it is\n\
-                 refused so before all else. A table that is to be written as text (`write`) is\n\
-                 refused so, after all that the table itself is refused for, if its text has more\n\
-                 than 32768 bytes or is longer than the lent buffer (--room): nothing is written.",
-        help: "lend buffers that are at least as long as these limits, and one as long as the text",
+        advice: "Only a program that calls the library itself can see this; the seven buffers\n\
+                 must be at least 256, 256, 1024, 8, 1024, 8 and 1024 long.",
+        help: "lend buffers that are at least as long as these limits",
     },
     Meaning {
         summary: "the table's bytes are not as they should be",

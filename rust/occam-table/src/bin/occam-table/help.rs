@@ -5,8 +5,6 @@ occam-table: checks and runs small occam programs, typed as texts or kept as tab
 
   occam-table check TABLE                 is the table accepted, and if not, what is wrong where
   occam-table read TEXT                   the table that an occam text is read to
-  occam-table write TABLE                 the occam text that a table is written back as
-  occam-table show TABLE                  the same to be read, with the table's rows in the margin
   occam-table run TABLE SHEET             run it on a sheet of readings
   occam-table steps TABLE SHEET           the same step by step, for a desk trial
   occam-table ready TABLE SHEET           how many steps are ready after a run
@@ -17,7 +15,6 @@ occam-table: checks and runs small occam programs, typed as texts or kept as tab
 Wherever TABLE stands an occam text can be given too. A file is a table if it has no bytes, or if
 its first line has a comma or semicolon and either spells kind,a,b,c or the file has a line of
 numbers parted so; everything else is a text. With --text it is a text, whatever it looks like.
-What is told of a table's row has its line of occam beside it, with the names that `write` gives.
 A `-` stands for standard input: for TABLE a table; alone in place of TABLE and SHEET a table, a
 line `=`, and readings, as the sheet runner takes them.
 Every answer comes from the proved library; the words around it are presentation.
@@ -29,10 +26,10 @@ const CHECK: &str = "\
 occam-table check TABLE [--text] [--pairs] [--plain]
 
 Tells whether a table or an occam text is accepted. If it is refused: the number and the place,
-which are the proved answer, and what is wrong there in plain words: the line or row as written, the
-row's line of occam where it can be told, which field, what stands there, what was expected; for a
-clash in a PAR the two members and the cell or channel element; and what to do. Of a text its lines
-and names are told. A `-` for TABLE is a table or a text on standard input.
+which are the proved answer, and what is wrong there in plain words: the line or row as written,
+which field, what stands there, what was expected; for a clash in a PAR the two members and the cell
+or channel element; and what to do. Of a text its lines and names are told. A `-` for TABLE is a
+table or a text on standard input.
 
   --text            the file is a text, whatever it looks like
   --pairs           also how many pairs of components of PARs were compared in search of a clash
@@ -66,59 +63,16 @@ Examples:
   occam-table read examples/kiln.occam > kiln.csv
 ";
 
-const WRITE: &str = "\
-occam-table write TABLE [--text] [--room N] [--plain]
-
-Writes an accepted table as an occam text: variables are called v and channels c, each with its row
-number once the rows are numbered from the top, and no bracket and then no space stands there that
-the language does not need. Two tables that differ in their numbering only have the same text;
-`occam-table read` makes of it the table with its rows numbered from the top. An occam text for
-TABLE is read and written back in this form. If the table is refused, it says so in plain words on
-standard error. A `-` for TABLE is a table or a text on standard input.
-
-  --text            the file is a text, whatever it looks like
-  --room N          lend a buffer of N bytes for the text (default 32768, the most that a text may
-                    have); a text that does not fit is refusal 1
-  --plain           a refusal is one line on standard output: refused,NUMBER,PLACE,0
-Exit status: 0 written, 1 refused, 2 wrong use or an unreadable file.
-
-Examples:
-  occam-table write examples/kiln.csv
-  occam-table write examples/kiln.csv > kiln.occam
-  occam-table write examples/kiln.csv | occam-table read -
-";
-
-const SHOW: &str = "\
-occam-table show TABLE [--text]
-
-Shows the occam text of a table with the row that begins each line in the margin, in the table's own
-numbering. A block's line, as INT v5: inside a process, has two: the block's row, then that of the
-variable. An occam text for TABLE is shown as it was typed, with the rows that it is read to.
-
-A table that is refused only for what its rows do (6, 14, 7, 8, 9) is shown too: the line of the row
-at fault is marked with >, and what is wrong follows, as `check` tells it. Any other refusal is told
-alone. A `-` for TABLE is a table or a text on standard input.
-
-  --text            the file is a text, whatever it looks like
-Exit status: 0 shown, 1 refused, 2 wrong use or an unreadable file.
-
-Examples:
-  occam-table show examples/lime.csv
-  occam-table show examples/lime.occam
-  occam-table show edited-on-site.csv
-";
-
 const RUN: &str = "\
 occam-table run TABLE SHEET [--text] [--budget N] [--choices A,B,C] [--full] [--table | --plain]
 
 Runs a table or an occam text on a sheet of readings and prints the lines of the sheet runner:
 outcome and steps, each cell, each host output, each stopped row. After the last comma there is
 nothing for an unset cell, and for a host output that is an absence. A refusal is one line on
-standard output, and in plain words on standard error, where each stopped row of a table is told
-too, with its line of occam and the reason. Of a text the lines have its names in place of rows, and
-`line N` in place of a stopped row. The first line of the sheet names channels by rows also for a
-text: the first declaration is row 0. A `-` in place of TABLE and SHEET is standard input: a table
-or a text, a line `=`, and readings; for one of the two it is that one.
+standard output, and in plain words on standard error. Of a text the lines have its names in place
+of rows, and `line N` in place of a stopped row. The first line of the sheet names channels by rows
+also for a text: the first declaration is row 0. A `-` in place of TABLE and SHEET is standard
+input: a table or a text, a line `=`, and readings; for one of the two it is that one.
 
   --text            the file is a text, whatever it looks like
   --budget N        at most N steps (default and greatest: 65536)
@@ -160,9 +114,9 @@ Examples:
 const STEPS: &str = "\
 occam-table steps TABLE SHEET [--text] [--budget N] [--choices A,B,C]
 
-Shows a run step by step: which row of a table, with its line of occam, or line of a text moved,
-what passed on which channel, and at rest what is waiting and why. Each state comes from the
-library, which runs with budgets of 0, 1, 2 and so on; the words come from comparing these states.
+Shows a run step by step: which row of a table or line of a text moved, what passed on which
+channel, and at rest what is waiting and why. Each state comes from the library, which runs with
+budgets of 0, 1, 2 and so on; the words come from comparing these states.
 
   --text            the file is a text, whatever it looks like
   --budget N        at most N steps (default 1000; a long run takes time, since step n is
@@ -224,8 +178,6 @@ pub fn wanted(command: &str, rest: &[String]) -> Option<&'static str> {
     let text = match command {
         "check" => CHECK,
         "read" => READ,
-        "write" => WRITE,
-        "show" => SHOW,
         "run" => RUN,
         "ready" => READY,
         "steps" => STEPS,

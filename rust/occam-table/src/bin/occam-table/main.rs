@@ -1,5 +1,4 @@
-//! The command line over the proved library: check, read, write, show, run, ready, steps, orders,
-//! explain.
+//! The command line over the proved library: check, read, run, ready, steps, orders, explain.
 //!
 //! Answers come from the library only; the words around them are presentation.
 
@@ -13,7 +12,6 @@ mod faults;
 mod help;
 mod input;
 mod kinds;
-mod layout;
 mod orders;
 mod origin;
 mod pairs;
@@ -25,12 +23,9 @@ mod report;
 mod results;
 mod run;
 mod sheet_lines;
-mod show;
-mod spelling;
 mod steps;
 mod text;
 mod values;
-mod write;
 
 use report::Report;
 use std::io::Write;
@@ -39,7 +34,7 @@ use std::process::ExitCode;
 fn main() -> ExitCode {
     let words: Vec<String> = std::env::args().skip(1).collect();
     match respond(&words) {
-        Ok(report) => print(&report),
+        Ok(report) => show(&report),
         Err(message) => {
             eprintln!("occam-table: {message}");
             ExitCode::from(2)
@@ -57,15 +52,11 @@ fn respond(words: &[String]) -> Result<Report, String> {
     }
     match command.as_str() {
         "explain" => explain::command(rest),
-        "check" | "read" | "write" | "show" | "run" | "ready" | "steps" | "orders"
-            if !occam_table::is_linked() =>
-        {
+        "check" | "read" | "run" | "ready" | "steps" | "orders" if !occam_table::is_linked() => {
             Err(occam_table::MISSING.to_string())
         }
         "check" => check::command(rest),
         "read" => read::command(rest),
-        "write" => write::command(rest),
-        "show" => show::command(rest),
         "run" => run::command(rest),
         "ready" => ready::command(rest),
         "steps" => steps::command(rest),
@@ -78,13 +69,9 @@ fn respond(words: &[String]) -> Result<Report, String> {
 }
 
 /// Prints a report; its status is 0, or 1 if it tells a refusal.
-fn print(report: &Report) -> ExitCode {
-    let mut out = std::io::stdout();
-    let written = out.write_all(report.text.as_bytes());
-    // the words beside it follow what they are about
-    let written = written.and_then(|()| out.flush());
+fn show(report: &Report) -> ExitCode {
     eprint!("{}", report.aside);
-    match written {
+    match std::io::stdout().write_all(report.text.as_bytes()) {
         Ok(()) => ExitCode::from(report.status),
         Err(_) => ExitCode::from(2),
     }

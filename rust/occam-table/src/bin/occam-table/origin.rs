@@ -1,54 +1,46 @@
-//! The text of a program: the line of each row, and the names of its declarations. It is the text
-//! that the rows were read from, or the one that a table is written as.
+//! Where the rows of a text came from: the line of each, and the names of its declarations.
+//!
+//! A text has no blank line and no comment, so that its lines follow from its rows: the
+//! declarations come first, one a line, those of blocks left out; then each process, choice and
+//! option has a line of its own, in the order of the tree.
 
-use crate::kinds::BLOCK;
-use crate::layout::Layout;
+use crate::kinds::{ALT, BLOCK, IF, PAR, SEQ, WHILE};
 use crate::program::Program;
 
 /// Most characters of a line that are shown.
 const SHOWN: usize = 60;
 
-/// The text of a program, and where each row stands in it.
+/// Where the rows of a text came from.
 pub struct Origin {
-    layout: Layout,
-    /// Each line.
+    /// The line of each row, counted from 1.
+    lines: Vec<usize>,
+    /// Each line without its indentation.
     source: Vec<String>,
 }
 
 impl Origin {
-    /// The text of this program, whose references are right.
+    /// Where the rows of this program came from, which were read from this text.
     pub fn new(program: &Program, text: &[u8]) -> Origin {
-        let lines = text.split_inclusive(|&byte| byte == b'\n');
-        let line = |line: &[u8]| String::from_utf8_lossy(line).trim_end().to_string();
+        let lines = text.split(|&byte| byte == b'\n');
+        let line = |line: &[u8]| String::from_utf8_lossy(line).trim().to_string();
         Origin {
-            layout: Layout::of(program),
+            lines: lines_of_rows(program),
             source: lines.map(line).collect(),
         }
     }
 
-    /// The line of a row, counted from 1.
+    /// The line of a row.
     pub fn line(&self, row: usize) -> usize {
-        self.layout.line_of[row] + 1
+        self.lines[row]
     }
 
     /// The line of a row as written, without its indentation, shortened.
     pub fn source(&self, row: usize) -> String {
-        shortened(self.whole_source(row))
-    }
-
-    /// How many bytes the text has.
-    pub fn bytes(&self) -> usize {
-        self.source.iter().map(|line| line.len() + 1).sum()
-    }
-
-    /// Each line with the rows that begin it: of a block's line the block's, then its variable's.
-    pub fn numbered(&self, program: &Program) -> Vec<(Vec<usize>, &str)> {
-        let rows = |row: usize| match program.rows[row].kind {
-            BLOCK => vec![row, program.rows[row].a() as usize],
-            _ => vec![row],
-        };
-        let begun = self.layout.lines.iter().map(|line| rows(line.row));
-        begun.zip(self.source.iter().map(String::as_str)).collect()
+        let source = self.whole_source(row);
+        match source.chars().count() > SHOWN {
+            true => source.chars().take(SHOWN).chain("...".chars()).collect(),
+            false => source.to_string(),
+        }
     }
 
     /// The name that a declaration's line declares: the word before its colon.
@@ -61,27 +53,87 @@ impl Origin {
     }
 
     fn whole_source(&self, row: usize) -> &str {
-        let line = self.source.get(self.layout.line_of[row]);
-        line.map_or("", |line| line.trim())
+        let line = self.source.get(self.lines[row] - 1);
+        line.map_or("", String::as_str)
     }
 }
 
-/// A line of a text, of a long one the beginning.
-pub fn shortened(line: &str) -> String {
-    match line.chars().count() > SHOWN {
-        true => line.chars().take(SHOWN).chain("...".chars()).collect(),
-        false => line.to_string(),
+/// The line of each row of a text.
+fn lines_of_rows(program: &Program) -> Vec<usize> {
+    let is_block = |row: &usize| program.rows[*row].kind == BLOCK;
+    let blocks = (0..program.rows.len()).filter(is_block).count();
+    let headers = program.declarations.saturating_sub(blocks);
+    let mut walk = Walk {
+        program,
+        lines: (1..=program.rows.len()).collect(),
+        next: headers + 1,
+    };
+    if program.declarations < program.rows.len() {
+        walk.process(program.declarations);
+    }
+    walk.lines
+}
+
+/// A walk over the processes in the order of their lines.
+struct Walk<'p> {
+    program: &'p Program,
+    lines: Vec<usize>,
+    /// The line that comes next.
+    next: usize,
+}
+
+impl Walk<'_> {
+    /// Gives lines to a process and all beneath it.
+    fn process(&mut self, row: usize) {
+        let [a, b, _] = self.program.rows[row].fields.map(|field| field as usize);
+        match self.program.rows[row].kind {
+            SEQ | PAR => {
+                self.take(&[row]);
+                for member in self.program.list(row) {
+                    self.lines[member] = self.next;
+                    self.process(self.program.rows[member].a() as usize);
+                }
+            }
+            IF | ALT => {
+                self.take(&[row]);
+                for link in self.program.list(row) {
+                    self.take_with_all_beneath(link, self.program.rows[link].c() as usize);
+                    self.process(self.program.rows[link].a() as usize);
+                }
+            }
+            WHILE => {
+                self.take_with_all_beneath(row, a);
+                self.process(b);
+            }
+            BLOCK => {
+                self.take(&[row, a]);
+                self.process(b);
+            }
+            _ => self.take_with_all_beneath(row, row),
+        }
+    }
+
+    /// Gives the next line to a row, and to another with all beneath it.
+    fn take_with_all_beneath(&mut self, row: usize, other: usize) {
+        let rows = [vec![row, other], self.program.beneath(other)].concat();
+        self.take(&rows);
+    }
+
+    /// Gives the next line to these rows.
+    fn take(&mut self, rows: &[usize]) {
+        for &row in rows {
+            self.lines[row] = self.next;
+        }
+        self.next += 1;
     }
 }
 
 #[cfg(test)]
 mod tests {
     use super::*;
-    use crate::kinds::{ALT, IF, PAR, SEQ, WHILE};
     use crate::kinds::{ASSIGNMENT, CHANNEL, CHOICE, INPUT, OPTION, OUTPUT, SKIP, STOP, VARIABLE};
     use crate::kinds::{ELEMENT, FROM_HOST, GUARD, LITERAL, MEMBER, TO_HOST};
-    use occam_table::{read_text, write_text};
-    use reference::generate::{accepted_table, renumbered};
+    use occam_table::read_text;
     use std::fs;
     use std::path::Path;
 
@@ -97,9 +149,8 @@ mod tests {
             pieces(line).first() == Some(&word)
         });
         let names = || {
-            let text = program.text().expect("it has a text");
-            let name = text.name(program.rows[row].a() as usize);
-            pieces(line).contains(&name)
+            let name = program.name(program.rows[row].a() as usize);
+            pieces(line).contains(&name.as_str())
         };
         match kind {
             VARIABLE => line.contains("INT") && line.ends_with(':'),
@@ -135,30 +186,19 @@ mod tests {
         let Ok(rows) = read_text(text) else {
             return 0;
         };
-        compare_rows(name, &Program::of_text(&rows, text), text)
-    }
-
-    /// Compares the lines of all rows of a program with what stands there; tells how many rows.
-    fn compare_rows(name: &str, program: &Program, text: &[u8]) -> usize {
+        let program = Program::of_text(&rows, text);
         let lines: Vec<String> = String::from_utf8_lossy(text)
             .lines()
             .map(|line| line.trim().to_string())
             .collect();
-        let origin = program.text().expect("it has a text");
-        let rows = 0..program.rows.len();
-        for row in rows.clone() {
+        let origin = Origin::new(&program, text);
+        for row in 0..rows.len() {
             let line = &lines[origin.line(row) - 1];
-            assert!(fits(program, row, line), "{name}, row {row}: {line}");
+            assert!(fits(&program, row, line), "{name}, row {row}: {line}");
         }
         for (at, line) in lines.iter().enumerate() {
-            let has_a_row = rows.clone().any(|row| origin.line(row) == at + 1);
+            let has_a_row = (0..rows.len()).any(|row| origin.line(row) == at + 1);
             assert!(has_a_row, "{name}, line {}: {line}", at + 1);
-        }
-        let numbered = origin.numbered(program);
-        assert_eq!(numbered.len(), lines.len(), "{name}");
-        for (rows, line) in numbered {
-            let fit = |&row: &usize| fits(program, row, line.trim());
-            assert!(rows.iter().all(fit), "{name}, rows {rows:?}: {line}");
         }
         rows.len()
     }
@@ -196,24 +236,5 @@ mod tests {
             rows += compare(&format!("seed {seed}"), text);
         }
         assert!(rows > 10_000, "{rows} rows");
-    }
-
-    #[test]
-    fn lines_of_generated_tables_in_other_numberings() {
-        let mut count = 0;
-        for seed in 0..300 {
-            let rows = renumbered(&accepted_table(seed), seed);
-            let rows: Vec<[i32; 4]> = rows
-                .iter()
-                .map(|row| [row.kind, row.a, row.b, row.c])
-                .collect();
-            let written = write_text(rows.as_flattened());
-            let program = Program::of_table(&rows, written.clone());
-            let Ok(text) = written else {
-                continue;
-            };
-            count += compare_rows(&format!("seed {seed}"), &program, text.as_bytes());
-        }
-        assert!(count > 20_000, "{count} rows");
     }
 }

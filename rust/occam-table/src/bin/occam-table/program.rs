@@ -2,9 +2,7 @@
 
 use crate::kinds::{kind_name, kind_of, Field, CHANNEL, FROM_HOST, TO_HOST, VARIABLE};
 use crate::kinds::{GUARD, OPTION};
-use crate::origin::{shortened, Origin};
-use crate::spelling;
-use occam_table::Refusal;
+use crate::origin::Origin;
 use std::fmt;
 use std::ops::Range;
 
@@ -52,8 +50,6 @@ pub struct Program {
     pub declarations: usize,
     /// Where the rows came from, if they were read from a text.
     pub origin: Option<Origin>,
-    /// The text of a table's rows, if they are a program's.
-    pub written: Option<Origin>,
 }
 
 impl Program {
@@ -70,7 +66,6 @@ impl Program {
             rows,
             declarations,
             origin: None,
-            written: None,
         }
     }
 
@@ -81,47 +76,12 @@ impl Program {
         Program { origin, ..program }
     }
 
-    /// The program of a table's rows, with what the library told when it was to write them: the text;
-    /// of rows that it does not write, but which are a program's, the lines that are spelled here.
-    pub fn of_table(rows: &[[i32; 4]], written: Result<String, Refusal>) -> Program {
-        let program = Program::new(rows);
-        let text = match written {
-            Ok(text) => Some(text),
-            // After 5 each row is referred to once, by a lower row that wants its kind.
-            Err(refusal) => {
-                matches!(refusal.number, 1 | 6..=9 | 14).then(|| spelling::text(&program))
-            }
-        };
-        let written = text.map(|text| Origin::new(&program, text.as_bytes()));
-        Program { written, ..program }
-    }
-
     /// The same program, named by rows also if it is of a text.
     pub fn by_rows(self) -> Program {
         Program {
             origin: None,
             ..self
         }
-    }
-
-    /// The text: the one that was given, or the one that a table is written as.
-    pub fn text(&self) -> Option<&Origin> {
-        self.origin.as_ref().or(self.written.as_ref())
-    }
-
-    /// The line of occam of a table's row, shortened; none where it cannot be told.
-    fn line(&self, row: usize) -> Option<String> {
-        match &self.written {
-            Some(written) => Some(written.source(row)),
-            None => spelling::line_alone(self, row).map(|line| shortened(&line)),
-        }
-    }
-
-    /// The line of occam of a table's row after the row as written, unless the kind says it all.
-    pub fn in_occam(&self, row: usize) -> String {
-        let name = kind_name(self.rows[row].kind);
-        let line = self.line(row).filter(|line| line != name);
-        line.map_or(String::new(), |line| format!(", in occam {line}"))
     }
 
     /// Where a row stands: its number, or its line of a text.
@@ -132,39 +92,20 @@ impl Program {
         }
     }
 
-    /// Where a row stands: its number with its line of occam, or its line of a text alone.
-    pub fn place_and_line(&self, row: usize) -> String {
-        self.place(row) + &self.line_beside(row)
-    }
-
-    /// The line of occam of a table's row in brackets; nothing of a text, which has lines itself.
-    fn line_beside(&self, row: usize) -> String {
-        let line = match self.origin {
-            Some(_) => None,
-            None => self.line(row),
-        };
-        line.map_or(String::new(), |line| format!(" ({line})"))
-    }
-
-    /// A row in occam: its line, or the name of its kind where no line can be told.
-    pub fn line_or_kind(&self, row: usize) -> String {
-        let line = match &self.origin {
-            Some(origin) => Some(origin.source(row)),
-            None => self.line(row),
-        };
-        line.unwrap_or_else(|| kind_name(self.rows[row].kind).to_string())
-    }
-
-    /// Where a row stands, and its line or kind.
+    /// Where a row stands, and its kind or, of a text, its line as written.
     pub fn place_and_kind(&self, row: usize) -> String {
-        format!("{} ({})", self.place(row), self.line_or_kind(row))
+        let what = match &self.origin {
+            Some(origin) => origin.source(row),
+            None => kind_name(self.rows[row].kind).to_string(),
+        };
+        format!("{} ({what})", self.place(row))
     }
 
     /// Where a row stands, and the row or line as written.
     pub fn shown(&self, row: usize) -> String {
         let what = match &self.origin {
             Some(origin) => origin.source(row),
-            None => self.rows[row].to_string() + &self.in_occam(row),
+            None => self.rows[row].to_string(),
         };
         format!("{}: {what}", self.place(row))
     }
@@ -177,32 +118,13 @@ impl Program {
         }
     }
 
-    /// The name of a declaration; with a table's row its name in occam, where that has another number,
-    /// since a block's variable stands among the declarations before others.
-    pub fn name_in_words(&self, declaration: usize) -> String {
-        let name = self.name(declaration);
-        let in_occam = self.written.as_ref().map(|text| text.name(declaration));
-        match in_occam {
-            Some(other) if other.trim_start_matches(['v', 'c']) != name => {
-                format!("{name} ({other})")
-            }
-            _ => name,
-        }
-    }
-
     /// A declaration with its sort.
     pub fn sort_and_name(&self, declaration: usize) -> String {
         let sort = match self.rows[declaration].kind {
             VARIABLE => "variable",
             _ => "channel",
         };
-        format!("{sort} {}", self.name_in_words(declaration))
-    }
-
-    /// A channel with its declaration in occam, or its name in a text.
-    pub fn channel_and_line(&self, channel: usize) -> String {
-        let line = self.line_beside(channel);
-        format!("channel {}{line}", self.name(channel))
+        format!("{sort} {}", self.name(declaration))
     }
 
     /// A cell or an element, or the whole declaration if the number is not known.

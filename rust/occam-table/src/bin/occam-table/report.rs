@@ -1,7 +1,7 @@
 //! What a command prints, and its exit status.
 
 use crate::explain::meaning;
-use crate::faults::{details, help_about_blocks, written, Given};
+use crate::faults::{details, help_about_blocks, Given};
 use crate::text;
 use occam_table::Refusal;
 
@@ -28,15 +28,6 @@ impl Report {
         Report {
             text: format!("{refusal}\n"),
             aside: String::new(),
-            status: 1,
-        }
-    }
-
-    /// A report of a refusal in plain words beside standard output, which is for what was not made.
-    pub fn refused_beside(refusal: Refusal, names: &str, given: &Given) -> Report {
-        Report {
-            text: String::new(),
-            aside: refusal_words(refusal, names, given),
             status: 1,
         }
     }
@@ -70,7 +61,6 @@ pub fn refusal_words(refusal: Refusal, names: &str, given: &Given) -> String {
 /// What to do about a refusal at its place.
 fn help_words(refusal: Refusal, given: &Given) -> &'static str {
     match (refusal.number, refusal.place) {
-        (1, _) => written::help(given),
         (2, 0) => "shorten the table to at most 32768 bytes",
         (2, 1) => "begin the table with the line kind,a,b,c and a line feed",
         (2, place) if line_of(&given.code.bytes, place) == Some(b"=") => {

@@ -96,14 +96,14 @@ fn difference(program: &Program, first: &Snapshot, other: &Snapshot) -> String {
         let (was, is) = (&first.lists[at], &other.lists[at]);
         if was != is {
             let [was, is] = [was, is].map(|list| list_words(list));
-            let name = program.channel_and_line(channel);
+            let name = program.sort_and_name(channel);
             text += &format!("  {name} to the host: {is}, not {was}\n");
         }
     }
     for (at, channel) in program.reading_channels().enumerate() {
         let (was, is) = (first.places[at], other.places[at]);
         if was != is {
-            let name = program.channel_and_line(channel);
+            let name = program.sort_and_name(channel);
             text += &format!("  {name} from the host: {is} taken, not {was}\n");
         }
     }
@@ -111,23 +111,17 @@ fn difference(program: &Program, first: &Snapshot, other: &Snapshot) -> String {
     text + &other_states(program, rows.collect())
 }
 
-/// Words about rows with other states, each with its line of occam, or about their lines of a text.
+/// Words about rows with other states, or about their lines of a text.
 fn other_states(program: &Program, rows: Vec<usize>) -> String {
-    let (what, mut places): (_, Vec<String>) = match &program.origin {
+    let (what, mut places) = match &program.origin {
         Some(origin) => (
             "states: other ones in line",
-            rows.iter()
-                .map(|&row| origin.line(row).to_string())
-                .collect(),
+            rows.iter().map(|&row| origin.line(row)).collect(),
         ),
-        None => (
-            "row states: other ones in",
-            rows.iter()
-                .map(|&row| program.place_and_line(row))
-                .collect(),
-        ),
+        None => ("row states: other ones in", rows),
     };
     places.dedup();
+    let places: Vec<String> = places.iter().map(usize::to_string).collect();
     match places[..] {
         [] => String::new(),
         _ => format!("  {what} {}\n", places.join(", ")),

@@ -53,9 +53,9 @@ impl Asked {
     /// What was given, for words about a refusal.
     pub fn given(&self) -> Given<'_> {
         Given {
+            code: &self.code,
             sheet: &self.sheet,
             budget: self.budget,
-            ..Given::alone(&self.code)
         }
     }
 
@@ -81,26 +81,13 @@ pub fn command(words: &[String]) -> Result<Report, String> {
         Err(refusal) => return Ok(refused_line_and_words(refusal, &asked)),
     };
     let program = asked.program();
-    Ok(if table {
-        Report::accepted(aligned::page(&program, &run, full))
+    Ok(Report::accepted(if table {
+        aligned::page(&program, &run, full)
     } else if arguments.has("--plain") {
-        Report::accepted(sheet_lines::page(&program.by_rows(), &run, full))
+        sheet_lines::page(&program.by_rows(), &run, full)
     } else {
-        lines_and_stops(&program, &run, full)
-    })
-}
-
-/// The sheet runner's lines; of a table, which has no lines of its own to look at, the stopped rows
-/// beside them with their lines of occam.
-fn lines_and_stops(program: &Program, run: &Run, full: bool) -> Report {
-    let aside = match program.origin {
-        Some(_) => String::new(),
-        None => aligned::stop_words(program, run),
-    };
-    Report {
-        aside,
-        ..Report::accepted(sheet_lines::page(program, run, full))
-    }
+        sheet_lines::page(&program, &run, full)
+    }))
 }
 
 /// The sheet runner's line of a refusal; the plain words go beside it.

@@ -5,7 +5,10 @@ mod lines;
 mod names;
 mod spelling;
 mod spoiling;
+mod top_down;
 mod writing;
+
+pub use top_down::top_down;
 
 use super::random::Random;
 use super::{generate, Aim, SMALL_BYTES};
@@ -14,7 +17,7 @@ use crate::kinds::{CHANNEL, FROM_HOST, SKIP};
 use crate::printing::split_input;
 use crate::refusal::Refusal;
 use crate::table::{Row, ROWS};
-use crate::text::{top_down, TEXT_BYTES};
+use crate::text::TEXT_BYTES;
 use lines::{header_count, WrittenLine};
 use spelling::spelled;
 use writing::written;

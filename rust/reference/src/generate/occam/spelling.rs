@@ -2,7 +2,6 @@
 
 use super::super::random::Random;
 use super::lines::WrittenLine;
-use crate::text::spelling::needs_space;
 
 /// The bytes of a line, with its line feed.
 pub fn spelled(random: &mut Random, line: &WrittenLine) -> Vec<u8> {
@@ -17,4 +16,15 @@ pub fn spelled(random: &mut Random, line: &WrittenLine) -> Vec<u8> {
     }
     text.push('\n');
     text.into_bytes()
+}
+
+/// Whether a space must part two symbols: words and numbers, and a minus sign before a digit.
+fn needs_space(left: &str, right: &str) -> bool {
+    let digit_first = right.starts_with(|first: char| first.is_ascii_digit());
+    is_word_or_number(left) && is_word_or_number(right) || left == "-" && digit_first
+}
+
+/// Whether a symbol is a word or a number.
+fn is_word_or_number(token: &str) -> bool {
+    token.ends_with(|last: char| last.is_ascii_alphanumeric() || last == '_')
 }

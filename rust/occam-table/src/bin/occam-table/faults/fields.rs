@@ -73,10 +73,7 @@ fn wrong_field(program: &Program, at: usize, field: Field, number: i32) -> Strin
     );
     if matches!(field, Field::Variable | Field::Channel(..)) {
         words += &match program.row(number) {
-            Some(row) => format!(
-                "; row {number} is {row}{}",
-                program.in_occam(number as usize)
-            ),
+            Some(row) => format!("; row {number} is {row}"),
             None => format!("; there is no row {number}"),
         };
     }

@@ -93,10 +93,16 @@ fn first_line_words(program: &Program, channels: &[usize], names: &str) -> Strin
     }
     let which = channels.iter().map(|&channel| match program.origin {
         Some(_) => format!("{channel} for {}", program.name(channel)),
-        None => program.channel_and_line(channel),
+        None => channel.to_string(),
     });
-    let which = which.collect::<Vec<_>>().join(", ");
-    format!("the line {names}, the rows of the channels from the host: {which}")
+    let order = match program.origin {
+        Some(_) => format!(
+            "rows of the channels from the host: {}",
+            which.collect::<Vec<_>>().join(", ")
+        ),
+        None => "channels from the host in row order".to_string(),
+    };
+    format!("the line {names}, the {order}")
 }
 
 /// A line with its line feed, counted from 1.

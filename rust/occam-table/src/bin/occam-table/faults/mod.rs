@@ -7,32 +7,17 @@ mod limits;
 pub mod lines;
 mod references;
 mod usage;
-pub mod written;
 
 use crate::code::Code;
 use crate::program::Program;
 use crate::text;
-use occam_table::{Refusal, TEXT_BYTES};
+use occam_table::Refusal;
 
 /// What a refused call was given.
 pub struct Given<'a> {
     pub code: &'a Code,
     pub sheet: &'a [u8],
     pub budget: u64,
-    /// The length of the buffer that is lent for a text.
-    pub room: u64,
-}
-
-impl<'a> Given<'a> {
-    /// A table or a text alone.
-    pub fn alone(code: &'a Code) -> Given<'a> {
-        Given {
-            code,
-            sheet: &[],
-            budget: 0,
-            room: TEXT_BYTES as u64,
-        }
-    }
 }
 
 /// Words about the place of a refusal; none where nothing was found.
@@ -40,7 +25,6 @@ pub fn details(refusal: Refusal, given: &Given) -> Vec<String> {
     let place = refusal.place as usize;
     let bytes = &given.code.bytes;
     match refusal.number {
-        1 => vec![written::does_not_fit(given)],
         2 => lines::of_table(bytes, place),
         3 if given.code.is_text => text::too_many_rows(bytes),
         3 => lines::too_many_rows(bytes),
@@ -81,10 +65,7 @@ fn of_rows(number: u8, place: usize, program: &Program) -> Vec<String> {
     };
     let shown = match program.origin {
         Some(_) => program.shown(place),
-        None => {
-            let in_occam = program.in_occam(place);
-            format!("row {place}, line {}: {row}{in_occam}", place + 2)
-        }
+        None => format!("row {place}, line {}: {row}", place + 2),
     };
     std::iter::once(shown).chain(found).collect()
 }
@@ -102,11 +83,10 @@ mod tests {
         let lent = u32::try_from(budget).unwrap_or(u32::MAX);
         let mut machine = Machine::new();
         let refusal = machine.run_table(&table, &sheet, &choices, lent).err()?;
-        let code = Code::new(table, false);
         let given = Given {
+            code: &Code::new(table, false),
             sheet: &sheet,
             budget,
-            ..Given::alone(&code)
         };
         Some((refusal, details(refusal, &given)))
     }

@@ -50,7 +50,7 @@ fn wrong_reference(
         None if number == -1 => "-1 is allowed for \"first\" and \"next\" only".to_string(),
         None => format!("there is no row {number}"),
         Some(_) if i64::from(number) <= index as i64 => format!("row {number} is not higher"),
-        Some(row) => format!("row {number} is {row}{}", program.in_occam(number as usize)),
+        Some(row) => format!("row {number} is {row}"),
     };
     format!(
         "field {} ({}) is {number}; expected {}; {goes}",
@@ -83,8 +83,7 @@ fn referring(program: &Program, index: usize) -> Vec<String> {
             let goes_here = usize::try_from(number) == Ok(index);
             if let Some((kinds, _)) = field.reference().filter(|_| goes_here) {
                 if is_right(program, row, number, kinds) {
-                    let place = program.place_and_line(row);
-                    from.push(format!("{place} field {}", FIELD_NAMES[at]));
+                    from.push(format!("row {row} field {}", FIELD_NAMES[at]));
                 }
             }
         }

@@ -79,9 +79,8 @@ fn words(program: &Program, members: [usize; 2], one: &Access, other: &Access) -
         )
     };
     let [first, second] = members.map(|member| program.place(member));
-    let [one_line, other_line] = members.map(|member| program.place_and_line(member));
     vec![
-        format!("the members in {one_line} and {other_line} both have {what}"),
+        format!("the members in {first} and {second} both have {what}"),
         format!("in the member of {first} it {}", deed(one)),
         format!("in the member of {second} it {}", deed(other)),
     ]

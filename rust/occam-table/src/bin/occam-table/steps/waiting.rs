@@ -108,10 +108,7 @@ impl Rest<'_> {
         }
         let each: Vec<String> = rows
             .iter()
-            .map(|&row| {
-                let place = self.program.place_and_line(row);
-                format!("{place} {}", self.state_words(row))
-            })
+            .map(|&row| format!("{} {}", self.program.place(row), self.state_words(row)))
             .collect();
         let would = format!("nobody is ready to {verb} there");
         format!("{would}: {}", each.join(", "))
@@ -171,9 +168,12 @@ impl Rest<'_> {
         format!("can take no option: {}", each.join("; "))
     }
 
-    /// The name of an option: its row and guard, or its line of a text.
+    /// The name of an option: its row, or its line of a text.
     fn option_name(&self, option: usize) -> String {
-        format!("that in {}", self.program.place_and_line(option))
+        match self.program.origin {
+            Some(_) => format!("that in {}", self.program.place(option)),
+            None => format!("option {option}"),
+        }
     }
 
     /// Why an option can't be taken.

@@ -51,7 +51,7 @@ pub fn of_move(program: &Program, step: &Move) -> String {
             Some(choice) => format!(
                 "{} chose the choice in {} and started {}",
                 row_words(program, *row),
-                program.place_and_line(*choice),
+                program.place(*choice),
                 process_words(program, *choice)
             ),
             None => format!("{} chose", row_words(program, *row)),
@@ -75,7 +75,7 @@ pub fn of_unset(program: &Program, variables: &[usize]) -> String {
     .collect()
 }
 
-/// A row and its line of occam, or a line of a text.
+/// A row and the name of its kind, or a line of a text.
 pub fn row_words(program: &Program, row: usize) -> String {
     program.place_and_kind(row)
 }
@@ -163,12 +163,12 @@ fn tested_words(program: &Program, row: usize, held: bool) -> String {
 
 /// The option taken, or those that it may have been.
 fn options_words(program: &Program, options: &[usize]) -> String {
-    let each = options.iter().map(|&option| program.place_and_line(option));
+    let each = options.iter().map(|&option| program.place(option));
     let rows: Vec<String> = each.collect();
     match options {
         [option] => format!(
             "the option in {} and started {}",
-            program.place_and_line(*option),
+            program.place(*option),
             process_words(program, *option)
         ),
         [] => "an option".to_string(),
