@@ -13,7 +13,7 @@ use nodes::natural;
 
 // The sort of what a row names: 0 nothing, 1 a variable, 2 an inner channel, 3 one from the host, 4 one to the host; its
 // first cell or element, and how many; of a host channel its number among those of its role, and its capacity.
-#[derive(Drop)]
+#[derive(Clone, Copy)]
 pub struct Name {
     pub sort: u16,
     pub first: u16,
@@ -23,7 +23,7 @@ pub struct Name {
 }
 
 // The cells, elements and host channels that rows declare.
-#[derive(Drop)]
+#[derive(Clone, Copy)]
 pub struct Sums {
     pub cells: u16,
     pub elements: u16,

@@ -9,7 +9,7 @@ ghost use Rattle.base_rows.specs.Places.{place_of};
 use crate::Place;
 
 // What some declarations declare together.
-#[derive(Drop)]
+#[derive(Clone, Copy)]
 struct Sums {
     cells: u64,
     elements: u64,

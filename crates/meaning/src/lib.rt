@@ -2,7 +2,7 @@
 #![tactic(auto)]
 
 // A value, or the reason that there is none.
-#[derive(Drop)]
+#[derive(Clone, Copy)]
 pub enum Value {
     Number(i32),
     Missing(u8),
@@ -41,7 +41,7 @@ pub enum Node {
 }
 
 // How a run ends: at rest ("ended if the root has ended, broken if a row is stopped, else stuck"), or spent ("the steps equal the budget and one is ready").
-#[derive(Drop)]
+#[derive(Clone, Copy)]
 pub enum Outcome {
     Ended,
     Stuck,
@@ -50,14 +50,14 @@ pub enum Outcome {
 }
 
 // The answer to a call: a refusal by the paper's number with its place, or a run's outcome with its steps and how many are ready after it.
-#[derive(Drop)]
+#[derive(Clone, Copy)]
 pub enum Answer {
     Refused(u8, u32),
     Ran(Outcome, u32, u32),
 }
 
 // The verdict on a table alone: accepted, or refused by the paper's number with its place.
-#[derive(Drop)]
+#[derive(Clone, Copy)]
 pub enum Verdict {
     Accepted,
     Rejected(u8, u32),

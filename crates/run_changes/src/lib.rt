@@ -9,7 +9,7 @@ use run_code::place;
 
 // A change of data: none; a cell gets a number with its mark; a cell gets the next reading of a channel, whose place is
 // raised; a number with its mark for a channel to the host, whose strip begins there.
-#[derive(Drop)]
+#[derive(Clone, Copy)]
 pub enum Data {
     Nothing,
     Cell(usize, i32, u8),

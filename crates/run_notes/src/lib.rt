@@ -12,7 +12,7 @@ use run_ready_bits::lower;
 
 // What a row would do, as numbers: what it is; a row, channel, element or reason; third a cell, or of an output the mark of
 // its message; and a number with its sign.
-#[derive(Drop)]
+#[derive(Clone, Copy)]
 pub struct Note {
     pub what: u16,
     pub at: u16,

@@ -11,7 +11,7 @@ use copying::{copy_bytes, copy_counts, copy_numbers};
 use meaning::Answer;
 
 // What a task comes to: the answer, and the arrays that a run leaves, zeros in a refusal.
-#[derive(Drop)]
+#[derive(Clone, Copy)]
 pub struct Done {
     pub answer: Answer,
     pub cells: [i32; 256],
