@@ -1,0 +1,14 @@
+use mathlib.Core.Path.{◌≡◌}
+use Prim.Native.Nat.{◌≤◌}
+use borrow.Author.Rules.{rules}
+use native.Mathlib.Omega.{arith}
+use lib.ListN.{length}
+use Rattle.base_numbers.proofs.Written.{Written, nothing_written, digit-before, one_written, all-written}
+use Rattle.base_numbers.proofs.numerals.put_digits.Given as goal
+
+-- The measure is the number that is left. Assumes nothing.
+abbrev pub invariant-loop-rest : goal.invariant-loop-rest
+invariant-loop-rest l = Written l.initial.out l.end l.n l.out l.at l.rest
+
+abbrev pub decreases-loop-rest : goal.decreases-loop-rest
+decreases-loop-rest l = l.rest
