@@ -5,12 +5,8 @@ use Rattle.meaning.specs.Kinds.{shapes, shape_in, shape_of}
 use Rattle.meaning.specs.Usage.{numbers_from}
 use Rattle.base_kinds.specs.Table.{numbers_in, field_meant, meant_shape, mask_of, table_of_kinds}
 use Rattle.base_kinds.proofs.Tables.{shapes_from, kinds_from, table-means}
-use Rattle.base_kinds.proofs.kind_table.Statement.{statement}
-use Rattle.base_kinds.proofs.kind_table.Tie as tie
+use Rattle.base_kinds.proofs.kind_table.Goals as goal
 
-returns : tie.Need-returns
+pub returns : goal.returns
 unfolding all_below numbers_from shapes shape_in shape_of mask_of table_of_kinds numbers_in field_meant meant_shape shapes_from kinds_from
-returns c = (refl, table-means _ refl refl)
-
-pub kind-table-spec : {M : Type 1} → statement M
-kind-table-spec = tie.close (tie.spec returns)
+returns c = record { numbers = refl; meaning = table-means _ refl refl }

@@ -1,0 +1,25 @@
+-- `join` meets its contract. The loop has joined the words before i; the measure is what is left of them.
+use mathlib.Core.Path.{◌≡◌, refl, sym, ◌∙◌}
+use mathlib.Core.List.{◌++◌}
+use Prim.Native.Nat.{◌-◌}
+use native.Mathlib.Omega.{arith}
+use lib.ListN.{length, take, drop, length-set}
+use borrow.Author.Rules.{rules}
+use Rattle.base_sets.specs.Sets.{set_union}
+use Rattle.base_sets.proofs.SetLaws.{join-start, join_step, join-done}
+use Rattle.base_sets.proofs.join.Goals as goal
+
+pub loop-i-init : goal.loop-i-init
+loop-i-init c = (join-start c.args.sets.now c.args.more.now, refl)
+
+pub loop-i-smaller : goal.loop-i-smaller
+loop-i-smaller c = simp length-set (omega arith)
+
+pub loop-i-preserved : goal.loop-i-preserved
+loop-i-preserved c = (
+  c.loop-i.invariant.0 ∙ join_step c.loop-i.sets c.args.more.now c.loop-i.i c.loop-i-test.true (search rules),
+  length-set c.loop-i.sets c.loop-i.i _ ∙ c.loop-i.invariant.1,
+)
+
+pub returns : goal.returns
+returns c = sym (c.loop-i.invariant.0 ∙ join-done c.loop-i.sets c.args.more.now c.loop-i.i c.loop-i-test.false)

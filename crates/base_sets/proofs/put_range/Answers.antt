@@ -1,0 +1,37 @@
+-- `put_range` meets its contract. The loop puts in the first k numbers of the range; the rest of it is still to be put in.
+use mathlib.Core.Path.{◌≡◌, refl, sym, ap, ◌∙◌}
+use mathlib.Core.List.{List}
+use Prim.Native.Nat.{ℕ, ◌+◌, ◌-◌, ◌≤◌}
+use lib.ListN.{length}
+use borrow.Author.Rules.{rules}
+use Rattle.meaning.specs.Usage.{numbers_from}
+use Rattle.base_sets.specs.Sets.{with_all, in_sort}
+use Rattle.base_sets.proofs.SetLaws.{range-start, with_none, with-next, range-next, range_none}
+use Rattle.base_sets.proofs.put_range.Goals as goal
+
+pub loop-k-init : goal.loop-k-init
+loop-k-init c =
+    let a = c.args in
+    (ap (λ (l : List ℕ). with_all a.sets.now (in_sort a.sort l)) (range-start a.first a.n), search rules, refl)
+
+pub loop-k-preserved : goal.loop-k-preserved
+loop-k-preserved c =
+    let a = c.args in
+    let k = c.loop-k.k in
+    let v = c.loop-k.invariant in (
+      v.0
+          ∙ ap (λ (l : List ℕ). with_all c.loop-k.sets (in_sort a.sort l)) (range-next a.first a.n k c.loop-k-test.true)
+          ∙ with-next c.loop-k.sets a.sort (a.first + k) (numbers_from (a.first + (k + 1)) (a.n - (k + 1))) (search rules)
+          ∙ ap (λ (s : List ℕ). with_all s (in_sort a.sort (numbers_from (a.first + (k + 1)) (a.n - (k + 1))))) (sym c.put.ensures),
+      search rules,
+      c.put.auto.sets ∙ v.2,
+    )
+
+pub returns : goal.returns
+returns c =
+    let a = c.args in
+    let k = c.loop-k.k in
+    sym
+    (c.loop-k.invariant.0
+    ∙ ap (λ (l : List ℕ). with_all c.loop-k.sets (in_sort a.sort l)) (range_none (a.first + k) a.n k c.loop-k-test.false)
+    ∙ with_none c.loop-k.sets)

@@ -1,0 +1,15 @@
+use mathlib.Core.Path.{◌≡◌, refl, sym, ap, ◌∙◌}
+use mathlib.Core.List.{List}
+use Prim.Native.Nat.{ℕ, ◌+◌, ◌-◌, ◌≤◌}
+use lib.ListN.{length}
+use borrow.Author.Rules.{rules}
+use Rattle.meaning.specs.Usage.{numbers_from}
+use Rattle.base_sets.specs.Sets.{with_all, in_sort}
+use Rattle.base_sets.proofs.SetLaws.{range-start, with_none, with-next, range-next, range_none}
+use Rattle.base_sets.proofs.put_range.Given as goal
+
+abbrev pub invariant-loop-k : goal.invariant-loop-k
+invariant-loop-k l = (with_all l.initial.sets (in_sort l.sort (numbers_from l.first l.n)) ≡ with_all l.sets (in_sort l.sort (numbers_from (l.first + l.k) (l.n - l.k)))) × (l.k ≤ l.n) × (length l.sets ≡ length l.initial.sets)
+
+abbrev pub decreases-loop-k : goal.decreases-loop-k
+decreases-loop-k l = l.n - l.k
