@@ -1,0 +1,20 @@
+-- The part from the strip's begin on, cut to the marks that there are. Assumes nothing.
+use Prim.Native.Nat.{◌+◌, ◌≤◌}
+use lib.ListN.{length}
+use borrow.Author.Rules.{rules}
+use Rattle.write_strips.proofs.Spans.{part_held}
+use Rattle.write_strips.proofs.strip_marks.Goals as goal
+
+pub overflow_add-end : goal.overflow_add-end
+overflow_add-end c =
+    let within : c.held_span-held.result.start + c.held_span-held.result.size ≤ length c.args.output-marks.now = (part_held c.args.output-marks.now c.args.rows.now c.args.channel c.held_span-held.result c.held_span-held.ensures).0 in
+    let h = within in search rules
+
+-- LOST part-result-start : tie.Need-slice-bounds-result-start
+-- part-result-start c = search rules
+
+-- LOST part-result-end : tie.Need-slice-bounds-result-end
+-- part-result-end c = within c.before
+
+pub returns : goal.returns
+returns c = (part_held c.args.output-marks.now c.args.rows.now c.args.channel c.held_span-held.result c.held_span-held.ensures).1
