@@ -18,11 +18,8 @@ offset_bounds-numbers-start c =
     let start : c.held_span-held.result.start ≤ length c.args.numbers.now = omega arith in
     search rules
 
--- LOST part-result-start : tie.Need-slice-bounds-result-start
--- part-result-start c = search rules
-
--- LOST part-result-end : tie.Need-slice-bounds-result-end
--- part-result-end c = within c.before
+pub slice_bounds-result-end : goal.slice_bounds-result-end
+slice_bounds-result-end c = (part_held c.args.numbers.now c.args.rows.now c.args.channel c.held_span-held.result c.held_span-held.ensures).0
 
 pub returns : goal.returns
 returns c = (part_held c.args.numbers.now c.args.rows.now c.args.channel c.held_span-held.result c.held_span-held.ensures).1

@@ -7,14 +7,11 @@ use Rattle.write_strips.proofs.strip_marks.Goals as goal
 
 pub overflow_add-end : goal.overflow_add-end
 overflow_add-end c =
-    let within : c.held_span-held.result.start + c.held_span-held.result.size ≤ length c.args.output-marks.now = (part_held c.args.output-marks.now c.args.rows.now c.args.channel c.held_span-held.result c.held_span-held.ensures).0 in
+    let within : c.held_span-held.result.start + c.held_span-held.result.size ≤ length c.args.output_marks.now = (part_held c.args.output_marks.now c.args.rows.now c.args.channel c.held_span-held.result c.held_span-held.ensures).0 in
     let h = within in search rules
 
--- LOST part-result-start : tie.Need-slice-bounds-result-start
--- part-result-start c = search rules
-
--- LOST part-result-end : tie.Need-slice-bounds-result-end
--- part-result-end c = within c.before
+pub slice_bounds-result-end : goal.slice_bounds-result-end
+slice_bounds-result-end c = (part_held c.args.output_marks.now c.args.rows.now c.args.channel c.held_span-held.result c.held_span-held.ensures).0
 
 pub returns : goal.returns
-returns c = (part_held c.args.output-marks.now c.args.rows.now c.args.channel c.held_span-held.result c.held_span-held.ensures).1
+returns c = (part_held c.args.output_marks.now c.args.rows.now c.args.channel c.held_span-held.result c.held_span-held.ensures).1
