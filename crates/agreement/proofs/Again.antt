@@ -82,8 +82,11 @@ zeros-keep [] s x e = e
 zeros-keep (r ∷ rs) s x e = zeros-keep rs (set s r 0) x (set-zero s r x e)
 
 pub zeros-idle : (rs s : List ℕ) (x : ℕ) → Memᴰ x rs → get_or (make_idle rs s) x 0 ≡ 0
-zeros-idle rs s x (Memᴰ.head {x = r} {xs = q} e) = zeros-keep q (set s r 0) x (rw e (set-zero-same s r))
-zeros-idle rs s x (Memᴰ.tail {x = r} {xs = q} m) = zeros-idle q (set s r 0) x m
+zeros-idle rs s x m = go rs s m
+  where
+    go : (rs s : List ℕ) → Memᴰ x rs → get_or (make_idle rs s) x 0 ≡ 0
+    go rs s (Memᴰ.head {x = r} {xs = q} e) = zeros-keep q (set s r 0) x (rw e (set-zero-same s r))
+    go rs s (Memᴰ.tail {x = r} {xs = q} m) = go q (set s r 0) m
 
 pub loop-never : (k : Action) → ends_when_closed k ≡ false → mode k ≡ by_step
 loop-never stop e = refl

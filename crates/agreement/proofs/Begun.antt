@@ -6,7 +6,7 @@ use mathlib.Core.List.{List, [], ◌++◌, Memᴰ}
 use Prim.Native.Nat.{ℕ, zero, suc, ◌<◌}
 use lib.ListN.{length, get_or, set, length-set}
 use lib.Seq.{set_comm, get_or-set_same, get_or-set_other}
-use Rattle.meaning.specs.Tree.{Action, block, Process, node, Processes, empty, also, row_of, rows_in, rows_beneath}
+use Rattle.meaning.specs.Tree.{Action, block, Process, node, Processes, empty, also, row_of, rows_in, rows_beneath, alternation, loop, conditional, output, input, assign, parallel, sequence, skip, stop}
 use Rattle.meaning.specs.Declarations.{Variable}
 use Rattle.meaning.specs.State.{state_of, make_idle}
 use Rattle.meaning.specs.Settle.{states_of, Mode, by_step, mode, starts, next_mode, complete, ends_when_closed, settle_running, settle_each, settle, local_of, if_started, visit_begun, begun_running, begun_each, begun}

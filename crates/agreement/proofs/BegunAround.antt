@@ -7,7 +7,7 @@ use Prim.Native.Nat.{ℕ, suc}
 use native.Mathlib.Omega.{arith}
 use lib.ListN.{get_or}
 use Rattle.meaning.specs.Declarations.{Variable}
-use Rattle.meaning.specs.Tree.{Action, Process, node, Processes, also, row_of, rows_beneath}
+use Rattle.meaning.specs.Tree.{Action, Process, node, Processes, also, row_of, rows_beneath, empty}
 use Rattle.meaning.specs.State.{state_of}
 use Rattle.meaning.specs.Settle.{Mode, mode, starts, settle, local_of, if_started, begun_each, begun}
 use Rattle.meaning.proofs.UnsetLaws.{Joined, joined-right, joined-append}
@@ -49,6 +49,7 @@ module _ (k : Action) (r : ℕ) (ms : Processes) (f : List ℕ → List ℕ) (F 
         (each-around ps u d.2 (mode k') h (mode k') (local_of k'))
 
     each-around : (ps : Processes) → SubM k r ms ps → SoundM ps n → (m : Mode) → GoodM s m ps → (m1 : Mode) (vs : List Variable) → Joined (begun_each ps m1 vs (f s)) us (begun_each ps m1 vs s)
+    each-around empty x6 d m g m1 vs = elim x6 [ ]
     each-around (also p ps) (front u) d m g m1 vs =
         let b = starts m1 in
         let (j, w) = going-around p u d.0 (good_m-head g) in

@@ -6,7 +6,7 @@ use mathlib.Core.List.{List, [], ◌∷◌}
 use Prim.Native.Nat.{ℕ, suc}
 use lib.ListN.{length, get_or, set, length-set}
 use lib.Seq.{get_or-set_same, get_or-set_other}
-use Rattle.meaning.specs.Tree.{Process, node, Processes, also, row_of, rows_in, rows_beneath}
+use Rattle.meaning.specs.Tree.{Process, node, Processes, also, row_of, rows_in, rows_beneath, empty}
 use Rattle.meaning.specs.Declarations.{Variable}
 use Rattle.meaning.specs.State.{state_of}
 use Rattle.meaning.specs.Settle.{Mode, mode, starts, settle_each, settle, local_of, if_started, begun_each, begun}
@@ -54,6 +54,7 @@ module _ (b x v n : ℕ) where
 
     pub each-absorb : (ms : Processes) → SoundM ms n → (s : List ℕ) → length s ≡ n → AtM b x v s ms → (m : Mode) (vs : List Variable)
         → Joined (begun_each ms m vs (set (settle_each ms m s) x v)) (begun_each ms m vs s) (begun_each ms m vs (set s x v))
+    each-absorb empty d s l x7 m vs = elim x7 [ ]
     each-absorb (also p ms) d s l (first h) m vs =
         let m1 = after p m s in
         let m2 = after p m (set s x v) in

@@ -79,6 +79,7 @@ module _ (n : ℕ) (v : Variable) (r : ℕ) (q : Process) where
 
     each-begins : (ps : Processes) → SoundM ps n → (m : Mode) (vs : List Variable) (s : List ℕ) → length s ≡ n → GoodM s m ps → SubM (block v) r ms ps → Idle (rows_beneath ms) s → get_or s r 0 < 2
         → get_or (settle_each ps m s) r 0 ≢ 0 → Memᴰ v (begun_each ps m vs s)
+    each-begins empty d m vs s l g x15 i lt ne = elim x15 [ ]
     each-begins (also p ps) d m vs s l g (front u) i lt ne =
         let t = settle p (starts m) s in
         let k = next_mode m (state_of t p) in

@@ -90,6 +90,7 @@ module _ (n : ℕ) where
         node-without-step (inr ne) true ec f = only ne (f ne (all-ended ms w (all-complete (mode k) ne (states_of ms w) ec)))
 
     pub all-end-without-step : (ms : Processes) → SoundM ms n → (m : Mode) → m ≢ by_step → (s : List ℕ) → length s ≡ n → Idle (rows_beneath ms) s → All 2 (settle_each ms m s) ms → NoStep ms
+    all-end-without-step empty d m ne s l i h k r ns x11 = elim x11 [ ]
     all-end-without-step (also p ms) d m ne s l i h k r ns (front u) =
         let j : Idle (rows_in p) s = λ y q. i y (Memᴰ.append_left (rows_beneath ms) q) in
         let z = j (row_of p) (row_in p) in

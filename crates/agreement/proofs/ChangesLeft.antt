@@ -107,6 +107,7 @@ module _ (k : Action) (r : ℕ) (ms : Processes) (f : List ℕ → List ℕ) (F 
         rw (off-look F s r' (λ c. d.1 (sub_m-rows c ps u)) ∙ e', e') (omega (arith, less_m-around ps u d.2 (mode k') h (starts (mode k'))))
 
     less_m-around : (ps : Processes) → SubM k r ms ps → SoundM ps n → (m : Mode) → GoodM s m ps → (b : Bool) → left_m ps b (f s) < left_m ps b s
+    less_m-around empty x6 d m g b = elim x6 [ ]
     less_m-around (also p ps) (front u) d m g b =
         omega (arith, less-around p u d.0 (good_m-head g) b, left_m-agree s (f s) ps b (first-only k r ms f F s e n p ps u d.2))
     less_m-around (also p ps) (back u) d m g b = omega (arith, less_m-around ps u d.1 m (good_m-tail g) b, left-agree s (f s) p b (beside k r ms f F s e n p ps u d.2))
@@ -130,6 +131,7 @@ less-start (node k r ms) n d s l (over i e q h o) z = absurd (omega arith)
 less-start (node k r ms) n d s l (run e h) z = absurd (omega arith)
 
 pub less-started : (n : ℕ) {q : Process} (ms : Processes) → SoundM ms n → (s : List ℕ) → length s ≡ n → (m : Mode) → GoodM s m ms → Among q ms → state_of s q ≡ 0 → left_m ms true (set s (row_of q) 1) < left_m ms true s
+less-started n {q = q} empty d s l m g x5 z = elim x5 [ ]
 less-started n (also p ms) d s l m g Among.among_first z =
     omega (arith, less-start p n d.0 s l (good_m-head g) z, left_m-agree s (set s (row_of p) 1) ms true (λ y q. get_or-set_other s (row_of p) y 1 0 (λ u. d.2 y (Memᴰ.cast u (row_in p)) q)))
 less-started n {q} (also p ms) d s l m g (Among.among_later a) z =
@@ -137,6 +139,7 @@ less-started n {q} (also p ms) d s l m g (Among.among_later a) z =
 
 -- members, of which one has ended, become idle
 ended-left : {q : Process} (ms : Processes) (s : List ℕ) → Among q ms → state_of s q ≡ 2 → 0 < left_m ms false s
+ended-left {q = q} empty s x'' z = elim x'' [ ]
 ended-left (also (node k r qs) ms) s Among.among_first z = rw z (omega arith)
 ended-left (also p ms) s (Among.among_later a) z = omega (arith, ended-left ms s a z)
 

@@ -27,6 +27,7 @@ module _ {s : List ℕ} {k : Action} {r : ℕ} {ms : Processes} where
     good-inside (node k' r' ps) (inside u) (run e h) = good_m-inside ps u (mode k') h
 
     good_m-inside : (ps : Processes) → SubM k r ms ps → (m : Mode) → GoodM s m ps → Good s (node k r ms)
+    good_m-inside empty x4 m h = elim x4 [ ]
     good_m-inside (also p ps) (front u) m h = good-inside p u (good_m-head h)
     good_m-inside (also p ps) (back u) m h = good_m-inside ps u m (good_m-tail h)
 

@@ -8,7 +8,7 @@ use Prim.Native.Nat.{ℕ, suc}
 use native.Mathlib.Omega.{arith}
 use lib.ListN.{length, get_or, set, length-set}
 use lib.Seq.{get_or-set_other}
-use Rattle.meaning.specs.Tree.{Action, Process, node, Processes, also, row_of, rows_in, rows_beneath}
+use Rattle.meaning.specs.Tree.{Action, Process, node, Processes, also, row_of, rows_in, rows_beneath, empty}
 use Rattle.meaning.specs.State.{state_of}
 use Rattle.meaning.specs.Settle.{states_of, Mode, in_turn, together, by_step, mode, starts, next_mode, complete, settle_running, settle_each, settle, all_of, is_idle_or_ended, is_ended}
 use Rattle.agreement.proofs.Frame.{body-node, row_in, walk-local, see-local, length-local, off-look, off-put, swap}
@@ -132,6 +132,7 @@ module _ (b x v n : ℕ) where
         )
 
     pub absorb_m : (ms : Processes) → SoundM ms n → (s : List ℕ) → length s ≡ n → AtM b x v s ms → (m : Mode) → settle_each ms m (set (settle_each ms m s) x v) ≡ settle_each ms m (set s x v)
+    absorb_m empty d s l x7 m = elim x7 [ ]
     absorb_m (also p ms) d s l (first h) m =
         let m1 = after p m s in
         let s1 = settle p (starts m) s in

@@ -3,7 +3,7 @@ use mathlib.Core.Path.{◌≡◌, refl, sym, ◌∙◌}
 use mathlib.Core.List.Memᴰ
 use mathlib.Core.List.{List, ◌∷◌, Memᴰ}
 use Prim.Native.Nat.{ℕ}
-use Rattle.meaning.specs.Tree.{Action, Process, node, Processes, also, row_of, rows_in, rows_beneath}
+use Rattle.meaning.specs.Tree.{Action, Process, node, Processes, also, row_of, rows_in, rows_beneath, empty}
 use Rattle.meaning.specs.SettlingRules.{Among, Next, Inside}
 use Rattle.agreement.proofs.Frame.{row_in}
 use Rattle.agreement.proofs.Reach.{Agree, Sub, SubM, self, inside, front, back}
@@ -16,6 +16,7 @@ within-itself : (p : Process) → Within p p
 within-itself (node k r ms) = self
 
 member-within : (q : Process) (ms : Processes) → Among q ms → (k : Action) (r : ℕ) (ps : Processes) → q ≡ node k r ps → SubM k r ps ms
+member-within q empty x'' k r ps e = elim x'' [ ]
 member-within q (also p ms) Among.among_first k r ps e = front {p = q} (rw e self)
 member-within q (also p ms) (Among.among_later a) k r ps e = back (member-within q ms a k r ps e)
 
@@ -46,6 +47,7 @@ module _ {whole : Process} {k : Action} {r : ℕ} {ms : Processes} where
     inside-in (node k' r' ps) i (inside h) = inside-among ps (λ q m. Inside.beneath i m) h
 
     inside-among : (ps : Processes) → ((q : Process) → Among q ps → Inside whole q) → SubM k r ms ps → Inside whole (node k r ms)
+    inside-among empty f x4 = elim x4 [ ]
     inside-among (also p ps) f (front h) = inside-in p (f p Among.among_first) h
     inside-among (also p ps) f (back h) = inside-among ps (λ q m. f q (Among.among_later m)) h
 

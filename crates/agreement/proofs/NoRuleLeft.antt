@@ -68,6 +68,7 @@ module _ (n : ℕ) where
       rw same (next-started ms d.1 s1 (length-local (see-local p true) s ∙ l) q (rw same at x))
 
   all-started : (ms : Processes) → SoundM ms n → (s : List ℕ) → length s ≡ n → (q : Process) → Among q ms → state_of (settle_each ms together s) q ≢ 0
+  all-started empty d s l q x3 = elim x3 [ ]
   all-started (also p ms) d s l q Among.among_first =
       rw (walk-also p ms together s)
       (λ z. started p n d.0 s l (sym (off-look (walk-local ms together) (settle p true s) (row_of p) (d.2 (row_of p) (row_in p))) ∙ z))

@@ -56,6 +56,7 @@ module _ (n : ℕ) where
       rw (walk-also p ms in_turn t, see-over p true t 0 e', e', walk-also p ms in_turn s, see-over p true s 0 e, e) (next-walk ms d.1 s l x z)
 
   among-walk : {q : Process} (ms : Processes) → SoundM ms n → (s : List ℕ) → length s ≡ n → Among q ms → state_of s q ≡ 0 → settle_each ms together (set s (row_of q) 1) ≡ settle_each ms together s
+  among-walk {q = q} empty d s l x4 z = elim x4 [ ]
   among-walk (also p ms) d s l Among.among_first z = start-here p ms together refl s (rw l (sound-row p n d.0)) z
   among-walk {q} (also p ms) d s l (Among.among_later a) z =
       let s1 = settle p true s in
@@ -74,6 +75,7 @@ module _ (n : ℕ) where
       past (a (row_of p) (row_in p) ∙ e) (good-agree (good_m-head h) a) (next-good ms d.1 s l (good_m-tail h) x z)
 
   among-good : {q : Process} (ms : Processes) → SoundM ms n → (s : List ℕ) → length s ≡ n → GoodM s together ms → Among q ms → state_of s q ≡ 0 → GoodM (set s (row_of q) 1) together ms
+  among-good {q = q} empty d s l _ x6 z = elim x6 [ ]
   among-good (also p ms) d s l (each g h) Among.among_first z =
       each (good_start p n d.0 s l g z) (good_m-agree h (λ y q. get_or-set_other s (row_of p) y 1 0 (λ u. d.2 y (Memᴰ.cast u (row_in p)) q)))
   among-good {q} (also p ms) d s l (each g h) (Among.among_later a) z =
@@ -115,6 +117,7 @@ module _ (n : ℕ) (vs : List Variable) where
 
   among-begun : {q : Process} (ms : Processes) → SoundM ms n → (s : List ℕ) → length s ≡ n → Among q ms → state_of s q ≡ 0
       → Joined (begun_each ms together vs (set s (row_of q) 1)) vs (begun_each ms together vs s)
+  among-begun {q = q} empty d s l x4 z = elim x4 [ ]
   among-begun (also p ms) d s l Among.among_first z = start-begun p ms together vs refl s (rw l (sound-row p n d.0)) z
   among-begun {q} (also p ms) d s l (Among.among_later c) z =
       let s1 = settle p true s in

@@ -126,6 +126,7 @@ module _ (b x v n : ℕ) (s : List ℕ) (l : length s ≡ n) where
     good-set (node k r ms) d (run e g) (under e' h) = run (get_or-set_other s x r v 0 (λ u. d.1 (Memᴰ.cast u (at_m-in h))) ∙ e) (good_m-set ms d.2 (mode k) g h)
 
     good_m-set : (ms : Processes) → SoundM ms n → (m : Mode) → GoodM s m ms → AtM b x v s ms → GoodM (set s x v) m ms
+    good_m-set empty d m _ x8 = elim x8 [ ]
     good_m-set (also p ms) d m (each g gs) (first h) = each (good-set p d.0 g h) (good_m-agree gs (λ y q. get_or-set_other s x y v 0 (λ u. d.2 y (Memᴰ.cast u (at_in h)) q)))
     good_m-set (also p ms) d m (each g gs) (later h) = each (good-agree g (λ y q. get_or-set_other s x y v 0 (λ u. d.2 y q (Memᴰ.cast u (at_m-in h))))) (good_m-set ms d.1 together gs h)
     good_m-set (also p ms) d m (past e g gs) (first h) = absurd (omega (arith, at-run h))
@@ -170,6 +171,7 @@ module _ (s : List ℕ) (k : Action) (r : ℕ) (ms : Processes) (x v : ℕ) (e :
     frontier (node k' r' ps) (inside h) (run e' g) = under e' (frontier_m ps h (mode k') g)
 
     frontier_m : (ps : Processes) → SubM k r ms ps → (mo : Mode) → GoodM s mo ps → AtM r x v s ps
+    frontier_m empty x5 mo g = elim x5 [ ]
     frontier_m (also p ps) (front h) mo g = first (frontier p h (good_m-head g))
     frontier_m (also p ps) (back h) mo g = later (frontier_m ps h mo (good_m-tail g))
 

@@ -5,7 +5,7 @@ use mathlib.Core.List.{List, ◌∷◌, Memᴰ}
 use Prim.Native.Nat.{ℕ}
 use native.Mathlib.Omega.{arith}
 use lib.ListN.{get_or, set}
-use Rattle.meaning.specs.Tree.{Action, Process, node, Processes, also, row_of, rows_in, rows_beneath}
+use Rattle.meaning.specs.Tree.{Action, Process, node, Processes, also, row_of, rows_in, rows_beneath, empty}
 use Rattle.meaning.specs.State.{state_of}
 use Rattle.meaning.specs.Settle.{Mode, in_turn, together, by_step, mode, starts, next_mode, settle_each, settle}
 use Rattle.agreement.proofs.Frame.{Local, body-node, walk-also, row_in, walk-local, see-local, Off, off-look, swap}
@@ -41,6 +41,7 @@ module _ {k : Action} {r : ℕ} {ms : Processes} where
       good-at (node k' r' ps) (inside u) (run e' h) = good_m-at ps u (mode k') h
 
       good_m-at : (ps : Processes) → SubM k r ms ps → (m : Mode) → GoodM s m ps → GoodM s (mode k) ms
+      good_m-at empty x4 m h = elim x4 [ ]
       good_m-at (also p ps) (front u) m h = good-at p u (good_m-head h)
       good_m-at (also p ps) (back u) m h = good_m-at ps u m (good_m-tail h)
 
@@ -77,6 +78,7 @@ module _ (k : Action) (r : ℕ) (ms : Processes) (f : List ℕ → List ℕ) (F 
           )
 
       walk-around : (ps : Processes) → SubM k r ms ps → SoundM ps n → (m : Mode) → GoodM s m ps → (m1 : Mode) → settle_each ps m1 (f s) ≡ settle_each ps m1 s
+      walk-around empty x6 d m g m1 = elim x6 [ ]
       walk-around (also p ps) (front u) d m g m1 =
           rw (walk-also p ps m1 (f s), settle-around p u d.0 (good_m-head g) (starts m1), ← walk-also p ps m1 s)
       walk-around (also p ps) (back u) d m g m1 =
@@ -101,6 +103,7 @@ module _ (k : Action) (r : ℕ) (ms : Processes) (f : List ℕ → List ℕ) (F 
       good-around (node k' r' ps) (inside u) d (run e' h) = run (off-look F s r' (λ c. d.1 (sub_m-rows c ps u)) ∙ e') (good_m-around ps u d.2 (mode k') h)
 
       good_m-around : (ps : Processes) → SubM k r ms ps → SoundM ps n → (m : Mode) → GoodM s m ps → GoodM (f s) m ps
+      good_m-around empty x6 d m _ = elim x6 [ ]
       good_m-around (also p ps) (front u) d m (each g h) = each (good-around p u d.0 g) (good_m-agree h (first-only p ps u d.2))
       good_m-around (also p ps) (back u) d m (each g h) = each (good-agree g (beside p ps u d.2)) (good_m-around ps u d.1 together h)
       good_m-around (also p ps) (front u) d m (past e' g h) = absurd (omega (arith, runs-around p u g))

@@ -10,7 +10,7 @@ use native.Mathlib.Omega.{arith}
 use lib.IntN.{ℤ, pos}
 use Rattle.meaning.specs.declared.Node.TheVariants.{Par, Member}
 use Rattle.meaning.specs.Rows.{natural_of, row_count, field_at, natural_at, kind_at}
-use Rattle.meaning.specs.Kinds.{Shape, shapes, shape_in, shape_of}
+use Rattle.meaning.specs.Kinds.{Shape, shapes, shape_in, shape_of, shape, variable, expression, unused, operator, from_to, elements, capacity, literal_value, channel, reference, link, process}
 use Rattle.meaning.specs.Declarations.{declarations}
 use Rattle.meaning.specs.Nodes.{node_at}
 use Rattle.meaning.specs.References.{Column, of-a, of-b, of_c, field_of, number_of, RefersBy, Refers}
@@ -140,24 +140,24 @@ module _ (rows : List ℤ) where
           (and_then (λ h. nothing _)
           (and_then (λ h. nothing _)
           (and_then (λ h. nothing _)
-          (and_then (λ h. one _ _ (by _ of-b tt h))
-          (and_then (λ h. one _ _ (by _ of-b tt h))
-          (and_then (λ h. two _ _ _ (by _ of-b tt h) (by _ of_c tt h))
+          (and_then (λ h. one _ _ (by (shape 11 variable expression unused) of-b tt h))
+          (and_then (λ h. one _ _ (by (shape 12 operator expression unused) of-b tt h))
+          (and_then (λ h. two _ _ _ (by (shape 13 (from_to 0 15) expression expression) of-b tt h) (by (shape 13 (from_to 0 15) expression expression) of_c tt h))
           (and_then (λ h. nothing _)
           (and_then (λ h. nothing _)
-          (and_then (λ h. two _ _ _ (by _ of-b tt h) (by _ of_c tt h))
-          (and_then (λ h. two _ _ _ (by _ of-b tt h) (by _ of_c tt h))
-          (and_then (λ h. two _ _ _ (by _ of-b tt h) (by _ of_c tt h))
-          (and_then (λ h. one _ _ (by _ of-a tt h))
-          (and_then (λ h. one _ _ (by _ of-a tt h))
-          (and_then (λ h. one _ _ (by _ of-a tt h))
-          (and_then (λ h. two _ _ _ (by _ of-a tt h) (by _ of-b tt h))
-          (and_then (λ h. one _ _ (by _ of-a tt h))
-          (and_then (λ h. one _ _ (by _ of-b tt h))
-          (and_then (λ h. two _ _ _ (by _ of-a tt h) (by _ of-b tt h))
-          (and_then (λ h. three _ _ _ _ (by _ of-a tt h) (by _ of-b tt h) (by _ of_c tt h))
-          (and_then (λ h. three _ _ _ _ (by _ of-a tt h) (by _ of-b tt h) (by _ of_c tt h))
-          (and_then (λ h. two _ _ _ (by _ of-a tt h) (by _ of-b tt h))
+          (and_then (λ h. two _ _ _ (by (shape 22 variable expression expression) of-b tt h) (by (shape 22 variable expression expression) of_c tt h))
+          (and_then (λ h. two _ _ _ (by (shape 23 (channel (0 ∷ 1 ∷ [])) expression (reference (11 ∷ []))) of-b tt h) (by (shape 23 (channel (0 ∷ 1 ∷ [])) expression (reference (11 ∷ []))) of_c tt h))
+          (and_then (λ h. two _ _ _ (by (shape 24 (channel (0 ∷ 2 ∷ [])) expression expression) of-b tt h) (by (shape 24 (channel (0 ∷ 2 ∷ [])) expression expression) of_c tt h))
+          (and_then (λ h. one _ _ (by (shape 30 (link (40 ∷ [])) unused unused) of-a tt h))
+          (and_then (λ h. one _ _ (by (shape 31 (link (40 ∷ [])) unused unused) of-a tt h))
+          (and_then (λ h. one _ _ (by (shape 32 (link (41 ∷ [])) unused unused) of-a tt h))
+          (and_then (λ h. two _ _ _ (by (shape 33 expression process unused) of-a tt h) (by (shape 33 expression process unused) of-b tt h))
+          (and_then (λ h. one _ _ (by (shape 34 (link (42 ∷ [])) unused unused) of-a tt h))
+          (and_then (λ h. one _ _ (by (shape 35 variable process unused) of-b tt h))
+          (and_then (λ h. two _ _ _ (by (shape 40 process (link (40 ∷ [])) unused) of-a tt h) (by (shape 40 process (link (40 ∷ [])) unused) of-b tt h))
+          (and_then (λ h. three _ _ _ _ (by (shape 41 process (link (41 ∷ [])) expression) of-a tt h) (by (shape 41 process (link (41 ∷ [])) expression) of-b tt h) (by (shape 41 process (link (41 ∷ [])) expression) of_c tt h))
+          (and_then (λ h. three _ _ _ _ (by (shape 42 process (link (42 ∷ [])) (reference (23 ∷ 43 ∷ []))) of-a tt h) (by (shape 42 process (link (42 ∷ [])) (reference (23 ∷ 43 ∷ []))) of-b tt h) (by (shape 42 process (link (42 ∷ [])) (reference (23 ∷ 43 ∷ []))) of_c tt h))
+          (and_then (λ h. two _ _ _ (by (shape 43 expression (reference (21 ∷ 23 ∷ [])) unused) of-a tt h) (by (shape 43 expression (reference (21 ∷ 23 ∷ [])) unused) of-b tt h))
           none_left)))))))))))))))))))))
 
       pub listed-refers : (c : ℕ) → Memᴰ c (references (node_at rows r)) → c < row_count rows → (p : Column) × Refers rows r p c

@@ -49,6 +49,7 @@ module _ (rows : List ℤ) where
   to-refused f (later a (later b (later c (later d (here e))))) =
       let h = (block-faults rows f).0 e in
       numbered 14 f h.0 (not-blocked ((whole-passes rows).0 a) ((form-passes rows).0 b) ((tree-passes rows).0 c) ((limit-passes rows).0 d) h.1)
+  to-refused f (later a (later b (later c (later d (later k (later _ x21)))))) = elim x21 [ ]
   to-refused f (later a (later b (later c (later d (later k (here e)))))) =
       let h = (usage-faults rows (a, b, c, d) f.0 f.1).0 e in
       clash ((whole-passes rows).0 a) ((form-passes rows).0 b) ((tree-passes rows).0 c) ((limit-passes rows).0 d) ((block-passes rows).0 k) h

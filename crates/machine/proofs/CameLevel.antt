@@ -43,15 +43,18 @@ ran p n d s l e z = let (j, q) = not-idle p n d s l e in omega (arith, q)
 -- ---- where a process stands among members
 
 pub among-sub : {c : Process} (ms : Processes) → Among c ms → (a : Action) (y : ℕ) (qs : Processes) → In c a y qs → InM ms a y qs
+among-sub {c = c} empty x'' a y qs u = elim x'' [ ]
 among-sub (also p ms) Among.among_first a y qs u = front u
 among-sub (also p ms) (Among.among_later m) a y qs u = back (among-sub ms m a y qs u)
 
 pub among-length : {c : Process} (ms : Processes) → Among c ms → length (rows_in c) ≤ length (rows_beneath ms)
+among-length {c = c} empty x' = elim x' [ ]
 among-length (also p ms) Among.among_first = omega (arith, length-append (rows_in p) (rows_beneath ms))
 among-length (also p ms) (Among.among_later m) = omega (arith, length-append (rows_in p) (rows_beneath ms), among-length ms m)
 
 -- it stands in member c, or has no row in common with it
 in-member : (n : ℕ) {c : Process} (ms : Processes) → SoundM ms n → Among c ms → (a : Action) (y : ℕ) (qs : Processes) → InM ms a y qs → In c a y qs ⊎ Off (y ∷ rows_beneath qs) (rows_in c)
+in-member n {c = c} empty d x3 a y qs _ = elim x3 [ ]
 in-member n (also p ms) d Among.among_first a y qs (front u) = inl u
 in-member n (also p ms) d Among.among_first a y qs (back u) = inr (λ z m q. d.2 z q (sub_m-rows m ms u))
 in-member n (also p ms) d (Among.among_later h) a y qs (front u) = inr (λ z m q. d.2 z (sub-rows m p u) (among-rows ms h z q))
@@ -59,6 +62,7 @@ in-member n (also p ms) d (Among.among_later h) a y qs (back u) = in-member n ms
 
 -- it stands in a member after the one of row c, or has no row in common with those
 in_after : (n c : ℕ) (ms : Processes) → SoundM ms n → (a : Action) (y : ℕ) (qs : Processes) → InM ms a y qs → InM (processes_after c ms) a y qs ⊎ Off (y ∷ rows_beneath qs) (rows_beneath (processes_after c ms))
+in_after n c empty d a y qs x'' = elim x'' [ ]
 in_after n c (also p ms) d a y qs (front u) = inr (λ z m q. d.2 z (sub-rows m p u) (go (eqb c (row_of p)) (after-rows c ms z) q))
   where
     go : {z : ℕ} (t : Bool) → (Memᴰ z (rows_beneath (processes_after c ms)) → Memᴰ z (rows_beneath ms)) → Memᴰ z (rows_beneath (if_else t ms (processes_after c ms))) → Memᴰ z (rows_beneath ms)
@@ -89,12 +93,14 @@ after-length c (also p ms) = go (eqb c (row_of p)) (after-length c ms)
 
 -- a member has no row in common with those after it
 after-off : (n : ℕ) (c : Process) (ms : Processes) → SoundM ms n → Among c ms → Off (rows_in c) (rows_beneath (processes_after (row_of c) ms))
+after-off n c empty d x'' = elim x'' [ ]
 after-off n c (also p ms) d Among.among_first = subst (λ (qs : Processes). Off (rows_in p) (rows_beneath qs)) (sym (after_first p ms)) d.2
 after-off n c (also p ms) d (Among.among_later h) =
     subst (λ (qs : Processes). Off (rows_in c) (rows_beneath qs)) (sym (after-later p ms (row_of c) (λ e. d.2 (row_of p) (row_in p) (Memᴰ.cast (sym e) (among-rows ms h (row_of c) (row_in c)))))) (after-off n c ms d.1 h)
 
 -- a member and those after it have no more rows than all members
 after_both : (n : ℕ) (c : Process) (ms : Processes) → SoundM ms n → Among c ms → length (rows_in c) + length (rows_beneath (processes_after (row_of c) ms)) ≤ length (rows_beneath ms)
+after_both n c empty d x'' = elim x'' [ ]
 after_both n c (also p ms) d Among.among_first = rw (after_first p ms) (omega (arith, length-append (rows_in p) (rows_beneath ms)))
 after_both n c (also p ms) d (Among.among_later h) =
     let later = after-later p ms (row_of c) (λ e. d.2 (row_of p) (row_in p) (Memᴰ.cast (sym e) (among-rows ms h (row_of c) (row_in c)))) in

@@ -9,7 +9,7 @@ use native.Mathlib.Omega.{arith}
 use lib.IntN.{ℤ}
 use lib.ListN.{get_or}
 use Rattle.meaning.specs.Basics.{if_else}
-use Rattle.meaning.specs.Tree.{Action, Process, node, Processes, also, action_of, rows_in}
+use Rattle.meaning.specs.Tree.{Action, Process, node, Processes, also, action_of, rows_in, empty}
 use Rattle.meaning.specs.SettlingRules.{Among, Inside}
 use Rattle.meaning.specs.State.{State, program, process_at, whole}
 use Rattle.meaning.specs.Labels.{Label}
@@ -32,6 +32,7 @@ mutual
   sub-inside top (node j q ps) i (inside h) = sub_m-inside top ps (λ p a. Inside.beneath i a) h
 
   sub_m-inside : {k : Action} {r : ℕ} {ms : Processes} (top : Process) (ps : Processes) → ((p : Process) → Among p ps → Inside top p) → SubM k r ms ps → Inside top (node k r ms)
+  sub_m-inside {k = k} {r = r} {ms = ms} top empty i x4 = elim x4 [ ]
   sub_m-inside top (also p ps) i (front h) = sub-inside top p (i p Among.among_first) h
   sub_m-inside top (also p ps) i (back h) = sub_m-inside top ps (λ q a. i q (Among.among_later a)) h
 

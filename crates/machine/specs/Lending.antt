@@ -1,13 +1,13 @@
 -- What a call is lent, by its references: what they hold when it begins, and what it leaves behind them.
 use Rattle.std.specs.Prelude.{List, ℕ}
-use Rattle.std.specs.Borrow.{Bor}
+use Rattle.std.specs.Borrow.{MutBor}
 use denote.Triple.Both.{Both}
 use Rattle.meaning.specs.Trace.{TraceLists}
 use Rattle.machine.specs.Counts.{Kept, kept_of}
 
 -- a parameter that is a reference, as an `ensures` names it: at the call's beginning and at its end
 abbrev pub Lent : Type 0 → Type 0
-Lent A = Both (Bor (List A)) (Bor (List A))
+Lent A = Both (MutBor (List A)) (MutBor (List A))
 
 module _ (states left came : Lent ℕ) where
   -- the row states, the members left and the rows that have come to work, when the call begins
