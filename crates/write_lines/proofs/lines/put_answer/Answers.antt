@@ -12,46 +12,34 @@ use Rattle.write_lines.proofs.LineSteps.{one_line}
 use borrow.Author.Rules.{rules}
 use Rattle.write_lines.proofs.lines.put_answer.Goals as goal
 
--- LOST slice-aggregate-put-line : tie.Need-slice-aggregate-put-line
--- slice-aggregate-put-line c = search rules
-
--- LOST slice-aggregate-put-line-2 : tie.Need-slice-aggregate-put-line-2
--- slice-aggregate-put-line-2 c = search rules
-
--- LOST slice-aggregate-put-line-3 : tie.Need-slice-aggregate-put-line-3
--- slice-aggregate-put-line-3 c = search rules
-
--- LOST slice-aggregate-put-line-4 : tie.Need-slice-aggregate-put-line-4
--- slice-aggregate-put-line-4 c = search rules
-
 pub returns-in-Ended : goal.returns-in-Ended
 unfolding word_bytes printed outcome_line
 returns-in-Ended c =
     let a = c.args in
     c.put_line.ensures
-    ∙ one_line (outcome_word Ended) 0 0 (some (pos a.steps)) c.decimal.ensures (a.at, a.out.now)
-    ∙ ap (λ (o : Outcome). put_lines (outcome_line o a.steps ∷ []) (a.at, a.out.now)) (sym c.enum_told.given.1)
+    ∙ one_line (outcome_word Ended) 0 0 (some (pos a.steps)) c.decimal-value.ensures (a.at, a.out.now)
+    ∙ ap (λ (o : Outcome). put_lines (outcome_line o a.steps ∷ []) (a.at, a.out.now)) (sym c.in-Ended.is)
 
 pub returns-in-Stuck : goal.returns-in-Stuck
 unfolding word_bytes printed outcome_line
 returns-in-Stuck c =
     let a = c.args in
     c.put_line-in-Stuck.ensures
-    ∙ one_line (outcome_word Stuck) 0 0 (some (pos a.steps)) c.decimal.ensures (a.at, a.out.now)
-    ∙ ap (λ (o : Outcome). put_lines (outcome_line o a.steps ∷ []) (a.at, a.out.now)) (sym c.enum-told2.given.1)
+    ∙ one_line (outcome_word Stuck) 0 0 (some (pos a.steps)) c.decimal-value.ensures (a.at, a.out.now)
+    ∙ ap (λ (o : Outcome). put_lines (outcome_line o a.steps ∷ []) (a.at, a.out.now)) (sym c.in-Stuck.is)
 
 pub returns-in-Broken : goal.returns-in-Broken
 unfolding word_bytes printed outcome_line
 returns-in-Broken c =
     let a = c.args in
     c.put_line-in-Broken.ensures
-    ∙ one_line (outcome_word Broken) 0 0 (some (pos a.steps)) c.decimal.ensures (a.at, a.out.now)
-    ∙ ap (λ (o : Outcome). put_lines (outcome_line o a.steps ∷ []) (a.at, a.out.now)) (sym c.enum-told3.given.1)
+    ∙ one_line (outcome_word Broken) 0 0 (some (pos a.steps)) c.decimal-value.ensures (a.at, a.out.now)
+    ∙ ap (λ (o : Outcome). put_lines (outcome_line o a.steps ∷ []) (a.at, a.out.now)) (sym c.in-Broken.is)
 
 pub returns-in-Spent : goal.returns-in-Spent
 unfolding word_bytes printed outcome_line
 returns-in-Spent c =
     let a = c.args in
     c.put_line-in-Spent.ensures
-    ∙ one_line (outcome_word Spent) 0 0 (some (pos a.steps)) c.decimal.ensures (a.at, a.out.now)
-    ∙ ap (λ (o : Outcome). put_lines (outcome_line o a.steps ∷ []) (a.at, a.out.now)) (sym c.enum-told4.given.1)
+    ∙ one_line (outcome_word Spent) 0 0 (some (pos a.steps)) c.decimal-value.ensures (a.at, a.out.now)
+    ∙ ap (λ (o : Outcome). put_lines (outcome_line o a.steps ∷ []) (a.at, a.out.now)) (sym c.in-Spent.is)

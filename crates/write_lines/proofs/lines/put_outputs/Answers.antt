@@ -27,41 +27,38 @@ loop-r-init c =
 pub strip_count-given-requires : goal.strip_count-given-requires
 strip_count-given-requires c = c.declarations-count.ensures
 
--- LOST slice-aggregate-put-messages : tie.Need-slice-aggregate-put-messages invariant-loop decreases-loop
--- slice-aggregate-put-messages c = search rules
-
 pub overflow_cast-r : goal.overflow_cast-r
-overflow_cast-r c = let d = few-declarations c.args.rows.now c.requires.0 in let e = c.declarations.ensures in omega arith
+overflow_cast-r c = let d = few-declarations c.args.rows.now c.requires.0 in let e = c.declarations-count.ensures in omega arith
 
 pub put_messages-place-requires : goal.put_messages-place-requires
-put_messages-place-requires c = let h = part-short c.loop.first c.strip-count.result c.args.numbers.now in let e = ap length c.of-numbers.ensures in omega (arith, c.requires)
+put_messages-place-requires c = let h = part-short c.loop-r.first c.strip_count-given.result c.args.numbers.now in let e = ap length c.of_numbers-strip.ensures in omega (arith, c.requires)
 
 pub capacity_at-requires : goal.capacity_at-requires
-capacity_at-requires c = c.declarations.ensures
+capacity_at-requires c = c.declarations-count.ensures
 
 pub overflow_add-first : goal.overflow_add-first
-overflow_add-first c = let d = few-declarations c.args.rows.now c.requires.0 in let e = c.declarations.ensures in omega (arith, c.capacity_at.type_inv, c.loop.invariant)
+overflow_add-first c = let d = few-declarations c.args.rows.now c.requires.0 in let e = c.declarations-count.ensures in omega (arith, c.capacity_at.type_inv, c.loop-r.invariant)
 
 pub host_channels_at-requires : goal.host_channels_at-requires
-host_channels_at-requires c = c.declarations.ensures
+host_channels_at-requires c = c.declarations-count.ensures
 
 pub overflow_add-port : goal.overflow_add-port
-overflow_add-port c = let d = few-declarations c.args.rows.now c.requires.0 in let e = c.declarations.ensures in omega (arith, c.host_channels_at.type_inv, c.loop.invariant)
+overflow_add-port c = let d = few-declarations c.args.rows.now c.requires.0 in let e = c.declarations-count.ensures in omega (arith, c.host_channels_at.type_inv, c.loop-r.invariant)
 
 pub overflow_add-r : goal.overflow_add-r
-overflow_add-r c = let d = few-declarations c.args.rows.now c.requires.0 in let e = c.declarations.ensures in omega arith
+overflow_add-r c = let d = few-declarations c.args.rows.now c.requires.0 in let e = c.declarations-count.ensures in omega arith
 
 pub loop-r-preserved : goal.loop-r-preserved
 unfolding word_bytes
 loop-r-preserved c =
     let a = c.args in
-    let k = c.loop in (
+    let k = c.loop-r in (
       search rules,
       sum_more (capacity_at a.rows.now) k.r k.first c.capacity_at.result k.invariant.1 c.capacity_at.ensures,
       omega (arith, c.capacity_at.type_inv, k.invariant),
       sum_more (host_channels_at 2 a.rows.now) k.r k.port c.host_channels_at.result k.invariant.3 c.host_channels_at.ensures,
       omega (arith, c.host_channels_at.type_inv, k.invariant),
-      outs-step a.rows.now a.counts.now a.marks.now a.numbers.now k.r k.first k.port c.strip-count.result (a.at, a.out.now) k.invariant.1 k.invariant.3 c.strip-count.ensures c.of_bytes.ensures c.of-numbers.ensures k.invariant.5 c.put_messages-place.ensures,
+      outs-step a.rows.now a.counts.now a.marks.now a.numbers.now k.r k.first k.port c.strip_count-given.result (a.at, a.out.now) k.invariant.1 k.invariant.3 c.strip_count-given.ensures c.of_bytes.ensures c.of_numbers-strip.ensures k.invariant.5 c.put_messages-place.ensures,
     )
 
 pub shape_of-out : goal.shape_of-out

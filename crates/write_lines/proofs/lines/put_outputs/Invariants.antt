@@ -13,7 +13,7 @@ use Rattle.write_lines.proofs.RowLines.{outs_below, outs-below-none, outs-below-
 use Rattle.write_lines.proofs.lines.put_outputs.Given as goal
 
 abbrev pub invariant-loop-r : goal.invariant-loop-r
-invariant-loop-r l = (r ≤ l.count) × (l.port ≡ sum_below (capacity_at l.rows) r) × (l.port ≤ r * 4294967296) × (l.r ≡ sum_below (host_channels_at 2 l.rows) r) × (l.r ≤ r * 4294967296) × ((l.first, l.place) ≡ put_lines (outs_below l.rows l.counts (decoded l.numbers l.marks) r) (l.at, l.initial.out))
+invariant-loop-r l = (l.r ≤ l.count) × (l.first ≡ sum_below (capacity_at l.rows) l.r) × (l.first ≤ l.r * 4294967296) × (l.port ≡ sum_below (host_channels_at 2 l.rows) l.r) × (l.port ≤ l.r * 4294967296) × ((l.place, l.out) ≡ put_lines (outs_below l.rows l.counts (decoded l.numbers l.marks) l.r) (l.at, l.initial.out))
 
 abbrev pub decreases-loop-r : goal.decreases-loop-r
-decreases-loop-r l = l.count - r
+decreases-loop-r l = l.count - l.r

@@ -15,12 +15,9 @@ use Rattle.write_lines.proofs.lines.put_stop.Goals as goal
 pub returns-then-state-lt10 : goal.returns-then-state-lt10
 returns-then-state-lt10 c = let a = c.args in sym (ap (λ (l : List Line). put_lines l (a.at, a.out.now)) (stop-none a.row a.state c.if-state-lt10.true) ∙ put_lines-none (a.at, a.out.now))
 
--- LOST slice-aggregate-put-line : tie.Need-slice-aggregate-put-line
--- slice-aggregate-put-line c = search rules
-
 pub returns : goal.returns
 unfolding word_bytes printed
 returns c = let a = c.args in
     c.put_line.ensures
     ∙ one_line stop_word a.row 0 (some (pos (a.state - 10))) c.decimal.ensures (a.at, a.out.now)
-    ∙ ap (λ (l : List Line). put_lines l (a.at, a.out.now)) (sym (stop-one a.row a.state c.if1.false))
+    ∙ ap (λ (l : List Line). put_lines l (a.at, a.out.now)) (sym (stop-one a.row a.state c.if-state-lt10.false))

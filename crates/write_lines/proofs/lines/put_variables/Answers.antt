@@ -25,30 +25,27 @@ loop-r-init c =
 pub cells_at-size-requires : goal.cells_at-size-requires
 cells_at-size-requires c = c.declarations-count.ensures
 
--- LOST slice-aggregate-put-messages : tie.Need-slice-aggregate-put-messages invariant-loop decreases-loop
--- slice-aggregate-put-messages c = search rules
-
 pub overflow_cast-r : goal.overflow_cast-r
-overflow_cast-r c = let d = few-declarations c.args.rows.now c.requires.0 in let e = c.declarations.ensures in omega arith
+overflow_cast-r c = let d = few-declarations c.args.rows.now c.requires.0 in let e = c.declarations-count.ensures in omega arith
 
 pub put_messages-place-requires : goal.put_messages-place-requires
-put_messages-place-requires c = let h = part-short c.loop.first c.cells_at.result c.args.values.now in let e = ap length c.of-numbers.ensures in omega (arith, c.requires)
+put_messages-place-requires c = let h = part-short c.loop-r.first c.cells_at-size.result c.args.values.now in let e = ap length c.of_numbers-cells.ensures in omega (arith, c.requires)
 
 pub overflow_add-first : goal.overflow_add-first
-overflow_add-first c = let d = few-declarations c.args.rows.now c.requires.0 in let e = c.declarations.ensures in omega (arith, c.cells_at.type_inv, c.loop.invariant)
+overflow_add-first c = let d = few-declarations c.args.rows.now c.requires.0 in let e = c.declarations-count.ensures in omega (arith, c.cells_at-size.type_inv, c.loop-r.invariant)
 
 pub overflow_add-r : goal.overflow_add-r
-overflow_add-r c = let d = few-declarations c.args.rows.now c.requires.0 in let e = c.declarations.ensures in omega arith
+overflow_add-r c = let d = few-declarations c.args.rows.now c.requires.0 in let e = c.declarations-count.ensures in omega arith
 
 pub loop-r-preserved : goal.loop-r-preserved
 unfolding word_bytes
 loop-r-preserved c =
     let a = c.args in
-    let k = c.loop in (
+    let k = c.loop-r in (
       search rules,
-      sum_more (cells_at a.rows.now) k.r k.first c.cells_at.result k.invariant.1 c.cells_at.ensures,
-      omega (arith, c.cells_at.type_inv, k.invariant),
-      cells-step a.rows.now a.marks.now a.values.now k.r k.first c.cells_at.result (a.at, a.out.now) k.invariant.1 c.cells_at.ensures c.of_bytes.ensures c.of-numbers.ensures k.invariant.3 c.put_messages-place.ensures,
+      sum_more (cells_at a.rows.now) k.r k.first c.cells_at-size.result k.invariant.1 c.cells_at-size.ensures,
+      omega (arith, c.cells_at-size.type_inv, k.invariant),
+      cells-step a.rows.now a.marks.now a.values.now k.r k.first c.cells_at-size.result (a.at, a.out.now) k.invariant.1 c.cells_at-size.ensures c.of_bytes.ensures c.of_numbers-cells.ensures k.invariant.3 c.put_messages-place.ensures,
     )
 
 pub shape_of-out : goal.shape_of-out

@@ -7,15 +7,12 @@ use Rattle.write_lines.proofs.PrintedTextLaws.{printed-text-made}
 use borrow.Author.Rules.{rules}
 use Rattle.write_lines.proofs.printed_texts.put_run.Goals as goal
 
--- LOST slice-aggregate-put-bytes : tie.Need-slice-aggregate-put-bytes
--- slice-aggregate-put-bytes c = search rules
-
 pub returns : goal.returns
 returns c =
     let a = c.args in
     printed-text-made (outcome_line a.outcome a.steps)
     (cell_lines a.rows.now (decoded a.values.now a.marks.now))
-    (out_lines (channels a.rows.now 2) (outputs_in (capacities a.rows.now) a.counts.now (decoded a.numbers.now a.output-marks.now)))
+    (out_lines (channels a.rows.now 2) (outputs_in (capacities a.rows.now) a.counts.now (decoded a.numbers.now a.output_marks.now)))
     (stop_lines 0 a.states.now)
     a.out.now
     c.put_bytes-place.ensures

@@ -9,9 +9,6 @@ use Rattle.write_lines.proofs.LineSteps.{one_line}
 use borrow.Author.Rules.{rules}
 use Rattle.write_lines.proofs.printed_texts.refusal_line.Goals as goal
 
--- LOST slice-aggregate-put-line : tie.Need-slice-aggregate-put-line
--- slice-aggregate-put-line c = search rules
-
 pub returns : goal.returns
 unfolding word_bytes printed
 returns c =

@@ -24,7 +24,7 @@ put_run-requires c = (
 pub returns : goal.returns
 returns c =
     let a = c.args in
-    run-made a.rows.now a.outcome a.steps a.values.now a.marks.now a.states.now a.numbers.now a.counts.now a.output-marks.now a.out.now
+    run-made a.rows.now a.outcome a.steps a.values.now a.marks.now a.states.now a.numbers.now a.counts.now a.output_marks.now a.out.now
     c.of_numbers-table.ensures
     c.of_numbers.ensures
     c.of_bytes.ensures

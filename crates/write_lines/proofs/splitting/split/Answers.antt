@@ -13,14 +13,11 @@ loop-at-init c = passed_none _
 pub slice_bounds-is_separator-count : goal.slice_bounds-is_separator-count
 slice_bounds-is_separator-count c = let h = line-inside c.args.input.now c.loop-at.at c.line_end-end.result c.loop-at-test.true c.line_end-end.ensures in omega arith
 
--- LOST part-is-separator-start : tie.Need-slice-bounds-is-separator-start invariant-loop decreases-loop
--- part-is-separator-start c = let h = line-inside c.before.before.before.before.args.input.now c.before.before.loop.at c.line-end.result c.before.loop-test.true c.line-end.ensures in search rules
-
--- LOST part-is-separator-end : tie.Need-slice-bounds-is-separator-end invariant-loop decreases-loop
--- part-is-separator-end c = (line-inside c.before.before.before.before.args.input.now c.before.before.loop.at c.line-end.result c.before.loop-test.true c.line-end.ensures).1
+pub slice_bounds-is_separator-end : goal.slice_bounds-is_separator-end
+slice_bounds-is_separator-end c = (line-inside c.args.input.now c.loop-at.at c.line_end-end.result c.loop-at-test.true c.line_end-end.ensures).1
 
 pub returns-then-is_separator : goal.returns-then-is_separator
-returns-then-is_separator c = split-is _ _ (splits-at c.args.input.now c.loop-at.at c.line_end-end.result c.loop-at-test.true c.line_end-end.ensures c.loop-at.invariant (sym c.is_separator.ensures ∙ c.if-is_separator.true))
+returns-then-is_separator c = let p = split-is _ _ (splits-at c.args.input.now c.loop-at.at c.line_end-end.result c.loop-at-test.true c.line_end-end.ensures c.loop-at.invariant (sym c.is_separator.ensures ∙ c.if-is_separator.true)) in record { numbers = p.0; meaning = p.1 }
 
 pub loop-at-smaller : goal.loop-at-smaller
 loop-at-smaller c = let h = line-inside c.args.input.now c.loop-at.at c.line_end-end.result c.loop-at-test.true c.line_end-end.ensures in omega arith
@@ -29,4 +26,4 @@ pub loop-at-preserved : goal.loop-at-preserved
 loop-at-preserved c = passed-more c.args.input.now c.loop-at.at c.line_end-end.result c.loop-at-test.true c.line_end-end.ensures c.loop-at.invariant (sym c.is_separator.ensures ∙ c.if-is_separator.false)
 
 pub returns : goal.returns
-returns c = split-is _ _ (splits-nowhere c.args.input.now c.loop-at.at c.loop-at.invariant c.loop-at-test.false)
+returns c = let p = split-is _ _ (splits-nowhere c.args.input.now c.loop-at.at c.loop-at.invariant c.loop-at-test.false) in record { numbers = p.0; meaning = p.1 }
