@@ -28,24 +28,24 @@ loop-r-init c =
 
 pub row_size-v-requires : goal.row_size-v-requires
 row_size-v-requires c =
-    let m = c.loop-test.true in
-    let i = c.loop.invariant in
-    let e : c.loop.r ≡ suc (c.loop.r - 1) = omega arith in
-    (c.kind-table.ensures.1, (c.requires.0, (subst (λ (x : ℕ). Sizes c.args.rows.now x c.loop.sizes) e i.4, (omega arith, omega arith))))
+    let m = c.loop-r-test.true in
+    let i = c.loop-r.invariant in
+    let e : c.loop-r.r ≡ suc (c.loop-r.r - 1) = omega arith in
+    (c.kind_table-table.ensures.meaning, (c.requires.0, (subst (λ (x : ℕ). Sizes c.args.rows.now x c.loop-r.sizes) e i.4, (omega arith, omega arith))))
 
 pub loop-r-preserved : goal.loop-r-preserved
 loop-r-preserved c =
-    let m = c.loop-test.true in
-    let i = c.loop.invariant in
-    let e : c.loop.r ≡ suc (c.loop.r - 1) = omega arith in
-    let w = subst (λ (x : ℕ). Sizes c.args.rows.now x c.loop.sizes) e i.4 in
-    let q = subst (λ (x : ℕ). c.loop.sizes ≡ sizes_from c.args.rows.now x c.args.sizes.now) e i.5 in (
+    let m = c.loop-r-test.true in
+    let i = c.loop-r.invariant in
+    let e : c.loop-r.r ≡ suc (c.loop-r.r - 1) = omega arith in
+    let w = subst (λ (x : ℕ). Sizes c.args.rows.now x c.loop-r.sizes) e i.4 in
+    let q = subst (λ (x : ℕ). c.loop-r.sizes ≡ sizes_from c.args.rows.now x c.args.sizes.now) e i.5 in (
       i.0,
       omega arith,
       omega arith,
-      length-set c.loop.sizes (c.loop.r - 1) c.row_size-v.result ∙ i.3,
-      sizes-more c.args.rows.now (c.loop.r - 1) c.loop.sizes c.row_size-v.result (omega arith) w c.row_size-v.ensures,
-      sizes-set c.args.rows.now (c.loop.r - 1) c.args.sizes.now c.loop.sizes c.row_size-v.result (omega arith) c.requires.1.0 c.row_size-v.ensures q,
+      length-set c.loop-r.sizes (c.loop-r.r - 1) c.row_size-v.result ∙ i.3,
+      sizes-more c.args.rows.now (c.loop-r.r - 1) c.loop-r.sizes c.row_size-v.result (omega arith) w c.row_size-v.ensures,
+      sizes-set c.args.rows.now (c.loop-r.r - 1) c.args.sizes.now c.loop-r.sizes c.row_size-v.result (omega arith) c.requires.1.0 c.row_size-v.ensures q,
     )
 
 pub returns : goal.returns

@@ -62,7 +62,7 @@ number_row-requires c =
     let i2 = i.2 in
     let e = length-set c.args.numbers.now c.declarations-d.result c.declarations-d.result in
     let q = i.4 in (
-      c.kind_table-table.ensures.1,
+      c.kind_table-table.ensures.meaning,
       (
         c.requires.0,
         (
@@ -81,7 +81,7 @@ loop-r-preserved c =
     let i = c.loop-r.invariant in
     let i1 = i.1 in
     let i2 = i.2 in
-    let n = c.number_row.ensures.1 in
+    let n = c.number_row.ensures.meaning in
     let rows = c.args.rows.now in
     let count = c.row_count-n.result in (
       i.0,
@@ -90,7 +90,7 @@ loop-r-preserved c =
       omega arith,
       n.long ∙ i.4,
       right-more rows c.loop-r.r c.loop-r.numbers _ i.5 n,
-      i.6 ∙ rows_next rows c.loop-r.r count c.loop-r.numbers m ∙ ap (numbered_rows rows (c.loop-r.r + 1) (count - (c.loop-r.r + 1))) (sym c.number_row.ensures.0),
+      i.6 ∙ rows_next rows c.loop-r.r count c.loop-r.numbers m ∙ ap (numbered_rows rows (c.loop-r.r + 1) (count - (c.loop-r.r + 1))) (sym c.number_row.ensures.numbers),
     )
 
 pub shape_of-numbers : goal.shape_of-numbers

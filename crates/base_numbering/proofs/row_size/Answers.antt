@@ -22,7 +22,7 @@ overflow_add-result c =
     let sound = c.requires.1.0 in
     let d = c.requires.1.1.1.0 in
     let l = c.requires.1.1.1.1 in
-    let law = held-size rows sound r d l c.kind.result c.kind.ensures c.shape_of-s.result c.shape_of-s.ensures.1 sizes c.requires.1.1.0 in
+    let law = held-size rows sound r d l c.kind.result c.kind.ensures c.shape_of-s.result c.shape_of-s.ensures.meaning sizes c.requires.1.1.0 in
     let za = to_z-of_z w32 c.field.result (record { sfits = c.field.type_inv }) ∙ c.field.ensures in
     let zb = to_z-of_z w32 c.field-2.result (record { sfits = c.field-2.type_inv }) ∙ c.field-2.ensures in
     let zc = to_z-of_z w32 c.field-3.result (record { sfits = c.field-3.type_inv }) ∙ c.field-3.ensures in
@@ -43,7 +43,7 @@ overflow_add-result-2 c =
     let sound = c.requires.1.0 in
     let d = c.requires.1.1.1.0 in
     let l = c.requires.1.1.1.1 in
-    let law = held-size rows sound r d l c.kind.result c.kind.ensures c.shape_of-s.result c.shape_of-s.ensures.1 sizes c.requires.1.1.0 in
+    let law = held-size rows sound r d l c.kind.result c.kind.ensures c.shape_of-s.result c.shape_of-s.ensures.meaning sizes c.requires.1.1.0 in
     let za = to_z-of_z w32 c.field.result (record { sfits = c.field.type_inv }) ∙ c.field.ensures in
     let zb = to_z-of_z w32 c.field-2.result (record { sfits = c.field-2.type_inv }) ∙ c.field-2.ensures in
     let zc = to_z-of_z w32 c.field-3.result (record { sfits = c.field-3.type_inv }) ∙ c.field-3.ensures in
@@ -64,7 +64,7 @@ overflow_add-result-3 c =
     let sound = c.requires.1.0 in
     let d = c.requires.1.1.1.0 in
     let l = c.requires.1.1.1.1 in
-    let law = held-size rows sound r d l c.kind.result c.kind.ensures c.shape_of-s.result c.shape_of-s.ensures.1 sizes c.requires.1.1.0 in
+    let law = held-size rows sound r d l c.kind.result c.kind.ensures c.shape_of-s.result c.shape_of-s.ensures.meaning sizes c.requires.1.1.0 in
     let za = to_z-of_z w32 c.field.result (record { sfits = c.field.type_inv }) ∙ c.field.ensures in
     let zb = to_z-of_z w32 c.field-2.result (record { sfits = c.field-2.type_inv }) ∙ c.field-2.ensures in
     let zc = to_z-of_z w32 c.field-3.result (record { sfits = c.field-3.type_inv }) ∙ c.field-3.ensures in
@@ -85,7 +85,7 @@ returns c =
     let sound = c.requires.1.0 in
     let d = c.requires.1.1.1.0 in
     let l = c.requires.1.1.1.1 in
-    let law = held-size rows sound r d l c.kind.result c.kind.ensures c.shape_of-s.result c.shape_of-s.ensures.1 sizes c.requires.1.1.0 in
+    let law = held-size rows sound r d l c.kind.result c.kind.ensures c.shape_of-s.result c.shape_of-s.ensures.meaning sizes c.requires.1.1.0 in
     let za = to_z-of_z w32 c.field.result (record { sfits = c.field.type_inv }) ∙ c.field.ensures in
     let zb = to_z-of_z w32 c.field-2.result (record { sfits = c.field-2.type_inv }) ∙ c.field-2.ensures in
     let zc = to_z-of_z w32 c.field-3.result (record { sfits = c.field-3.type_inv }) ∙ c.field-3.ensures in
