@@ -15,4 +15,4 @@ pub returns-in-Fails : goal.returns-in-Fails
 returns-in-Fails c =
     one-call _ _ c.put_range.ensures
     (ap (in_sort c.args.sort)
-    (counts-at c.args.first c.args.size c.args.v c.subscript.ensures c.before.before.before.before.before.before.-k.given.1 ∙ ap (numbers_from c.args.first) (sym c.without_place.ensures)))
+    (counts-at c.args.first c.args.size c.args.v c.subscript.ensures c.in-Fails.is ∙ ap (numbers_from c.args.first) (sym c.without_place.ensures)))
