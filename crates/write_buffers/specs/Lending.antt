@@ -1,12 +1,13 @@
 -- The task and the seven buffers that a call is lent, by its references: what they hold when it begins, and what it leaves behind them.
 use Rattle.std.specs.Prelude.{List, ℕ, ℤ}
-use Rattle.std.specs.Borrow.{Bor}
+use Rattle.std.specs.Borrow.{Bor, MutBor}
+use denote.Triple.Both.{Both}
 use Rattle.meaning.specs.Buffers.{Buffers}
 use Rattle.meaning.specs.Answers.{Task}
 use Rattle.machine.specs.Lending.{Lent}
 
 -- what seven references hold
-abbrev pub buffers_at : Bor (List ℤ) → Bor (List ℕ) → Bor (List ℕ) → Bor (List ℕ) → Bor (List ℤ) → Bor (List ℕ) → Bor (List ℕ) → Buffers
+abbrev pub buffers_at : MutBor (List ℤ) → MutBor (List ℕ) → MutBor (List ℕ) → MutBor (List ℕ) → MutBor (List ℤ) → MutBor (List ℕ) → MutBor (List ℕ) → Buffers
 buffers_at cells marks states places numbers counts output_marks =
     record {
       cells = cells.now;
@@ -19,7 +20,7 @@ buffers_at cells marks states places numbers counts output_marks =
     }
 
 -- the rows, the sheet and the choices that are lent, and the budget
-abbrev pub lent_task : Lent ℤ → Lent ℕ → Lent ℕ → ℕ → Task
+abbrev pub lent_task : Both (Bor (List ℤ)) (Bor (List ℤ)) → Both (Bor (List ℕ)) (Bor (List ℕ)) → Both (Bor (List ℕ)) (Bor (List ℕ)) → ℕ → Task
 lent_task rows sheet choices budget = record { rows = rows.entry.now; sheet = sheet.entry.now; choices = choices.entry.now; budget = budget }
 
 module _ (cells : Lent ℤ) (marks states places : Lent ℕ) (numbers : Lent ℤ) (counts output_marks : Lent ℕ) where

@@ -73,11 +73,15 @@ pub data Within : List ℕ → List (List Message) → Type 0 where
   within_more : {k : ℕ} {ks : List ℕ} {xs : List Message} {xss : List (List Message)} → length xs ≤ k → Within ks xss → Within (k ∷ ks) (xs ∷ xss)
 
 length-outputs : (ks : List ℕ) (xss : List (List Message)) → Within ks xss → length xss ≡ length ks
+length-outputs (k ∷ ks) [] x3 = elim x3 [ ]
+length-outputs [] (xs ∷ xss) x'' = elim x'' [ ]
 length-outputs [] [] within_none = refl
 length-outputs (k ∷ ks) (xs ∷ xss) (within_more h w) = ap suc (length-outputs ks xss w)
 
 length-strips : (f : ℕ → ℕ) (cs : List ℕ) (xss : List (List Message)) → Within (map f cs) xss → length (strips (map f cs) xss) ≡ total f cs
 unfolding strips total
+length-strips f (c ∷ cs) [] x3 = elim x3 [ ]
+length-strips f [] (xs ∷ xss) x'' = elim x'' [ ]
 length-strips f [] [] within_none = refl
 length-strips f (c ∷ cs) (xs ∷ xss) (within_more h w) =
     length-append (sized (f c) none xs) (strips (map f cs) xss)
@@ -86,6 +90,8 @@ length-strips f (c ∷ cs) (xs ∷ xss) (within_more h w) =
 -- the lists come back from the strips, with whatever stands behind
 outputs-back : (ks : List ℕ) (xss : List (List Message)) (counts : List ℕ) (ys : List Message) → Within ks xss → outputs_in ks (map length xss ++ counts) (strips ks xss ++ ys) ≡ xss
 unfolding outputs_in strips
+outputs-back (k ∷ ks) [] counts ys x3 = elim x3 [ ]
+outputs-back [] (xs ∷ xss) counts ys x'' = elim x'' [ ]
 outputs-back [] [] counts ys within_none = refl
 outputs-back (k ∷ ks) (xs ∷ xss) counts ys (within_more h w) =
     ap (λ (l : List Message). take (length xs) l ∷ outputs_in ks (map length xss ++ counts) (drop k l)) (append_assoc S (strips ks xss) ys)

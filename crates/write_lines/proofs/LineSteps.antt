@@ -59,6 +59,8 @@ pub cell_set : (m : ℕ) (z : ℤ) → (m ≡ 0 → ⊥) → cell_of z m ≡ som
 cell_set m z h = ap (λ (t : Bool). if_else t none (some z)) (ne_eqb m 0 h)
 
 pub cells-next : (ms : List ℕ) (zs : List ℤ) (i : ℕ) → i < length ms → i < length zs → drop i (decoded zs ms) ≡ cell_of (get_or zs i (pos 0)) (get_or ms i 0) ∷ drop (suc i) (decoded zs ms)
+cells-next (m ∷ ms) [] i h k = elim k [ ]
+cells-next [] zs i h k = elim h [ ]
 cells-next (m ∷ ms) (z ∷ zs) zero h k = refl
 cells-next (m ∷ ms) (z ∷ zs) (suc i) h k = cells-next ms zs i (omega arith) (omega arith)
 

@@ -1,0 +1,19 @@
+use mathlib.Core.Path.{◌≡◌, sym, ap, ◌∙◌}
+use mathlib.Core.List.{List}
+use Prim.Native.Nat.{ℕ, ◌-◌, ◌*◌, ◌≤◌}
+use native.Mathlib.Omega.{arith}
+use borrow.Author.Rules.{rules}
+use lib.ListN.{length}
+use Rattle.meaning.specs.Declarations.{declarations, sum_below, host_channels_at, capacity_at}
+use Rattle.meaning.specs.Printing.{Line, word_bytes}
+use Rattle.meaning.specs.Buffers.{decoded}
+use Rattle.write_bytes.specs.Writing.{Writer, put_lines}
+use Rattle.write_bytes.proofs.Writers.{put_lines-none, length-put_lines}
+use Rattle.write_lines.proofs.RowLines.{outs_below, outs-below-none, outs-below-all, few-declarations, part-short, outs-step, sum-none, sum_more}
+use Rattle.write_lines.proofs.lines.put_outputs.Given as goal
+
+abbrev pub invariant-loop-r : goal.invariant-loop-r
+invariant-loop-r l = (l.r ≤ l.count) × (l.first ≡ sum_below (capacity_at l.rows) l.r) × (l.first ≤ l.r * 4294967296) × (l.port ≡ sum_below (host_channels_at 2 l.rows) l.r) × (l.port ≤ l.r * 4294967296) × ((l.place, l.out) ≡ put_lines (outs_below l.rows l.counts (decoded l.numbers l.marks) l.r) (l.at, l.initial.out))
+
+abbrev pub decreases-loop-r : goal.decreases-loop-r
+decreases-loop-r l = l.count - l.r

@@ -1,0 +1,17 @@
+use mathlib.Core.Path.{◌≡◌, refl, sym, ap, ◌∙◌}
+use Prim.Native.Nat.{◌+◌, ◌-◌, ◌≤◌}
+use native.Mathlib.Omega.{arith}
+use borrow.Author.Rules.{rules}
+use mathlib.Core.List.{[], ◌∷◌}
+use lib.ListN.{length, get_or, drop}
+use Rattle.meaning.specs.Printing.{stop_lines}
+use Rattle.write_bytes.specs.Writing.{Writer, put_lines}
+use Rattle.write_bytes.proofs.Writers.{length-put_lines}
+use Rattle.write_lines.proofs.LineSteps.{stops-next, stops-done}
+use Rattle.write_lines.proofs.lines.put_stops.Given as goal
+
+abbrev pub invariant-loop-i : goal.invariant-loop-i
+invariant-loop-i l = (l.i ≤ length l.states) × (length l.out ≡ length l.initial.out) × (put_lines (stop_lines l.i (drop l.i l.states)) (l.place, l.out) ≡ put_lines (stop_lines 0 l.states) (l.at, l.initial.out))
+
+abbrev pub decreases-loop-i : goal.decreases-loop-i
+decreases-loop-i l = length l.states - l.i
