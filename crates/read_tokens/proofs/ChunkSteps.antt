@@ -35,4 +35,4 @@ module _ (s : List ℕ) (at : ℕ) where
     -- it does
     pub chunk-goes-on : hang (get_or s at 0) (get_or s (at + 1) 0) ≡ true → chunk_size (drop at s) ≡ suc (chunk_size (drop (at + 1) s))
     unfolding chunk_size
-    chunk-goes-on e = rw (next-two, e, add-one at, drop-cons s (suc at) 0 (omega arith))
+    chunk-goes-on e = rw (next-two, e, add-one at, drop-cons s (suc at) 0 (omega arith)) (ap (λ (n : ℕ). suc (chunk_size (get_or s n 0 ∷ drop (suc (suc at)) s))) (add-one at))

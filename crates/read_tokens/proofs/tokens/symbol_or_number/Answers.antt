@@ -1,0 +1,27 @@
+-- By whether the table has the symbol, and by what is read as a number if not. Assumes nothing.
+use mathlib.Core.Path.{sym, ◌∙◌}
+use mir.Syntax.{w32}
+use mir.Val.{SFits}
+use mir.ValLaws.{to_z-of_z}
+use Rattle.meaning.specs.Numerals.{number}
+use Rattle.grammar.specs.Tokens.{symbols, token_spelt}
+use Rattle.read_tokens.proofs.TokenCases.{symbol-found, number-found, none_found}
+use borrow.Author.Rules.{rules}
+use Rattle.read_tokens.proofs.tokens.symbol_or_number.Goals as goal
+
+pub returns-then-found-ne-NO_TOKEN : goal.returns-then-found-ne-NO_TOKEN
+returns-then-found-ne-NO_TOKEN c =
+    let s = c.args.chunk.now in
+    symbol-found (token_spelt symbols s) c.symbol-found.result c.symbol-found.ensures (number s) c.if-found-ne-NO_TOKEN.true
+
+pub returns-in-Malformed : goal.returns-in-Malformed
+returns-in-Malformed c =
+    let s = c.args.chunk.now in
+    none_found (token_spelt symbols s) c.symbol-found.result c.symbol-found.ensures (number s) c.if-found-ne-NO_TOKEN.false (sym c.read_number.ensures ∙ c.in-Malformed.is)
+
+pub returns-in-Number : goal.returns-in-Number
+returns-in-Number c =
+    let s = c.args.chunk.now in
+    let fits : SFits w32 c.in-Number.z = search rules in
+    rw (to_z-of_z w32 _ fits)
+    (number-found (token_spelt symbols s) c.symbol-found.result c.symbol-found.ensures (number s) c.if-found-ne-NO_TOKEN.false c.in-Number.z (sym c.read_number.ensures ∙ c.in-Number.is))
