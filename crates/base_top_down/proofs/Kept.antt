@@ -97,6 +97,7 @@ module _ (rows T : List ℤ) (same : declarations T ≡ declarations rows) (fiel
       element t q c = ap (kind_at T) (pos-injective (sym q ∙ e ∙ c.0)) ∙ only c.1.2
         where
           only : {k : ℕ} → Memᴰ k (11 ∷ []) → k ≡ 11
+          only {k = k} (Memᴰ.tail x10) = elim x10 [ ]
           only (Memᴰ.head k) = k
   suited-holds variable b x m i j l e d h = held variable x m j refl refl h
   suited-holds (channel roles) b x m i j l e d h = held (channel roles) x m j refl refl h

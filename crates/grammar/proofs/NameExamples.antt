@@ -24,21 +24,21 @@ abbrev examples : List Example
 examples =
     reads "INT x:\nx := 1\n"
     ∷ refuses "INT x:\nx := y\n" 2
-    ∷ refuses "INT x:\n_x := 1\n" 2
+    ∷ refuses "INT x:\nX := 1\n" 2
     ∷ refuses "HOSTIN h:\nh ! 1\n" 2
-    ∷ refuses "HOSTOUT 4 h:\n_int x:\nh ? x\n" 3
+    ∷ refuses "HOSTOUT 4 h:\nINT x:\nh ? x\n" 3
     ∷ refuses "CHAN c:\nc := 1\n" 2
     ∷ refuses "[2]INT a:\na := 1\n" 2
     ∷ reads "[2]INT a:\na[0] := a[1]\n"
     ∷ refuses "[0]INT x:\nx := 1\n" 2
-    ∷ reads "[0]INT x:\n_skip\n"
-    ∷ refuses "INT x:\n_chan x:\n_skip\n" 2
-    ∷ refuses "INT x:\n_seq\n  y := 1\n  x ? x\n" 3
+    ∷ reads "[0]INT x:\nSKIP\n"
+    ∷ refuses "INT x:\nCHAN x:\nSKIP\n" 2
+    ∷ refuses "INT x:\nSEQ\n  y := 1\n  x ? x\n" 3
     ∷ refuses "SEQ\n  INT x:\n  SKIP\n  INT x:\n  SKIP\n" 4
     ∷ reads "SEQ\n  x := 1\n  INT x:\n  SKIP\n"
-    ∷ refuses "CHAN c:\n_int x:\n_alt\n  1 & c ? c\n    SKIP\n" 4
+    ∷ refuses "CHAN c:\nINT x:\nALT\n  1 & c ? c\n    SKIP\n" 4
     ∷ refuses "[2]CHAN c:\nc ! 1\n" 2
-    ∷ refuses "INT x:\n_while GIVEN y\n  SKIP\n" 2
+    ∷ refuses "INT x:\nWHILE GIVEN y\n  SKIP\n" 2
     ∷ []
 
 examples-named : map (λ (e : Example). names_fault (text_lines (bytes e.written))) examples ≡ map (λ (e : Example). e.place) examples

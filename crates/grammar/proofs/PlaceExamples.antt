@@ -23,17 +23,17 @@ refuses s n = record { written = s; place = some n }
 
 abbrev examples : List Example
 examples =
-    reads "INT x:\n_seq\n  x := 1\n  SKIP\n"
+    reads "INT x:\nSEQ\n  x := 1\n  SKIP\n"
     ∷ reads "SEQ\n"
     ∷ refuses "" 1
     ∷ refuses "INT x:\n" 2
     ∷ refuses "WHILE 1\n" 2
-    ∷ refuses "INT x:\n_while x\n" 3
-    ∷ refuses "SKIP\n_skip\n" 2
-    ∷ refuses "SKIP\n_int x:\n" 2
+    ∷ refuses "INT x:\nWHILE x\n" 3
+    ∷ refuses "SKIP\nSKIP\n" 2
+    ∷ refuses "SKIP\nINT x:\n" 2
     ∷ refuses "SEQ\n    SKIP\n" 2
     ∷ refuses "SEQ\n SKIP\n" 2
-    ∷ refuses "IF\n  1\n_skip\n" 3
+    ∷ refuses "IF\n  1\nSKIP\n" 3
     ∷ reads "IF\n  1\n    SKIP\n  0\n    STOP\n"
     ∷ refuses "IF\n  IF\n" 2
     ∷ refuses "SEQ\n\n  SKIP\n" 2
@@ -51,7 +51,7 @@ examples =
     ∷ refuses "WHILE 1\n  INT x:\n  SKIP\n  SKIP\n" 4
     ∷ refuses "SEQ\n  INT x:\n    SKIP\n" 3
     ∷ reads "SEQ\n  INT x:\n  SEQ\n  SKIP\n"
-    ∷ refuses "SEQ\n  INT x:\n_skip\n" 3
+    ∷ refuses "SEQ\n  INT x:\nSKIP\n" 3
     ∷ []
 
 examples-placed : map (λ (e : Example). grammar_fault (bytes e.written)) examples ≡ map (λ (e : Example). e.place) examples
