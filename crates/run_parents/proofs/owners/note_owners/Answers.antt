@@ -1,6 +1,5 @@
 -- `note_owners` meets its contract. The invariant: each row has the note of its lowest ALT below r.
 use mathlib.Core.Path.{◌≡◌, refl, sym, ap, ◌∙◌}
-use mathlib.Core.Logic.{⊎_elim}
 use mathlib.Core.List.{List}
 use Prim.Native.Nat.{ℕ, ◌-◌, ◌<◌, ◌≤◌}
 use native.Mathlib.Omega.{arith}
@@ -17,6 +16,7 @@ use Rattle.run_parents.proofs.OptionLinks.{is_option_of, alt-lowest}
 use Rattle.run_parents.proofs.ByRow.{by_row}
 use Rattle.run_parents.proofs.OwnerNotes.{with-alt, with-other}
 use Rattle.run_parents.proofs.owners.note_owners.Goals as goal
+use Rattle.run_parents.proofs.owners.note_owners.Goals.{then-natural-eq34, else-natural-eq34}
 
 pub loop-r-init : goal.loop-r-init
 loop-r-init c =
@@ -29,10 +29,9 @@ loop-r-preserved c =
     let l = c.loop-r in
     let n = length c.clear_notes.new.notes in
     let h : l.r < row_count rows = c.loop-r-test.true in
-    ⊎_elim
-    (λ w. (omega arith, ap (λ (o : List ℕ). length o) w.6 ∙ w.4.given ∙ l.invariant.1, λ j m. ap (λ (o : List ℕ). get_or o j 0) w.6 ∙ with-alt rows l.r n h l.owners l.invariant.2 _ w.3.last.1.1.1.0 (sym c.natural.ensures ∙ w.0.taken) w.1.ensures (λ i k. w.3.ensures i (rw l.invariant.1 k)) j m))
-    (λ w. (omega arith, ap (λ (o : List ℕ). length o) w.1 ∙ l.invariant.1, λ j m. ap (λ (o : List ℕ). get_or o j 0) w.1 ∙ with-other rows l.r n h l.owners l.invariant.2 (λ e. w.0.left (c.natural.ensures ∙ e)) j m))
-    c.if-natural-eq34.branch
+    elim c.if-natural-eq34.branch
+    [ then-natural-eq34 w ↦ (omega arith, ap (λ (o : List ℕ). length o) w.owners-is ∙ w.note_options.auto.owners ∙ l.invariant.1, λ j m. ap (λ (o : List ℕ). get_or o j 0) w.owners-is ∙ with-alt rows l.r n h l.owners l.invariant.2 _ _ (sym c.natural.ensures ∙ w.if-natural-eq34.true) w.operand.ensures (λ i k. w.note_options.ensures i (rw l.invariant.1 k)) j m)
+    | else-natural-eq34 w ↦ (omega arith, ap (λ (o : List ℕ). length o) w.owners-is ∙ l.invariant.1, λ j m. ap (λ (o : List ℕ). get_or o j 0) w.owners-is ∙ with-other rows l.r n h l.owners l.invariant.2 (λ e. w.if-natural-eq34.false (c.natural.ensures ∙ e)) j m) ]
 
 pub returns : goal.returns
 unfolding owner_notes
