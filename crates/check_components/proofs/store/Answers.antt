@@ -7,12 +7,6 @@ use borrow.Author.Rules.{rules}
 use Rattle.check_components.proofs.RowSets.{stored-part}
 use Rattle.check_components.proofs.store.Goals as goal
 
--- LOST part-copy-start : tie.Need-slice-bounds-copy-start
--- part-copy-start c = search rules
-
--- LOST part-copy-end : tie.Need-slice-bounds-copy-end
--- part-copy-end c = search rules
-
 pub returns : goal.returns
 returns c =
     let at = 16 * c.args.r in
