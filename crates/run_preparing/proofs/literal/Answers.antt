@@ -11,8 +11,7 @@ use mir.Syntax.{w32, w64}
 use mir.Val.{SFits, to_z, of_z}
 use mir.ValLaws.{to_z-of_z}
 use Rattle.run_code.specs.Prepared.{raised}
-use Rattle.run_preparing.proofs.literal.Statement.{statement}
-use Rattle.run_preparing.proofs.literal.Tie as tie
+use Rattle.run_preparing.proofs.literal.Goals as goal
 
 not-below : (x : ℤ) → SFits w32 x → T (non_neg (x +ℤ pos 2147483648))
 not-below (pos n) f = tt
@@ -37,27 +36,17 @@ module _ {x : ℤ} (f : SFits w32 x) where
   read : to_z w64 (of_z w64 (to_z w64 (of_z w64 (to_z w32 (of_z w32 x))) +ℤ pos 2147483648)) ≡ x +ℤ pos 2147483648
   read = rw (to_z-of_z w32 x f, to_z-of_z w64 x wide) (to_z-of_z w64 (x +ℤ pos 2147483648) raised-fits)
 
-cast-n : tie.Need-overflow-cast-n
-cast-n c = rw (to_z-of_z w32 c.args.x c.ranges.x) (wide c.ranges.x)
+pub overflow_cast-n : goal.overflow_cast-n
+overflow_cast-n c = rw (to_z-of_z w32 c.args.x c.ranges.x) (wide c.ranges.x)
 
-add-n : tie.Need-overflow-add-n
-add-n c = rw (to_z-of_z w32 c.args.x c.ranges.x, to_z-of_z w64 c.args.x (wide c.ranges.x)) (raised-fits c.ranges.x)
+pub overflow_add-n : goal.overflow_add-n
+overflow_add-n c = rw (to_z-of_z w32 c.args.x c.ranges.x, to_z-of_z w64 c.args.x (wide c.ranges.x)) (raised-fits c.ranges.x)
 
-cast-n-2 : tie.Need-overflow-cast-n-2
-cast-n-2 c = rw (read c.ranges.x) (not-below c.args.x c.ranges.x, record { fits = small c.args.x c.ranges.x })
+pub overflow_cast-n-2 : goal.overflow_cast-n-2
+overflow_cast-n-2 c = rw (read c.ranges.x) (not-below c.args.x c.ranges.x, record { fits = small c.args.x c.ranges.x })
 
-cast-plain : tie.Need-overflow-cast-plain
-cast-plain c = search rules
+pub overflow_cast-n-4 : goal.overflow_cast-n-4
+overflow_cast-n-4 c = rw (read c.ranges.x) (record { fits = omega (arith, small c.args.x c.ranges.x) })
 
-cast-plain-2 : tie.Need-overflow-cast-plain-2
-cast-plain-2 c = rw (read c.ranges.x) (record { fits = omega (arith, small c.args.x c.ranges.x) })
-
-plain-requires : tie.Need-plain-requires
-plain-requires c κs = search rules
-
-returns : tie.Need-returns
-returns c = (rw (read c.before.ranges.x) at c.plain.ensures)
-
-pub literal-spec : {M : Type 1} → statement M
-literal-spec =
-    tie.close (tie.spec cast-n add-n cast-n-2 cast-plain cast-plain-2 plain-requires returns)
+pub returns : goal.returns
+returns c = (rw (read c.ranges.x) at c.plain.ensures)
