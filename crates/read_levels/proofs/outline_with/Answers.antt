@@ -185,12 +185,6 @@ pub returns-then-ended_to : goal.returns-then-ended_to
 returns-then-ended_to c =
     outlining-ends c.args.text.now _ _ c.requires.0 _ _ _ _ _ _ _ _ c.loop-at.invariant c.loop-at-test.false (sym c.if-ended_to.true ∙ c.ended_to.ensures)
 
--- LOST add-t39 : tie.Need-overflow-add-t39 invariant-loop decreases-loop
--- add-t39 c = let f = counted c in omega (arith, f)
-
--- LOST cast-t40 : tie.Need-overflow-cast-t40 invariant-loop decreases-loop
--- cast-t40 c = let f = counted c in omega (arith, f)
-
 pub shape_of-kinds : goal.shape_of-kinds
 shape_of-kinds c = c.loop-at.invariant.kinds-long
 
