@@ -1,0 +1,5 @@
+use Rattle.std.proofs.Common.{◌-◌}
+use Rattle.run_intents.proofs.+choices_do.Given as goal
+
+abbrev pub decreases-choices_do : goal.decreases-choices_do
+decreases-choices_do l = 1025 - l.m
