@@ -1,0 +1,27 @@
+-- The sheet's refusal, or the run on the readings of its channels; or the same with more room. Assumes nothing.
+use lib.IntN.{pos}
+use lib.ListN.{replicate}
+use borrow.Author.Rules.{rules}
+use Rattle.meaning.specs.Sheet.{readings}
+use Rattle.call_tasks.proofs.Stages.{task, sheet-refused, task-refused}
+use Rattle.call_tasks.proofs.SheetStage.{sheet-fault, sheet-accepted, lines-few, sheet-kept}
+use Rattle.call_tasks.proofs.run_sheet.Goals as goal
+
+pub run_readings-requires : goal.run_readings-requires
+run_readings-requires c =
+    let a = c.args in
+    record {
+      accepted = c.requires;
+      kept = (readings a.rows.now a.sheet.now, sheet-kept a.rows.now a.sheet.now (replicate 512 (pos 0)) (replicate 512 0) c.read_sheet.result _ _ c.read_sheet.ensures c.in-Lines.lines c.in-Lines.is);
+      few = lines-few a.rows.now a.sheet.now (replicate 512 (pos 0)) (replicate 512 0) c.read_sheet.result _ _ c.read_sheet.ensures c.in-Lines.lines c.in-Lines.is;
+    }
+
+pub returns-in-Refused : goal.returns-in-Refused
+returns-in-Refused c =
+    let a = c.args in
+    task-refused (task a.rows.now a.sheet.now a.choices.now a.budget) _ _ 10 c.in-Refused.line (sheet-refused a.rows.now a.sheet.now a.choices.now a.budget c.requires 10 c.in-Refused.line (sheet-fault a.rows.now a.sheet.now (replicate 512 (pos 0)) (replicate 512 0) c.read_sheet.result _ _ c.read_sheet.ensures c.in-Refused.line c.in-Refused.is)) c.refused.ensures
+
+pub returns-in-Lines : goal.returns-in-Lines
+returns-in-Lines c =
+    let a = c.args in
+    c.run_readings.ensures a.sheet.now (sheet-accepted a.rows.now a.sheet.now (replicate 512 (pos 0)) (replicate 512 0) c.read_sheet.result _ _ c.read_sheet.ensures c.in-Lines.lines c.in-Lines.is, sheet-kept a.rows.now a.sheet.now (replicate 512 (pos 0)) (replicate 512 0) c.read_sheet.result _ _ c.read_sheet.ensures c.in-Lines.lines c.in-Lines.is)

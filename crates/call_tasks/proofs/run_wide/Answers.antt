@@ -1,0 +1,33 @@
+-- The sheet's refusal, or the run on the readings of all its channels; the lists are not full. Assumes nothing.
+use Prim.Native.Nat.{ℕ}
+use lib.IntN.{ℤ, pos}
+use lib.ListN.{replicate, length-replicate}
+use borrow.Author.Rules.{rules}
+use Rattle.meaning.specs.Sheet.{readings}
+use Rattle.call_tasks.proofs.Stages.{task, sheet-refused, task-refused}
+use Rattle.call_tasks.proofs.SheetStage.{sheet-fault, not_full, sheet-accepted, lines-few, sheet-kept}
+use Rattle.call_tasks.proofs.run_wide.Goals as goal
+
+pub run_readings-requires : goal.run_readings-requires
+run_readings-requires c =
+    let a = c.args in
+    record {
+      accepted = c.requires;
+      kept = (readings a.rows.now a.sheet.now, sheet-kept a.rows.now a.sheet.now (replicate 1024 (pos 0)) (replicate 1024 0) c.read_sheet.result _ _ c.read_sheet.ensures c.in-Lines.lines c.in-Lines.is);
+      few = lines-few a.rows.now a.sheet.now (replicate 1024 (pos 0)) (replicate 1024 0) c.read_sheet.result _ _ c.read_sheet.ensures c.in-Lines.lines c.in-Lines.is;
+    }
+
+pub returns-in-Refused : goal.returns-in-Refused
+returns-in-Refused c =
+    let a = c.args in
+    task-refused (task a.rows.now a.sheet.now a.choices.now a.budget) _ _ 10 c.in-Refused.place (sheet-refused a.rows.now a.sheet.now a.choices.now a.budget c.requires 10 c.in-Refused.place (sheet-fault a.rows.now a.sheet.now (replicate 1024 (pos 0)) (replicate 1024 0) c.read_sheet.result _ _ c.read_sheet.ensures c.in-Refused.place c.in-Refused.is)) c.refused.ensures
+
+pub returns-in-Full : goal.returns-in-Full
+returns-in-Full c =
+    let a = c.args in
+    absurd (not_full a.rows.now a.sheet.now (replicate 1024 (pos 0)) (replicate 1024 0) c.read_sheet.result _ _ c.read_sheet.ensures c.requires (length-replicate {A = ℤ} 1024 (pos 0)) (length-replicate {A = ℕ} 1024 0) c.in-Full.is)
+
+pub returns-in-Lines : goal.returns-in-Lines
+returns-in-Lines c =
+    let a = c.args in
+    c.run_readings.ensures a.sheet.now (sheet-accepted a.rows.now a.sheet.now (replicate 1024 (pos 0)) (replicate 1024 0) c.read_sheet.result _ _ c.read_sheet.ensures c.in-Lines.lines c.in-Lines.is, sheet-kept a.rows.now a.sheet.now (replicate 1024 (pos 0)) (replicate 1024 0) c.read_sheet.result _ _ c.read_sheet.ensures c.in-Lines.lines c.in-Lines.is)
