@@ -13,7 +13,7 @@ fn main() {
     } else {
         println!(
             "cargo:warning=target/staticlib/libtest_leaves.a is missing: \
-             run `rt staticlib test_leaves` at the project's root, then this again"
+             run `tools/build test_leaves` at the project's root, then this again"
         );
     }
 }

@@ -13,7 +13,7 @@ fn main() {
     } else {
         println!(
             "cargo:warning=target/staticlib/liboccam_table.a is missing: \
-             run `rt staticlib occam_table` at the project's root, then this again"
+             run `tools/build occam_table` at the project's root, then this again"
         );
     }
 }

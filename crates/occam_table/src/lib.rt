@@ -1,4 +1,4 @@
-// The public entries, and the exported functions: a table's verdict, alone or with the count of pairs compared, a run's answer with what it leaves in the lent buffers, a table's rows, the same of a
+// The public entries, and the functions that `occam_table_c` exports for C: a table's verdict, alone or with the count of pairs compared, a run's answer with what it leaves in the lent buffers, a table's rows, the same of a
 // text, and the strip of an output channel. A slice is a pointer and a length.
 #![tactic(auto)]
 
@@ -24,40 +24,35 @@ pub use read_text::read_text;
 pub use write_strips::{strip, strip_marks};
 
 // The verdict on rows lent as numbers.
-#[unsafe(no_mangle)]
-pub extern "C" fn occam_check_rows(rows: &[i32]) -> u64
+pub fn occam_check_rows(rows: &[i32]) -> u64
     ensures { result ≡ verdict_number (verdict_of (check rows.now)) }
 {
     packing::verdict_number(check_verdict::check_rows(rows))
 }
 
 // The verdict on a table's bytes.
-#[unsafe(no_mangle)]
-pub extern "C" fn occam_check_table(table: &[u8]) -> u64
+pub fn occam_check_table(table: &[u8]) -> u64
     ensures { result ≡ verdict_number (verdict_of (check_bytes table.now)) }
 {
     packing::verdict_number(check_verdict::check_table(table))
 }
 
 // The verdict on rows lent as numbers, with the count of pairs compared.
-#[unsafe(no_mangle)]
-pub extern "C" fn occam_check_rows_counted(rows: &[i32]) -> u64
+pub fn occam_check_rows_counted(rows: &[i32]) -> u64
     ensures { result ≡ checked_number (check_counted rows.now) }
 {
     packing::checked_number(check_verdict::check_rows_counted(rows))
 }
 
 // The verdict on a table's bytes, with the count of pairs compared.
-#[unsafe(no_mangle)]
-pub extern "C" fn occam_check_table_counted(table: &[u8]) -> u64
+pub fn occam_check_table_counted(table: &[u8]) -> u64
     ensures { result ≡ checked_number (check_bytes_counted table.now) }
 {
     packing::checked_number(check_verdict::check_table_counted(table))
 }
 
 // A run of rows lent as numbers.
-#[unsafe(no_mangle)]
-pub extern "C" fn occam_run_rows(
+pub fn occam_run_rows(
     rows: &[i32],
     sheet: &[u8],
     choices: &[u16],
@@ -88,8 +83,7 @@ pub extern "C" fn occam_run_rows(
 }
 
 // A run of a table's bytes.
-#[unsafe(no_mangle)]
-pub extern "C" fn occam_run_table(
+pub fn occam_run_table(
     table: &[u8],
     sheet: &[u8],
     choices: &[u16],
@@ -121,8 +115,7 @@ pub extern "C" fn occam_run_table(
 
 // A traced run of rows lent as numbers: for each step how many steps were ready, and the row that orders the one taken, in two lent lists of
 // 65,536 numbers.
-#[unsafe(no_mangle)]
-pub extern "C" fn occam_run_rows_traced(
+pub fn occam_run_rows_traced(
     rows: &[i32],
     sheet: &[u8],
     choices: &[u16],
@@ -157,8 +150,7 @@ pub extern "C" fn occam_run_rows_traced(
 }
 
 // A traced run of a table's bytes.
-#[unsafe(no_mangle)]
-pub extern "C" fn occam_run_table_traced(
+pub fn occam_run_table_traced(
     table: &[u8],
     sheet: &[u8],
     choices: &[u16],
@@ -194,8 +186,7 @@ pub extern "C" fn occam_run_table_traced(
 
 // A table's rows as numbers in a lent buffer of 4,096: how many numbers. 0 and nothing written if the bytes are refused, or the buffer is
 // too short.
-#[unsafe(no_mangle)]
-pub extern "C" fn occam_read_rows(table: &[u8], rows: &mut [i32]) -> u64
+pub fn occam_read_rows(table: &[u8], rows: &mut [i32]) -> u64
     ensures { (result, rows.new) ≡ rows_lent table.now rows.old }
 {
     if rows.len() < 4096 {
@@ -214,24 +205,21 @@ pub extern "C" fn occam_read_rows(table: &[u8], rows: &mut [i32]) -> u64
 }
 
 // A text's rows as numbers in a lent buffer of 4,096, with 0 behind them: how many rows, or the refusal.
-#[unsafe(no_mangle)]
-pub extern "C" fn occam_read_text(text: &[u8], rows: &mut [i32]) -> u64
+pub fn occam_read_text(text: &[u8], rows: &mut [i32]) -> u64
     ensures { (result, rows.new) ≡ read_lent text.now rows.old }
 {
     packing::read_number(read_text::read_text(text, rows))
 }
 
 // The verdict on a text.
-#[unsafe(no_mangle)]
-pub extern "C" fn occam_check_text(text: &[u8]) -> u64
+pub fn occam_check_text(text: &[u8]) -> u64
     ensures { result ≡ verdict_number (verdict_of (check_text text.now)) }
 {
     packing::verdict_number(call_texts::check_text(text))
 }
 
 // A run of a text.
-#[unsafe(no_mangle)]
-pub extern "C" fn occam_run_text(
+pub fn occam_run_text(
     text: &[u8],
     sheet: &[u8],
     choices: &[u16],
@@ -262,8 +250,7 @@ pub extern "C" fn occam_run_text(
 }
 
 // Where the strip of an output channel begins, in the output numbers as in their marks, and its capacity.
-#[unsafe(no_mangle)]
-pub extern "C" fn occam_strip(rows: &[i32], channel: usize) -> u64
+pub fn occam_strip(rows: &[i32], channel: usize) -> u64
     ensures { result ≡ strip_number rows.now channel }
 {
     let span = write_strips::span_of(rows, channel, 65535);

@@ -8,7 +8,7 @@ use Prim.Native.Nat.{ℕ, zero, suc, ◌<◌}
 use native.Mathlib.Omega.{arith}
 use lib.ListN.{length, get_or, set, length-set}
 use lib.Seq.{get_or-set_same, get_or-set_other}
-use Rattle.meaning.specs.Tree.{Action, Process, node, Processes, also, row_of, rows_in, rows_beneath}
+use Rattle.meaning.specs.Tree.{Action, Process, node, Processes, also, row_of, rows_in, rows_beneath, empty}
 use Rattle.meaning.specs.State.{state_of, make_idle}
 use Rattle.meaning.specs.Settle.{states_of, Mode, mode, starts, next_mode, complete, ends_when_closed, closing, visit, settle_running, settle_each, settle}
 use Rattle.agreement.proofs.Frame.{body-node, body-shape, walk-also, row_in, see-local, walk-local, zeros-local, off-look, length-local}
@@ -19,6 +19,7 @@ use Rattle.run_kept.proofs.Over.{set-not, idle-not}
 
 -- a row made idle is not running
 made-idle : (rs : List ℕ) (l : List ℕ) (y : ℕ) → Memᴰ y rs → y < length l → get_or (make_idle rs l) y 0 ≢ 1
+made-idle mathlib.Core.List.[] l y x'' h = elim x'' [ ]
 made-idle (r ∷ rs) l y (Memᴰ.head e) h =
     idle-not rs (set l r 0) y (λ z. let q = get_or-set_same l y 0 0 h in let g = ap (λ (k : ℕ). get_or (set l k 0) y 0) e in omega arith)
 made-idle (r ∷ rs) l y (Memᴰ.tail m) h = made-idle rs (set l r 0) y m (rw (length-set l r 0) h)
@@ -47,6 +48,7 @@ settle-row p n d b l e g = visit-row (state_of l p) b p n d l e refl g
 
 -- a member that is not idle is not made idle by its own process's walk
 member-row : (q : ℕ) (ms : Processes) → Child q ms → (n : ℕ) → SoundM ms n → (m : Mode) (l : List ℕ) → length l ≡ n → get_or l q 0 ≢ 0 → get_or (settle_each ms m l) q 0 ≢ 0
+member-row q empty x4 n d m l e g = elim x4 [ ]
 member-row q (also p ms) (eldest c) n d m l e g =
     let u = settle p (starts m) l in
     rw (walk-also p ms m l, c) (λ z. settle-row p n d.0 (starts m) l e (λ y. g (ap (λ (k : ℕ). get_or l k 0) c ∙ y))
@@ -69,6 +71,7 @@ module _ (k : Action) (r q : ℕ) (ms : Processes) (ends : ends_when_closed k �
     in-sub (node k' r' ps) (inside h) = Memᴰ.tail (in-sub_m ps h)
 
     in-sub_m : (ps : Processes) → SubM k r ms ps → Memᴰ q (rows_beneath ps)
+    in-sub_m empty x'' = elim x'' [ ]
     in-sub_m (also p ps) (front h) = Memᴰ.append_left (rows_beneath ps) (in-sub p h)
     in-sub_m (also p ps) (back h) = Memᴰ.append_right (rows_in p) (in-sub_m ps h)
 
@@ -116,6 +119,7 @@ module _ (k : Action) (r q : ℕ) (ms : Processes) (ends : ends_when_closed k �
         (rw (length-local (walk-local ps (mode k')) l) (below ps n d.2 h l e)) (members-pair ps n d.2 h (mode k') l e a g))
 
     members-pair : (ps : Processes) (n : ℕ) → SoundM ps n → SubM k r ms ps → (m : Mode) (l : List ℕ) → length l ≡ n → get_or l r 0 ≡ 1 → get_or l q 0 ≢ 0 → Pair (settle_each ps m l)
+    members-pair empty n d x16 m l e a g = elim x16 [ ]
     members-pair (also p ps) n d (front h) m l e a g =
         let u = settle p (starts m) l in
         rw (walk-also p ps m l)
@@ -129,6 +133,7 @@ module _ (k : Action) (r q : ℕ) (ms : Processes) (ends : ends_when_closed k �
         (λ z. g (sym (off-look (see-local p (starts m)) l q (λ i. d.2 q i (in-sub_m ps h))) ∙ z)))
 
     below : (ps : Processes) (n : ℕ) → SoundM ps n → SubM k r ms ps → (l : List ℕ) → length l ≡ n → r < length l
+    below empty n d x16 l e = elim x16 [ ]
     below (also p ps) n d (front h) l e = below_in p n d.0 h l e
     below (also p ps) n d (back h) l e = below ps n d.1 h l e
 

@@ -3,7 +3,8 @@ use Rattle.std.proofs.Math.Option.{none}
 use Rattle.std.specs.Prelude.{List, [], ◌∷◌, ℕ, zero, suc, ℤ, pos, get_or, set, replicate, drop}
 use Rattle.meaning.specs.Values.{Message}
 use Rattle.meaning.specs.Buffers.{mark, number_in, cell_of, decoded}
-use Rattle.machine.specs.Lending.{Lent}
+use Rattle.std.specs.Borrow.{Bor}
+use denote.Triple.Both.{Both}
 use Rattle.run_values.specs.declared.store.State.{State}
 
 -- the first n cells that numbers and set marks stand for
@@ -16,7 +17,7 @@ unfoldable pub cells_in : List ℤ → List ℕ → List Message
 cells_in values marks = cells_to 256 values marks
 
 -- those of two arrays that are lent, when the call begins
-abbrev pub lent_cells : Lent ℤ → Lent ℕ → List Message
+abbrev pub lent_cells : Both (Bor (List ℤ)) (Bor (List ℤ)) → Both (Bor (List ℕ)) (Bor (List ℕ)) → List Message
 lent_cells values marks = cells_in values.entry.now marks.entry.now
 
 -- the cells of a state

@@ -1,6 +1,6 @@
 //! The proved leaves as safe Rust functions.
 //!
-//! They come from `target/staticlib/libtest_leaves.a`, which `rt staticlib test_leaves` makes at the
+//! They come from `target/staticlib/libtest_leaves.a`, which `tools/build test_leaves` makes at the
 //! project's root. Where it is missing, every call fails and says so.
 
 #[cfg(leaves)]

@@ -7,7 +7,7 @@ macro_rules! missing {
             pub fn $name($(_: $given),*) -> $told {
                 panic!(
                     "target/staticlib/libtest_leaves.a is missing: \
-                     run `rt staticlib test_leaves` at the project's root, then this again"
+                     run `tools/build test_leaves` at the project's root, then this again"
                 )
             }
         )*

@@ -1,6 +1,6 @@
 //! The proved checker and machine for small occam programs kept as tables of rows.
 //!
-//! Every answer comes from `target/staticlib/liboccam_table.a`, which `rt staticlib occam_table`
+//! Every answer comes from `target/staticlib/liboccam_table.a`, which `tools/build occam_table`
 //! makes at the project's root from proved code. Where it is missing this crate still compiles,
 //! and every call fails and says what to run. What the words mean (row, step, outcome, refusal,
 //! place) is fixed by document 01, "An occam table checker and runner for kiln monitoring sets".
@@ -85,7 +85,7 @@ pub use traced::{Step, Traced};
 
 /// What to do where the proved library is missing.
 pub const MISSING: &str = "target/staticlib/liboccam_table.a is missing: \
-    run `rt staticlib occam_table` at the project's root, then this again";
+    run `tools/build occam_table` at the project's root, then this again";
 
 /// A stack in bytes within which every call answers: 1 MiB, half of what a thread of the standard
 /// library has by default.

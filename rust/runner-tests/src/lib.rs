@@ -15,12 +15,12 @@ impl Runner {
     /// The program; `name` tells apart those that run at the same time.
     ///
     /// # Panics
-    /// If the program was not built: `rt check sheet_runner` at the project's root builds it.
+    /// If the program was not built: `tools/build sheet_runner` at the project's root builds it.
     pub fn new(name: &str) -> Runner {
         let program = Path::new(env!("CARGO_MANIFEST_DIR")).join("../../target/bin/sheet_runner");
         assert!(
             program.is_file(),
-            "target/bin/sheet_runner is missing: run `rt check sheet_runner` at the project's root"
+            "target/bin/sheet_runner is missing: run `tools/build sheet_runner` at the project's root"
         );
         let file = format!("sheet-runner-{}-{name}", std::process::id());
         Runner {

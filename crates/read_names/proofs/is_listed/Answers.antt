@@ -10,22 +10,10 @@ returns-then-text-from c =
     let a = c.args in
     same-empty a.name.now ∙ sym (ap (same a.name.now) (listed-past-end a.text.now a.from a.size c.if-text-from.true))
 
--- LOST part-same-start : tie.Need-slice-bounds-same-start
--- part-same-start c = search rules
-
--- LOST part-same-end : tie.Need-slice-bounds-same-end
--- part-same-end c = search rules
-
 pub returns-then-left-size : goal.returns-then-left-size
 returns-then-left-size c =
     let a = c.args in
     c.same.ensures ∙ ap (same a.name.now) (listed-to-end a.text.now a.from a.size c.if-left-size.true)
-
--- LOST part-same-start-2 : tie.Need-slice-bounds-same-start-2
--- part-same-start-2 c = search rules
-
--- LOST part-same-end-2 : tie.Need-slice-bounds-same-end-2
--- part-same-end-2 c = search rules
 
 pub returns : goal.returns
 returns c =

@@ -10,22 +10,10 @@ returns-then-text-from c =
     let a = c.args in
     key-empty ∙ sym (ap key_of (listed-past-end a.text.now a.from a.size c.if-text-from.true))
 
--- LOST part-key-of-start : tie.Need-slice-bounds-key-of-start
--- part-key-of-start c = search rules
-
--- LOST part-key-of-end : tie.Need-slice-bounds-key-of-end
--- part-key-of-end c = search rules
-
 pub returns-then-left-size : goal.returns-then-left-size
 returns-then-left-size c =
     let a = c.args in
     c.key_of.ensures ∙ ap key_of (listed-to-end a.text.now a.from a.size c.if-left-size.true)
-
--- LOST part-key-of-start-2 : tie.Need-slice-bounds-key-of-start-2
--- part-key-of-start-2 c = search rules
-
--- LOST part-key-of-end-2 : tie.Need-slice-bounds-key-of-end-2
--- part-key-of-end-2 c = search rules
 
 pub returns : goal.returns
 returns c =

@@ -17,11 +17,6 @@ overflow_cast-x c = cast_fits c.ranges.x
 pub overflow_cast-y : goal.overflow_cast-y
 overflow_cast-y c = cast_fits c.ranges.y
 
--- LOST div-fit : tie.Need-nonzero-div-fit
--- div-fit c =
---     let f = c.before.ranges in
---     (divisor-positive _ f.y c.if1.false, operation-fits f.x f.y quot_z (quotient_fits f.x f.y))
-
 pub returns : goal.returns
 unfolding quotient
 returns c =

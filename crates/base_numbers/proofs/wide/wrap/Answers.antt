@@ -8,9 +8,6 @@ use Rattle.meaning.specs.Values.{wrapped}
 use Rattle.base_numbers.proofs.Turning.{remainder-small, remainder-fits, quotient_fits}
 use Rattle.base_numbers.proofs.wide.wrap.Goals as goal
 
--- LOST rem-turn : tie.Need-nonzero-rem-turn
--- rem-turn c = (omega arith, rw (to_z-of_z w64 _ c.ranges.z) (quotient_fits _ c.ranges.z))
-
 pub turn-requires : goal.turn-requires
 turn-requires c =
     rw (to_z-of_z w64 _ c.ranges.z, to_z-of_z w64 _ (remainder-fits c.args.z)) (remainder-small c.args.z)

@@ -24,12 +24,6 @@ returns-then-at-end c =
     let e = c.field_end-end in
     sym (field-empty a.sheet.now a.at a.stop e.result e.ensures c.if-sheet-end.false c.if-sheet-end-2.false c.if-at-end.true)
 
--- LOST part-read-number-start : tie.Need-slice-bounds-read-number-start
--- part-read-number-start c = search rules
-
--- LOST part-read-number-end : tie.Need-slice-bounds-read-number-end
--- part-read-number-end c = search rules
-
 pub returns-in-Malformed : goal.returns-in-Malformed
 returns-in-Malformed c =
     let a = c.args in

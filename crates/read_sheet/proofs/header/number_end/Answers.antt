@@ -9,12 +9,6 @@ returns-then-sheet-end c =
     let a = c.args in
     number-unended a.sheet.now a.from a.r c.field_end-end.result c.field_end-end.ensures c.if-sheet-end.true
 
--- LOST part-is-decimal-start : tie.Need-slice-bounds-is-decimal-start
--- part-is-decimal-start c = search rules
-
--- LOST part-is-decimal-end : tie.Need-slice-bounds-is-decimal-end
--- part-is-decimal-end c = search rules
-
 pub returns-then-is_decimal : goal.returns-then-is_decimal
 returns-then-is_decimal c =
     let a = c.args in

@@ -18,12 +18,6 @@ returns-then-bytes-end-2 c =
     let e = c.field_end-end in
     sym (field-misended a.bytes.now a.at a.stop e.result e.ensures c.if-bytes-end.false c.if-bytes-end-2.true)
 
--- LOST part-read-number-start : tie.Need-slice-bounds-read-number-start
--- part-read-number-start c = search rules
-
--- LOST part-read-number-end : tie.Need-slice-bounds-read-number-end
--- part-read-number-end c = search rules
-
 pub returns-in-Malformed : goal.returns-in-Malformed
 returns-in-Malformed c =
     let a = c.args in

@@ -1,0 +1,18 @@
+-- `count` meets its contract: by the subscript's expression as a constant.
+use mathlib.Core.Path.{ap}
+use borrow.Author.Rules.{rules}
+use Rattle.meaning.specs.Tree.{content_at}
+use Rattle.base_sets.specs.Sets.{in_sort}
+use Rattle.base_sets.proofs.SetLaws.{one-call}
+use Rattle.check_subscripts.proofs.CountLaws.{counts-as}
+use Rattle.check_subscripts.proofs.count.Goals as goal
+
+pub returns-in-Of : goal.returns-in-Of
+returns-in-Of c =
+    one-call _ _ c.count_value.ensures
+    (ap (in_sort c.args.sort) (counts-as c.args.first c.args.size (content_at c.args.rows.now c.args.e).expr c.constant_at.ensures c.in-Of.is))
+
+pub returns-in-Varies : goal.returns-in-Varies
+returns-in-Varies c =
+    one-call _ _ c.put_range.ensures
+    (ap (in_sort c.args.sort) (counts-as c.args.first c.args.size (content_at c.args.rows.now c.args.e).expr c.constant_at.ensures c.in-Varies.is))

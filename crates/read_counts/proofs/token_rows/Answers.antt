@@ -1,0 +1,32 @@
+-- The loop keeps the rows that the tokens before the place add and take away. Assumes nothing.
+use mathlib.Core.Path.{◌∙◌}
+use Prim.Native.Nat.{◌-◌}
+use native.Mathlib.Omega.{arith}
+use borrow.Author.Rules.{rules}
+use lib.ListN.{length}
+use Rattle.read_counts.proofs.TokenSteps.{rows_few, less-few, Counted, counted-nothing, counted-all, counted_next}
+use Rattle.read_counts.proofs.token_rows.Goals as goal
+
+pub loop-at-init : goal.loop-at-init
+loop-at-init c = counted-nothing c.args.sorts.now
+
+pub overflow_add-rows : goal.overflow_add-rows
+overflow_add-rows c =
+    let sorts = c.args.sorts.now in
+    let k = counted_next sorts c.loop-at.rows c.loop-at.less c.loop-at.at c.loop-at.invariant c.loop-at-test.true in
+    omega (arith, c.sort_rows-rows.ensures, k.full, rows_few sorts, c.requires)
+
+pub overflow_add-less : goal.overflow_add-less
+overflow_add-less c =
+    let sorts = c.args.sorts.now in
+    let k = counted_next sorts c.loop-at.rows c.loop-at.less c.loop-at.at c.loop-at.invariant c.loop-at-test.true in
+    omega (arith, c.sort_less-less.ensures, k.taken, less-few sorts, c.requires)
+
+pub loop-at-preserved : goal.loop-at-preserved
+loop-at-preserved c =
+    let k = counted_next c.args.sorts.now c.loop-at.rows c.loop-at.less c.loop-at.at c.loop-at.invariant c.loop-at-test.true in
+    rw (c.sort_rows-rows.ensures, c.sort_less-less.ensures) k
+
+pub returns : goal.returns
+returns c =
+    c.difference.ensures ∙ counted-all c.args.sorts.now c.loop-at.rows c.loop-at.less c.loop-at.at c.loop-at.invariant c.loop-at-test.false
