@@ -269,6 +269,11 @@ module _ (rows : List ℤ) (numbers : Each In32 rows) where
   -- what an output passes
   passes-in : (s : State) → CellsIn s.store.cells → (e : Expr) → ExprIn e → (m : Message) → Passes s.store.cells e m → IsReading m
   passes-in s h e k (some z) (passes-value q) = number_in s h e k z q
+  passes-in s h no_expr k none x7 = elim x7 [ ]
+  passes-in s h (dyadic _ _ _) k none x9 = elim x9 [ ]
+  passes-in s h (given _ _) k none x7 = elim x7 [ ]
+  passes-in s h (monadic _ _) k none x6 = elim x6 [ ]
+  passes-in s h (literal _) k none x4 = elim x4 [ ]
   passes-in s h (element v e) k none (passes-absence p q) = tt
 
   -- every cell, and every message of an output list

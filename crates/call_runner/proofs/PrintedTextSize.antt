@@ -113,6 +113,8 @@ module _ (rows : List ℤ) (cells : List Message) (few : length cells ≤ 256) (
 out-lines : (f : ℕ → ℕ) (cs : List ℕ) (xss : List (List Message)) → Each (λ c. c < 4294967296) cs → Within (map f cs) xss → total f cs ≤ 1024 → ((p : ℕ) → Each IsReading (get_or xss p []))
     → (length (out_lines cs xss) ≤ total f cs) × Each Fine (out_lines cs xss)
 unfolding out_lines total
+out-lines f (c ∷ cs) [] h x6 k g = elim x6 [ ]
+out-lines f [] (xs ∷ xss) h x8 k g = elim x8 [ ]
 out-lines f [] [] h within_none k g = (omega arith, each_none)
 out-lines f (c ∷ cs) (xs ∷ xss) (each_more l h) (within_more n w) k g =
     let ih = out-lines f cs xss h w (omega arith) (λ p. g (suc p)) in (

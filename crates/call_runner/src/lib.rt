@@ -4,7 +4,7 @@
 ghost use Rattle.std.specs.Prelude.{◌≡◌, [], ℕ, ◌<◌, ◌≤◌, length, get_or};
 ghost use Rattle.meaning.specs.Limits.{max_budget};
 ghost use Rattle.meaning.specs.TableBytes.{rows_of};
-ghost use Rattle.meaning.specs.Answers.{reply_of, result, result_of_bytes};
+ghost use Rattle.meaning.specs.Answers.{reply_of, result as result_of_task, result_of_bytes};
 ghost use Rattle.machine.specs.Held.{blank};
 ghost use Rattle.write_buffers.specs.Replies.{reply_in};
 ghost use Rattle.meaning.specs.Printing.{line_bytes, refused_line};
@@ -26,23 +26,23 @@ pub struct PrintedText {
 
 // The line of a refusal.
 fn refusal_printed_text(number: u8, place: u32, out: &mut [u8]) -> usize
-    ensures* out_after { λ n. ⌜ (n, out.new) ≡ printed_in (line_bytes (refused_line (number, place))) out.old ⌝ }
-    ensures* place_bound { λ n. ⌜ length (line_bytes (refused_line (number, place))) ≤ max_printed_text ⌝ }
+    ensures written { (result, out.new) ≡ printed_in (line_bytes (refused_line (number, place))) out.old }
+    ensures fits { length (line_bytes (refused_line (number, place))) ≤ max_printed_text }
 {
     write_lines::refusal_line(number, place, out)
 }
 
 // The row states that a run leaves: bytes.
 fn row_states(states: &[u8]) -> &[u8]
-    ensures* r_value { λ r. ⌜ r.now ≡ states.now ⌝ }
-    ensures* fact { λ r. ⌜ ((i : ℕ) → get_or states.now i 0 < 256) ⌝ }
+    ensures same { result.now ≡ states.now }
+    ensures bytes { (i : ℕ) → get_or states.now i 0 < 256 }
 {
     write_bytes::slices::of_bytes(states, 0, states.len())
 }
 
 // What the task of rows and a sheet comes to: no choices, budget 65,536, and no trace is kept.
 fn task_done(rows: &[i32], sheet: &[u8]) -> Done
-    ensures* { λ d. ⌜ reply_in d ≡ reply_of rows.now blank (result (task_of rows.now sheet.now)) ⌝ }
+    ensures { reply_in result ≡ reply_of rows.now blank (result_of_task (task_of rows.now sheet.now)) }
 {
     let choices = [0u16; 0];
     let mut readied = [0u16; 1];
@@ -52,8 +52,8 @@ fn task_done(rows: &[i32], sheet: &[u8]) -> Done
 
 // The printed text of rows and a sheet.
 fn rows_printed_text(rows: &[i32], sheet: &[u8], out: &mut [u8]) -> usize
-    ensures* out_after { λ n. ⌜ (n, out.new) ≡ printed_in (printed_result rows.now (result (task_of rows.now sheet.now))) out.old ⌝ }
-    ensures* fact { λ n. ⌜ (Each In32 rows.now → length (printed_result rows.now (result (task_of rows.now sheet.now))) ≤ max_printed_text) ⌝ }
+    ensures written { (result, out.new) ≡ printed_in (printed_result rows.now (result_of_task (task_of rows.now sheet.now))) out.old }
+    ensures fits { Each In32 rows.now → length (printed_result rows.now (result_of_task (task_of rows.now sheet.now))) ≤ max_printed_text }
 {
     let done = task_done(rows, sheet);
     let answer = done.answer;
@@ -84,8 +84,8 @@ fn rows_printed_text(rows: &[i32], sheet: &[u8], out: &mut [u8]) -> usize
 
 // The printed text of a table's bytes and a sheet: the table is read first, into room for every table.
 fn table_printed_text(table: &[u8], sheet: &[u8], out: &mut [u8]) -> usize
-    ensures* out_after { λ n. ⌜ (n, out.new) ≡ printed_in (printed_result (rows_of table.now) (result_of_bytes table.now sheet.now [] max_budget)) out.old ⌝ }
-    ensures* max_budget_bound { λ n. ⌜ length (printed_result (rows_of table.now) (result_of_bytes table.now sheet.now [] max_budget)) ≤ max_printed_text ⌝ }
+    ensures written { (result, out.new) ≡ printed_in (printed_result (rows_of table.now) (result_of_bytes table.now sheet.now [] max_budget)) out.old }
+    ensures fits { length (printed_result (rows_of table.now) (result_of_bytes table.now sheet.now [] max_budget)) ≤ max_printed_text }
 {
     let mut rows = [0i32; 4096];
     match read_table::read_table(table, &mut rows) {
@@ -97,8 +97,8 @@ fn table_printed_text(table: &[u8], sheet: &[u8], out: &mut [u8]) -> usize
 
 // What the sheet runner prints for standard input, at the start of a lent buffer: how many bytes. 98,304 bytes hold all of it.
 fn answer_printed_text(input: &[u8], out: &mut [u8]) -> usize
-    ensures* out_after { λ n. ⌜ (n, out.new) ≡ printed_in (runner input.now) out.old ⌝ }
-    ensures* input_bound { λ n. ⌜ length (runner input.now) ≤ max_printed_text ⌝ }
+    ensures written { (result, out.new) ≡ printed_in (runner input.now) out.old }
+    ensures fits { length (runner input.now) ≤ max_printed_text }
 {
     let parts = write_lines::split(input);
     let end = parts.end;
@@ -108,8 +108,8 @@ fn answer_printed_text(input: &[u8], out: &mut [u8]) -> usize
 
 // What the sheet runner prints for standard input.
 pub fn answer(input: &[u8]) -> PrintedText
-    ensures* p_value { λ p. ⌜ p ≡ printed_bytes (runner input.now) ⌝ }
-    ensures* length_in_bounds { λ p. ⌜ p.length ≤ length p.bytes ⌝ }
+    ensures printed { result ≡ printed_bytes (runner input.now) }
+    ensures inside { result.length ≤ length result.bytes }
 {
     let mut bytes = [0u8; 98304];
     let length = answer_printed_text(input, &mut bytes);

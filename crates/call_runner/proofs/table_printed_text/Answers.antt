@@ -1,0 +1,58 @@
+-- A refusal of the table's bytes, or what its rows and the sheet come to; there is room for the rows of every table. Assumes nothing.
+use mathlib.Core.Path.{sym, ap, subst, ◌∙◌}
+use mathlib.Core.List.{List, []}
+use Prim.Native.Nat.{◌≤◌}
+use native.Mathlib.Omega.{arith}
+use lib.IntN.{ℤ}
+use lib.ListN.{length}
+use lib.Seq.{length-take-le}
+use borrow.Author.Rules.{rules}
+use Rattle.meaning.specs.Limits.{max_budget}
+use Rattle.meaning.specs.TableBytes.{rows_of}
+use Rattle.meaning.specs.Answers.{Result, result}
+use Rattle.meaning.specs.PrintedForms.{Each, In32}
+use Rattle.meaning.specs.Runner.{printed_result}
+use Rattle.read_table.proofs.RowsRead.{RowsRead, refused-read, rows-read, never-full}
+use Rattle.write_bytes.specs.Writing.{printed_in}
+use Rattle.call_runner.specs.PrintedTexts.{task_of, max_printed_text}
+use Rattle.call_tasks.proofs.Stages.{bytes-refused, rows-done}
+use Rattle.call_runner.proofs.Ranges.{rows_in}
+use Rattle.call_runner.proofs.table_printed_text.Goals as goal
+
+pub overflow_mul-rows : goal.overflow_mul-rows
+overflow_mul-rows c =
+    let read : RowsRead c.args.table.now c.read_table.new.rows c.in-Rows.n = rows-read _ _ _ _ c.read_table.ensures _ c.in-Rows.is in
+    let few = read.few in omega arith
+
+pub slice_bounds-rows-end : goal.slice_bounds-rows-end
+slice_bounds-rows-end c =
+    let read : RowsRead c.args.table.now c.read_table.new.rows c.in-Rows.n = rows-read _ _ _ _ c.read_table.ensures _ c.in-Rows.is in
+    read.fits
+
+pub slice_bounds-rows_printed_text-end : goal.slice_bounds-rows_printed_text-end
+slice_bounds-rows_printed_text-end c =
+    let read : RowsRead c.args.table.now c.read_table.new.rows c.in-Rows.n = rows-read _ _ _ _ c.read_table.ensures _ c.in-Rows.is in
+    sym (length-take-le _ _ read.fits)
+
+pub returns-in-Refused : goal.returns-in-Refused
+returns-in-Refused c =
+    let a = c.args in
+    let bytes = a.table.now in
+    let f = refused-read _ _ _ _ c.read_table.ensures c.in-Refused.number c.in-Refused.place c.in-Refused.is in
+    let e = bytes-refused bytes a.sheet.now [] max_budget c.in-Refused.number c.in-Refused.place f in
+    let p = c.refusal_printed_text.ensures in
+    record { written = p.written ∙ ap (λ (q : Result). printed_in (printed_result (rows_of bytes) q) a.out.now) (sym e); fits = rw e p.fits }
+
+pub returns-in-Rows : goal.returns-in-Rows
+returns-in-Rows c =
+    let read : RowsRead c.args.table.now c.read_table.new.rows c.in-Rows.n = rows-read _ _ _ _ c.read_table.ensures _ c.in-Rows.is in
+    let a = c.args in
+    let bytes = a.table.now in
+    let r = read in
+    let same = rows-done bytes a.sheet.now [] max_budget r.no-fault in
+    let p = c.rows_printed_text.ensures in record { written = p.written
+          ∙ ap (λ (l : List ℤ). printed_in (printed_result l (result (task_of l a.sheet.now))) a.out.now) r.rows_are
+          ∙ ap (λ (q : Result). printed_in (printed_result (rows_of bytes) q) a.out.now) (sym same); fits = rw same (subst (λ (l : List ℤ). length (printed_result l (result (task_of l a.sheet.now))) ≤ max_printed_text) r.rows_are (p.fits (subst (Each In32) (sym r.rows_are) (rows_in bytes r.no-fault)))) }
+
+pub returns-in-Full : goal.returns-in-Full
+returns-in-Full c = absurd (never-full _ _ _ _ c.read_table.ensures (omega arith) c.in-Full.is)
