@@ -148,7 +148,7 @@ started-so (suc j) b vs v m = absurd (Memᴰ.not-nil m)
 
 -- where the one process of a block is idle, so is all beneath the block
 sole-idle : (s : List ℕ) (p : Process) → GoodM s in_turn (also p empty) → FirstStarts s (also p empty) → Idle (rows_beneath (also p empty)) s
-sole-idle s p g (q , (among_later x12 , z)) y m = elim x12 [ ]
+sole-idle s p g (q, (among_later x12, z)) y m = elim x12 [ ]
 sole-idle s p g (q, (among_first, z)) y m =
     ⊎_elim (λ (h : Memᴰ y (rows_in p)). idle-rows p (good_m-head g) z y h) (λ (h : Memᴰ y []). absurd (Memᴰ.not-nil h)) (Memᴰ.append_cases (rows_in p) m)
 

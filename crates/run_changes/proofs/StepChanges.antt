@@ -256,6 +256,7 @@ module _ (rows : List ℤ) (ok : check rows ≡ none) (sheet : Sheet) (l : List 
 
   -- what is known of an offer
   one-offer : (bs : List AltOption) (f : Offer) (os : List Offer) → Offered sheet s.store bs os → Memᴰ f os → Formed sheet s.store f × OfOption sheet s.store bs f
+  one-offer bs f [] k x'' = elim x'' [ ]
   one-offer bs f (g ∷ os) k (Memᴰ.head e) = rw e k.0
   one-offer bs f (g ∷ os) k (Memᴰ.tail m) = one-offer bs f os k.1 m
 

@@ -93,6 +93,7 @@ module _ (rows : List ℤ) (ok : check rows ≡ none) (r : ℕ) where
 
 -- a row below all options offers nothing
 pub offer-below : (n lo : ℕ) (bs : List AltOption) (os : List Offer) → Offered bs os → Rising n lo bs → (j : ℕ) → j < lo → offer_at j os ≡ none
+offer-below n lo [] (o ∷ os) x6 R j l = elim x6 [ ]
 offer-below n lo [] [] offers-none R j l = refl
 offer-below n lo (b ∷ bs) os (passed F) R j l = offer-below n (suc b.row) bs os F R.2 j (omega (arith, R.0))
 offer-below n lo (b ∷ bs) (o ∷ os) (taken e F) R j l =
@@ -101,6 +102,7 @@ offer-below n lo (b ∷ bs) (o ∷ os) (taken e F) R j l =
 
 -- nor does a row that is none of them
 pub offer-outside : (bs : List AltOption) (os : List Offer) → Offered bs os → (j : ℕ) → (Memᴰ j (rows_of_options bs) → ⊥) → offer_at j os ≡ none
+offer-outside [] (o ∷ os) x4 j z = elim x4 [ ]
 offer-outside [] [] offers-none j z = refl
 offer-outside (b ∷ bs) os (passed F) j z = offer-outside bs os F j (λ m. z (Memᴰ.tail m))
 offer-outside (b ∷ bs) (o ∷ os) (taken e F) j z =
@@ -128,6 +130,7 @@ offer-waits e (input_offer j q f a) = refl
 pub offered-inputs : (n lo : ℕ) (bs : List AltOption) (os : List Offer) → Offered bs os → Rising n lo bs → (e : ℕ)
     → any_passes (λ j. waits_at e (note_of_offer (offer_at j os))) (rows_of_options bs) ≡ any_passes (offers_input e) os
 unfolding any_passes
+offered-inputs n lo [] (o ∷ os) x4 R e = elim x4 [ ]
 offered-inputs n lo [] [] offers-none R e = refl
 offered-inputs n lo (b ∷ bs) os (passed F) R e =
     ap₂ (λ (x y : Bool). x || y) (ap (λ (c : Option Offer). waits_at e (note_of_offer c)) (offer-below n (suc b.row) bs os F R.2 b.row (omega arith)))

@@ -125,10 +125,12 @@ module _ (n : ℕ) (few : n ≤ 1024) where
     -- one lacks a value: none is noted
     pub options-lack : (bs : List AltOption) (k : ℕ) → Tells F bs (fails k) → (m : Lists) → note_options rows F r bs m ≡ noted_of (note 1 k 0 (pos 0)) m
     unfolding note_options
+    options-lack [] k x' m = elim x' [ ]
     options-lack (o ∷ bs) k (lacks-here e) m = rw e
     options-lack (o ∷ bs) k (lacks-later z t) m = rw (test-no z, options-lack bs k t m)
 
     tells-offered : (bs : List AltOption) (os : List Offer) → Tells F bs (offers os) → Offered bs os
+    tells-offered [] (p ∷ os) x'' = elim x'' [ ]
     tells-offered [] [] tells_none = offers-none
     tells-offered (o ∷ bs) os (waits-here e t) = passed (tells-offered bs os t)
     tells-offered (o ∷ bs) (p ∷ os) (offers-here e i t) = taken i (tells-offered bs os t)
@@ -152,6 +154,7 @@ module _ (n : ℕ) (few : n ≤ 1024) where
           → note_options rows F r bs (lists_for n f g h b)
           ≡ noted_of (note_numbers Selects) (lists_for n (λ q. overlaid (offer_at q os) (f q)) (λ e. if_else (any_passes (offers_input e) os) (r + 1) (g e)) h (λ q. b q || offer_ready S (offer_at q os)))
       unfolding note_options any_passes
+      options-noted [] (p ∷ os) lo x8 R small bare = elim x8 [ ]
       options-noted [] [] lo tells_none R small bare = ap (noted_of (note_numbers Selects)) (lists-same n (λ q. refl) (λ e. refl) (λ e. refl) (λ q m. or-false (b q)))
       options-noted (o ∷ bs) os lo (waits-here e t) R small bare =
           rw (e, options-noted bs os (suc o.row) t R.2 small (λ j m. bare j (Memᴰ.tail m)))

@@ -73,13 +73,13 @@ module _ (rows : List ℤ) (ok : check rows ≡ none) (sheet : Sheet) (l : List 
       → StepLeft rows (noted_by rows (intent_at (program rows) sheet s)) (noted_by rows (off x (intent_at (program rows) sheet s))) c
   step_left (acts-alone {r} {x} {v} q) c e =
       let (a, b) = one-change c r x v e in
-      left_one b (ap (λ (k : ℕ). leave_row rows k (noted_by rows W)) (sym a) ∙ noted.step_left rows ok W F (acts-alone q))
+      left_one b (ap (λ (k : ℕ). leave_row rows k (noted_by rows W)) (sym a) ∙ noted.step_left_lem rows ok W F (acts-alone q))
   step_left (passes_on {i} {o = p} q g) c e =
       let (b, f) = two-changes c i i 2 p e in
-      left_both p f (ap (λ (k : ℕ). leave_row rows p (leave_row rows k (noted_by rows W))) (sym b) ∙ noted.step_left rows ok W F (passes_on q g))
+      left_both p f (ap (λ (k : ℕ). leave_row rows p (leave_row rows k (noted_by rows W))) (sym b) ∙ noted.step_left_lem rows ok W F (passes_on q g))
   step_left (takes-open {r} {q = b} q g) c e =
       let (a, f) = one-change c r b 1 e in
-      left_one f (ap (λ (k : ℕ). leave_row rows k (noted_by rows W)) (sym a) ∙ noted.step_left rows ok W F (takes-open q g))
+      left_one f (ap (λ (k : ℕ). leave_row rows k (noted_by rows W)) (sym a) ∙ noted.step_left_lem rows ok W F (takes-open q g))
   step_left (takes-input {r} {o = p} {q = b} q g h) c e =
       let (k, f) = two-changes c r b 1 p e in
-      left_both p f (ap (λ (k : ℕ). leave_row rows p (leave_row rows k (noted_by rows W))) (sym k) ∙ noted.step_left rows ok W F (takes-input q g h))
+      left_both p f (ap (λ (k : ℕ). leave_row rows p (leave_row rows k (noted_by rows W))) (sym k) ∙ noted.step_left_lem rows ok W F (takes-input q g h))

@@ -106,8 +106,11 @@ returns c =
     let h = c.loop-r-test.false in
     let e = length-set c.args.numbers.now c.declarations-d.result c.declarations-d.result in
     let first = c.declarations-d in
-    let count = c.row_count-n in record { numbers = sym (sym (all-rows rows c.args.numbers.now first.result count.result first.ensures count.ensures) ∙ i.6 ∙ rows-done rows c.loop-r.r count.result c.loop-r.numbers h); meaning = record {
+    let count = c.row_count-n in record {
+      numbers = sym (sym (all-rows rows c.args.numbers.now first.result count.result first.ensures count.ensures) ∙ i.6 ∙ rows-done rows c.loop-r.r count.result c.loop-r.numbers h);
+      meaning = record {
         room = omega (arith, c.requires.1.1.0);
         short = omega (arith, c.requires.1.1.1);
         right = λ t d l. i.5 t (reached rows c.requires.0.tree c.loop-r.r t d l (omega arith));
-      } }
+      };
+    }

@@ -72,5 +72,8 @@ returns c =
     let ea = c.place.ensures ∙ ap (λ (z : ℤ). placed_in numbers (is_reference (field_meant u.a)) z va) za in
     let eb = c.place-2.ensures ∙ (λ i. placed_in (ea i) (is_reference (field_meant u.b)) (zb i) vb) in
     let ec = c.place-3.ensures ∙ (λ i. placed_in (eb i) (is_reference (field_meant u.c)) (zc i) vc) in
-    let law = numbered c.args.rows.now p.0 c.args.r p.1.1.0.0 p.1.1.0.1 c.kind.result c.kind.ensures u c.shape_of-s.ensures.meaning numbers va vb vc in record { numbers = ec ∙ numbered-row c.args.rows.now p.0 c.args.r p.1.1.0.0 p.1.1.0.1 c.kind.result c.kind.ensures u c.shape_of-s.ensures.meaning numbers va vb vc (omega arith) (omega (arith, sized_a)) (omega (arith, sized_b)); meaning = subst (Numbered c.args.rows.now c.args.r numbers) (sym ec)
-          (law p.1.1.1.0.0 p.1.1.1.0.1 p.1.1.1.1 (omega arith) (omega (arith, sized_a)) (omega (arith, sized_b))) }
+    let law = numbered c.args.rows.now p.0 c.args.r p.1.1.0.0 p.1.1.0.1 c.kind.result c.kind.ensures u c.shape_of-s.ensures.meaning numbers va vb vc in record {
+      numbers = ec ∙ numbered-row c.args.rows.now p.0 c.args.r p.1.1.0.0 p.1.1.0.1 c.kind.result c.kind.ensures u c.shape_of-s.ensures.meaning numbers va vb vc (omega arith) (omega (arith, sized_a)) (omega (arith, sized_b));
+      meaning = subst (Numbered c.args.rows.now c.args.r numbers) (sym ec)
+          (law p.1.1.1.0.0 p.1.1.1.0.1 p.1.1.1.1 (omega arith) (omega (arith, sized_a)) (omega (arith, sized_b)));
+    }

@@ -92,15 +92,15 @@ loop-line-preserved c =
     let z = v.3 in
     let k = c.if-kinds-line-le-OTHER_DECLARATION.auto in
     elim c.if-kinds-line-le-OTHER_DECLARATION.branch [
-      then-kinds-line-le-OTHER_DECLARATION w ↦
-        let d = gathering-takes _ _ c.loop-line.line c.loop-line.first c.loop-line.found _ _ _ v.0 i w.if-kinds-line-le-OTHER_DECLARATION.true (omega (arith, f, i, p, x)) (omega (arith, f, i, q, y)) (omega (arith, f, i, u, z)) in
-        let froms = w.froms-is ∙ w.list_declaration.ensures.0 in
-        let sizes = w.sizes-is ∙ w.list_declaration.ensures.1 in
-        let roles = w.roles-is ∙ w.list_declaration.ensures.2 in
-        (gathering-same froms sizes roles w.found-is d, k.froms ∙ x, k.sizes ∙ y, k.roles ∙ z)
-    | else-kinds-line-le-OTHER_DECLARATION w ↦
-        let d = gathering-passes _ _ c.loop-line.line c.loop-line.first c.loop-line.found _ _ _ v.0 i w.if-kinds-line-le-OTHER_DECLARATION.false in
-        (gathering-same w.froms-is w.sizes-is w.roles-is w.found-is d, k.froms ∙ x, k.sizes ∙ y, k.roles ∙ z)
+      | then-kinds-line-le-OTHER_DECLARATION w ↦
+          let d = gathering-takes _ _ c.loop-line.line c.loop-line.first c.loop-line.found _ _ _ v.0 i w.if-kinds-line-le-OTHER_DECLARATION.true (omega (arith, f, i, p, x)) (omega (arith, f, i, q, y)) (omega (arith, f, i, u, z)) in
+          let froms = w.froms-is ∙ w.list_declaration.ensures.0 in
+          let sizes = w.sizes-is ∙ w.list_declaration.ensures.1 in
+          let roles = w.roles-is ∙ w.list_declaration.ensures.2 in
+          (gathering-same froms sizes roles w.found-is d, k.froms ∙ x, k.sizes ∙ y, k.roles ∙ z)
+      | else-kinds-line-le-OTHER_DECLARATION w ↦
+          let d = gathering-passes _ _ c.loop-line.line c.loop-line.first c.loop-line.found _ _ _ v.0 i w.if-kinds-line-le-OTHER_DECLARATION.false in
+          (gathering-same w.froms-is w.sizes-is w.roles-is w.found-is d, k.froms ∙ x, k.sizes ∙ y, k.roles ∙ z)
     ]
 
 pub shape_of-froms : goal.shape_of-froms

@@ -118,17 +118,17 @@ pub loop-line-preserved : goal.loop-line-preserved
 loop-line-preserved c =
     let i = c.loop-line-test.true in
     elim c.if-kinds-line-le-OTHER_DECLARATION.branch [
-      then-kinds-line-le-OTHER_DECLARATION w ↦
-        let x = w.declaration_row-row.result in
-        let d = putting-takes _ _ _ c.loop-line.line c.loop-line.first c.loop-line.found _ c.loop-line.invariant i w.if-kinds-line-le-OTHER_DECLARATION.true c.requires x w.declaration_row-row.ensures in
-        let g = w.struct_told-then-kinds-line-le-OTHER_DECLARATION-3-1.given in
-        let fk : SFits w32 x.kind = record { sfits = g.0.1 } in
-        let fa : SFits w32 x.a = record { sfits = g.1.0.1 } in
-        let fb : SFits w32 x.b = record { sfits = g.1.1.0.1 } in
-        let fc : SFits w32 x.c = record { sfits = g.1.1.1.0.1 } in
-        let told : to_z w32 (of_z w32 x.kind) ∷ to_z w32 (of_z w32 x.a) ∷ to_z w32 (of_z w32 x.b) ∷ to_z w32 (of_z w32 x.c) ∷ [] ≡ numbers_of x = rw (to_z-of_z w32 _ fk, to_z-of_z w32 _ fa, to_z-of_z w32 _ fb, to_z-of_z w32 _ fc) refl in
-        putting-same (w.rows-is ∙ w.put_row.ensures ∙ ap (sets c.loop-line.rows (4 * c.loop-line.found)) told) w.found-is d
-    | else-kinds-line-le-OTHER_DECLARATION w ↦ putting-same w.rows-is w.found-is (putting-passes _ _ _ c.loop-line.line c.loop-line.first c.loop-line.found _ c.loop-line.invariant i w.if-kinds-line-le-OTHER_DECLARATION.false)
+      | then-kinds-line-le-OTHER_DECLARATION w ↦
+          let x = w.declaration_row-row.result in
+          let d = putting-takes _ _ _ c.loop-line.line c.loop-line.first c.loop-line.found _ c.loop-line.invariant i w.if-kinds-line-le-OTHER_DECLARATION.true c.requires x w.declaration_row-row.ensures in
+          let g = w.struct_told-then-kinds-line-le-OTHER_DECLARATION-3-1.given in
+          let fk : SFits w32 x.kind = record { sfits = g.0.1 } in
+          let fa : SFits w32 x.a = record { sfits = g.1.0.1 } in
+          let fb : SFits w32 x.b = record { sfits = g.1.1.0.1 } in
+          let fc : SFits w32 x.c = record { sfits = g.1.1.1.0.1 } in
+          let told : to_z w32 (of_z w32 x.kind) ∷ to_z w32 (of_z w32 x.a) ∷ to_z w32 (of_z w32 x.b) ∷ to_z w32 (of_z w32 x.c) ∷ [] ≡ numbers_of x = rw (to_z-of_z w32 _ fk, to_z-of_z w32 _ fa, to_z-of_z w32 _ fb, to_z-of_z w32 _ fc) refl in
+          putting-same (w.rows-is ∙ w.put_row.ensures ∙ ap (sets c.loop-line.rows (4 * c.loop-line.found)) told) w.found-is d
+      | else-kinds-line-le-OTHER_DECLARATION w ↦ putting-same w.rows-is w.found-is (putting-passes _ _ _ c.loop-line.line c.loop-line.first c.loop-line.found _ c.loop-line.invariant i w.if-kinds-line-le-OTHER_DECLARATION.false)
     ]
 
 pub shape_of-rows : goal.shape_of-rows

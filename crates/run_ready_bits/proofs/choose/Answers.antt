@@ -8,7 +8,6 @@ returns-then-n-eq0 c =
     let none_in : get_or c.args.bits.now 32 0 ≡ 0 = c.if-n-eq0.true in
     record { numbers = sym (rw (eq-eqb _ 0 none_in)); meaning = λ f n S l. absurd (omega arith) }
 
-
 pub returns : goal.returns
 returns c =
     let some_in : get_or c.args.bits.now 32 0 ≡ 0 → ⊥ = c.if-n-eq0.false in

@@ -15,6 +15,6 @@ returns c =
     let k = c.kind.result in
     let known = c.shape_of.ensures.meaning ∙ ap shape_of c.kind.ensures in
     elim c.if-declares.branch [
-      then-declares+else-d-r w ↦ early c.args.rows.now c.args.d c.args.r _ (meant_shape k c.shape_of.result) (c.fits.ensures k) known w.if-d-r.false
-    | else-declares w ↦ none-declared c.args.rows.now c.args.d c.args.r _ (meant_shape k c.shape_of.result) (c.fits.ensures k) known (sym c.declares.ensures ∙ w.if-declares.false)
+      | then-declares+else-d-r w ↦ early c.args.rows.now c.args.d c.args.r _ (meant_shape k c.shape_of.result) (c.fits.ensures k) known w.if-d-r.false
+      | else-declares w ↦ none-declared c.args.rows.now c.args.d c.args.r _ (meant_shape k c.shape_of.result) (c.fits.ensures k) known (sym c.declares.ensures ∙ w.if-declares.false)
     ]

@@ -53,8 +53,8 @@ loop-p-preserved c =
     let first = c.operand-p.ensures in
     let there = c.is_process.ensures in
     elim c.if-is_process.branch [
-      then-is_process w ↦ rw (w.members-is, w.count-is) (put_one c.loop-p.invariant link first c.operand-at.ensures c.requires.0 (sym there ∙ w.if-is_process.true))
-    | else-is_process w ↦ rw (w.members-is, w.count-is) (put-none c.loop-p.invariant link first c.operand-at.ensures (sym there ∙ w.if-is_process.false))
+      | then-is_process w ↦ rw (w.members-is, w.count-is) (put_one c.loop-p.invariant link first c.operand-at.ensures c.requires.0 (sym there ∙ w.if-is_process.true))
+      | else-is_process w ↦ rw (w.members-is, w.count-is) (put-none c.loop-p.invariant link first c.operand-at.ensures (sym there ∙ w.if-is_process.false))
     ]
 
 pub shape_of-members : goal.shape_of-members

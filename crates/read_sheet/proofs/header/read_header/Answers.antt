@@ -33,9 +33,9 @@ loop-r-preserved c =
     let below : c.loop-r.r < declarations a.rows.now = omega (arith, c.loop-r.invariant.0, c.loop-r-test.true) in (
       c.loop-r.invariant.0,
       elim c.if-has_role.branch [
-        then-has_role+in-At w ↦ rw (w.at-is, w.count-is)
-          (channel-found a.rows.now a.sheet.now c.loop-r.at c.loop-r.count c.loop-r.r c.loop-r.invariant.1 below (sym c.has_role.ensures ∙ w.if-has_role.true) w.in-At.next
-          (subst (EndsAt a.sheet.now c.loop-r.at (header_entry c.loop-r.count c.loop-r.r)) w.in-At.is w.entry_end.ensures))
+        | then-has_role+in-At w ↦ rw (w.at-is, w.count-is)
+            (channel-found a.rows.now a.sheet.now c.loop-r.at c.loop-r.count c.loop-r.r c.loop-r.invariant.1 below (sym c.has_role.ensures ∙ w.if-has_role.true) w.in-At.next
+            (subst (EndsAt a.sheet.now c.loop-r.at (header_entry c.loop-r.count c.loop-r.r)) w.in-At.is w.entry_end.ensures))
         | else-has_role w ↦ rw (w.at-is, w.count-is) (other_row a.rows.now a.sheet.now c.loop-r.at c.loop-r.count c.loop-r.r c.loop-r.invariant.1 below (sym c.has_role.ensures ∙ w.if-has_role.false))
       ],
     )

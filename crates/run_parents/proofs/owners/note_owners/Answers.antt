@@ -29,9 +29,10 @@ loop-r-preserved c =
     let l = c.loop-r in
     let n = length c.clear_notes.new.notes in
     let h : l.r < row_count rows = c.loop-r-test.true in
-    elim c.if-natural-eq34.branch
-    [ then-natural-eq34 w ↦ (omega arith, ap (λ (o : List ℕ). length o) w.owners-is ∙ w.note_options.auto.owners ∙ l.invariant.1, λ j m. ap (λ (o : List ℕ). get_or o j 0) w.owners-is ∙ with-alt rows l.r n h l.owners l.invariant.2 _ _ (sym c.natural.ensures ∙ w.if-natural-eq34.true) w.operand.ensures (λ i k. w.note_options.ensures i (rw l.invariant.1 k)) j m)
-    | else-natural-eq34 w ↦ (omega arith, ap (λ (o : List ℕ). length o) w.owners-is ∙ l.invariant.1, λ j m. ap (λ (o : List ℕ). get_or o j 0) w.owners-is ∙ with-other rows l.r n h l.owners l.invariant.2 (λ e. w.if-natural-eq34.false (c.natural.ensures ∙ e)) j m) ]
+    elim c.if-natural-eq34.branch [
+      | then-natural-eq34 w ↦ (omega arith, ap (λ (o : List ℕ). length o) w.owners-is ∙ w.note_options.auto.owners ∙ l.invariant.1, λ j m. ap (λ (o : List ℕ). get_or o j 0) w.owners-is ∙ with-alt rows l.r n h l.owners l.invariant.2 _ _ (sym c.natural.ensures ∙ w.if-natural-eq34.true) w.operand.ensures (λ i k. w.note_options.ensures i (rw l.invariant.1 k)) j m)
+      | else-natural-eq34 w ↦ (omega arith, ap (λ (o : List ℕ). length o) w.owners-is ∙ l.invariant.1, λ j m. ap (λ (o : List ℕ). get_or o j 0) w.owners-is ∙ with-other rows l.r n h l.owners l.invariant.2 (λ e. w.if-natural-eq34.false (c.natural.ensures ∙ e)) j m)
+    ]
 
 pub returns : goal.returns
 unfolding owner_notes

@@ -34,8 +34,7 @@ pub loop-t-preserved : goal.loop-t-preserved
 loop-t-preserved c =
     let l = c.loop-t in
     let link = found c.args.rows.now l.t c.shape_at-s.ensures c.in-Link.is in
-    let a = c.args in
-    (
+    let a = c.args in (
       search rules,
       search rules,
       (λ q h. l.invariant.2 q (link-noted c.args.rows.now c.args.note c.requires.real l.parents _ q link c.note_member.ensures.noted h)),

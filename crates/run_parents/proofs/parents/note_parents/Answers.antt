@@ -36,7 +36,10 @@ returns c =
     let l = c.loop-r in
     let end : l.r ≡ row_count rows = omega (arith, l.invariant.0) in
     let each = noted-parent rows l.r l.parents end l.invariant.3 in
-    let size : length l.parents ≡ length c.args.parents.now = l.invariant.1 ∙ ap (λ (o : List ℕ). length o) c.clear_notes.ensures ∙ length-replicate (length c.args.parents.now) 0 in record { notes = parents-are rows l.parents each (length c.args.parents.now) size; links = nexts-are rows l.parents each c.requires.accepted c.clear_notes.new.notes c.args.nexts.now l.nexts
+    let size : length l.parents ≡ length c.args.parents.now = l.invariant.1 ∙ ap (λ (o : List ℕ). length o) c.clear_notes.ensures ∙ length-replicate (length c.args.parents.now) 0 in record {
+      notes = parents-are rows l.parents each (length c.args.parents.now) size;
+      links = nexts-are rows l.parents each c.requires.accepted c.clear_notes.new.notes c.args.nexts.now l.nexts
           (λ j. ap (λ (o : List ℕ). get_or o j 0) c.clear_notes.ensures ∙ defaults-at 0 (length c.args.parents.now) j)
           l.invariant.2
-          l.invariant.4 }
+          l.invariant.4;
+    }
