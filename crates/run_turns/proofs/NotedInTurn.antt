@@ -27,6 +27,7 @@ module _ (v : ℕ → Intent) where
 
   -- those that are get their notes of v
   all_same : (l : List ℕ) → Distinct l → (w : ℕ → Intent) (q : ℕ) → Memᴰ q l → noted_all l v w q ≡ v q
+  all_same [] d w q x'' = elim x'' [ ]
   all_same (r ∷ l) d w q (Memᴰ.head e) = rw e (all-other l (noted r (v r) w) r d.0 ∙ noted-itself r (v r) w)
   all_same (r ∷ l) d w q (Memᴰ.tail m) = all_same l d.1 (noted r (v r) w) q m
 
