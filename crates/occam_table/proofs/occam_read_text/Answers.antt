@@ -9,24 +9,13 @@ use Rattle.occam_table.specs.PackingClaims.{PossibleRead}
 use Rattle.occam_table.specs.RowsLent.{read_lent}
 use Rattle.occam_table.proofs.TextsTold.{texts-possible}
 use borrow.Author.Rules.{rules}
-use Rattle.occam_table.proofs.occam_read_text.Statement.{statement}
-use Rattle.occam_table.proofs.occam_read_text.Tie as tie
+use Rattle.occam_table.proofs.occam_read_text.Goals as goal
 
-read-text-requires : tie.Need-read-text-requires
-read-text-requires c κs = search rules
+pub read_number-requires : goal.read_number-requires
+read_number-requires c = subst (λ (x : TextRead × List ℤ). PossibleRead x.0) (sym c.read_text.ensures) (texts-possible.2 _ _)
 
-read-number-requires : tie.Need-read-number-requires
-read-number-requires c κs = subst (λ (x : TextRead × List ℤ). PossibleRead x.0) (sym c.before.read-text.ensures) (texts-possible.2 _ _)
-
-same_length : tie.Need-same-length
-same_length c = search rules
-
-returns : tie.Need-returns
+pub returns : goal.returns
 unfolding read_lent
 returns c =
-    let e = c.before.before.read-text.ensures in
+    let e = c.read_text.ensures in
     ap₂ {C = ℕ × List ℤ} (λ (n : ℕ) (l : List ℤ). (n, l)) (c.read_number.ensures ∙ ap (λ (x : TextRead × List ℤ). read_number x.0) e) (ap (λ (x : TextRead × List ℤ). x.1) e)
-
-pub occam-read-text-spec : {M : Type 1} → statement M
-occam-read-text-spec =
-    tie.close (tie.spec read-text-requires read-number-requires same_length returns)
