@@ -50,9 +50,12 @@ returns-in-Rows c =
     let bytes = a.table.now in
     let r = read in
     let same = rows-done bytes a.sheet.now [] max_budget r.no-fault in
-    let p = c.rows_printed_text.ensures in record { written = p.written
+    let p = c.rows_printed_text.ensures in record {
+      written = p.written
           ∙ ap (λ (l : List ℤ). printed_in (printed_result l (result (task_of l a.sheet.now))) a.out.now) r.rows_are
-          ∙ ap (λ (q : Result). printed_in (printed_result (rows_of bytes) q) a.out.now) (sym same); fits = rw same (subst (λ (l : List ℤ). length (printed_result l (result (task_of l a.sheet.now))) ≤ max_printed_text) r.rows_are (p.fits (subst (Each In32) (sym r.rows_are) (rows_in bytes r.no-fault)))) }
+          ∙ ap (λ (q : Result). printed_in (printed_result (rows_of bytes) q) a.out.now) (sym same);
+      fits = rw same (subst (λ (l : List ℤ). length (printed_result l (result (task_of l a.sheet.now))) ≤ max_printed_text) r.rows_are (p.fits (subst (Each In32) (sym r.rows_are) (rows_in bytes r.no-fault))));
+    }
 
 pub returns-in-Full : goal.returns-in-Full
 returns-in-Full c = absurd (never-full _ _ _ _ c.read_table.ensures (omega arith) c.in-Full.is)

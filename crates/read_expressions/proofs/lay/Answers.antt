@@ -100,13 +100,13 @@ loop-k-preserved c =
     let r = l.r + get_or c.args.marks.now l.k 0 in
     let room : l.height < length l.free = omega (arith, m.low, h, l.invariant.0, c.requires.1.3) in
     elim c.if-had.branch [
-      then-had w ↦ (
+      | then-had w ↦ (
         k.free ∙ l.invariant.0,
         k.rows ∙ l.invariant.1,
         moved c.args.sorts.now c.args.values.now _ _ (l.k + 1) _ _ _ _ _ _ _ _ _ _ (w.height-is ∙ w.fill-height.ensures.0) w.r-is c.had_after-had.ensures w.free-is
             (w.rows-is ∙ w.fill-height.ensures.1 ∙ ap (λ (z : ℤ). filled sort z (get_or l.free (l.height - 1) 0) l.r l.rows) same) (lay-again-had c.args.sorts.now c.args.values.now c.requires.1.0 _ _ l.k l.height l.r l.had l.free l.rows m h w.if-had.true),
       )
-    | else-had w ↦ (
+      | else-had w ↦ (
         k.free ∙ l.invariant.0,
         k.rows ∙ l.invariant.1,
         moved c.args.sorts.now c.args.values.now _ _ (l.k + 1) _ _ _ _ _ _ _ _ _ _ w.height-is (w.r-is ∙ w.write_token-r.ensures.0 ∙ ap (λ (s : Bool). r + size_by_sort sort s) w.begins_subscript-subscripted.ensures) c.had_after-had.ensures w.free-is

@@ -1,0 +1,55 @@
+-- The rows read are put where there is room. Assumes nothing.
+use mathlib.Core.Path.{sym, ap, ◌∙◌}
+use mathlib.Core.List.{List}
+use Prim.Native.Nat.{◌*◌}
+use native.Mathlib.Omega.{arith}
+use lib.IntN.{ℤ}
+use lib.ListN.{length}
+use lib.Seq.{length-take-le}
+use borrow.Author.Rules.{rules}
+use Rattle.read_table.proofs.RowsRead.{RowsRead, refused-read, rows-read, never-full}
+use Rattle.write_buffers.specs.Replies.{past}
+use Rattle.occam_table.proofs.Numbers.{rows-without-room, rows-refused, rows-put}
+use Rattle.occam_table.proofs.occam_read_rows.Goals as goal
+
+pub returns-then-rows-lt4096 : goal.returns-then-rows-lt4096
+returns-then-rows-lt4096 c = rows-without-room c.args.table.now c.args.rows.now c.if-rows-lt4096.true
+
+pub overflow_mul-n : goal.overflow_mul-n
+overflow_mul-n c =
+    let read : RowsRead c.args.table.now c.read_table.new.rows c.in-Rows.count = rows-read _ _ _ _ c.read_table.ensures _ c.in-Rows.is in
+    let few = read.few in omega arith
+
+pub slice_bounds-held-end : goal.slice_bounds-held-end
+slice_bounds-held-end c =
+    let read : RowsRead c.args.table.now c.read_table.new.rows c.in-Rows.count = rows-read _ _ _ _ c.read_table.ensures _ c.in-Rows.is in
+    read.fits
+
+pub slice_bounds-copy_numbers-end : goal.slice_bounds-copy_numbers-end
+slice_bounds-copy_numbers-end c =
+    let read : RowsRead c.args.table.now c.read_table.new.rows c.in-Rows.count = rows-read _ _ _ _ c.read_table.ensures _ c.in-Rows.is in
+    sym (length-take-le _ _ read.fits)
+
+pub copy_numbers-requires : goal.copy_numbers-requires
+copy_numbers-requires c =
+    let read : RowsRead c.args.table.now c.read_table.new.rows c.in-Rows.count = rows-read _ _ _ _ c.read_table.ensures _ c.in-Rows.is in
+    let r = read in
+    let rows = ap length r.rows_are in
+    let size = r.size in
+    let few = r.few in
+    omega (arith, c.if-rows-lt4096.false)
+
+pub returns-in-Refused : goal.returns-in-Refused
+returns-in-Refused c =
+    let a = c.args in
+    rows-refused a.table.now a.rows.now c.if-rows-lt4096.false c.in-Refused.field-0 c.in-Refused.field-1 (refused-read _ _ _ _ c.read_table.ensures c.in-Refused.field-0 c.in-Refused.field-1 c.in-Refused.is)
+
+pub returns-in-Rows : goal.returns-in-Rows
+returns-in-Rows c =
+    let read : RowsRead c.args.table.now c.read_table.new.rows c.in-Rows.count = rows-read _ _ _ _ c.read_table.ensures _ c.in-Rows.is in
+    let a = c.args in
+    let r = read in
+    rows-put a.table.now a.rows.now c.if-rows-lt4096.false (4 * c.in-Rows.count) _ r.no-fault r.size (c.copy_numbers.ensures ∙ ap (λ (l : List ℤ). past l a.rows.now) r.rows_are)
+
+pub returns-in-Full : goal.returns-in-Full
+returns-in-Full c = absurd (never-full _ _ _ _ c.read_table.ensures (omega arith) c.in-Full.is)

@@ -1,0 +1,16 @@
+-- By what reading comes to. Assumes nothing.
+use mathlib.Core.Path.{ap, sym, subst}
+use native.Mathlib.Omega.{arith}
+use Rattle.occam_table.specs.Packing.{read_number}
+use Rattle.occam_table.specs.PackingClaims.{PossibleRead}
+use borrow.Author.Rules.{rules}
+use Rattle.occam_table.proofs.packing.read_number.Goals as goal
+
+pub overflow_mul-result : goal.overflow_mul-result
+overflow_mul-result c = let p = subst PossibleRead c.in-Rows.is c.requires in record { fits = omega (arith, p) }
+
+pub returns-in-Rows : goal.returns-in-Rows
+returns-in-Rows c = ap read_number (sym c.in-Rows.is)
+
+pub returns-in-Refused : goal.returns-in-Refused
+returns-in-Refused c = ap read_number (sym c.in-Refused.is)

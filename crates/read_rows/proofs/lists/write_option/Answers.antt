@@ -1,0 +1,57 @@
+-- The row, then the guard behind the rows after it. Assumes nothing.
+use mathlib.Core.Path.{ap}
+use native.Mathlib.Omega.{arith}
+use Rattle.grammar.specs.Outline.{options}
+use Rattle.read_tokens.specs.Held.{tokens_resolved}
+use Rattle.read_rows.specs.LinesLaid.{expect_of}
+use Rattle.read_rows.proofs.StandSteps.{stands_at}
+use Rattle.read_rows.proofs.ListCases.{option-room, option-fits, option-laid}
+use Rattle.read_rows.proofs.LineTold.{sorts-held}
+use borrow.Author.Rules.{rules}
+use Rattle.read_rows.proofs.lists.write_option.Goals as goal
+
+pub write_listed-requires : goal.write_listed-requires
+unfolding expect_of
+write_listed-requires c =
+    let os = tokens_resolved c.args.sorts.now c.args.values.now in
+    let at = stands_at c.args.kind os c.args.spot c.args.rows.now c.requires.1 options (ap expect_of c.requires.0) in
+    option-room c.args.kind os c.args.spot c.args.rows.now at
+
+pub overflow_add-n : goal.overflow_add-n
+unfolding expect_of
+overflow_add-n c =
+    let os = tokens_resolved c.args.sorts.now c.args.values.now in
+    let at = stands_at c.args.kind os c.args.spot c.args.rows.now c.requires.1 options (ap expect_of c.requires.0) in
+    record { fits = omega (arith, (option-room c.args.kind os c.args.spot c.args.rows.now at).0) }
+
+pub overflow_add-n-2 : goal.overflow_add-n-2
+unfolding expect_of
+overflow_add-n-2 c =
+    let os = tokens_resolved c.args.sorts.now c.args.values.now in
+    let at = stands_at c.args.kind os c.args.spot c.args.rows.now c.requires.1 options (ap expect_of c.requires.0) in
+    record { fits = omega (arith, (option-room c.args.kind os c.args.spot c.args.rows.now at).0) }
+
+pub overflow_add-n-3 : goal.overflow_add-n-3
+unfolding expect_of
+overflow_add-n-3 c =
+    let os = tokens_resolved c.args.sorts.now c.args.values.now in
+    let at = stands_at c.args.kind os c.args.spot c.args.rows.now c.requires.1 options (ap expect_of c.requires.0) in
+    record { fits = omega (arith, (option-room c.args.kind os c.args.spot c.args.rows.now at).0) }
+
+pub write_guard-requires : goal.write_guard-requires
+unfolding expect_of
+write_guard-requires c =
+    let os = tokens_resolved c.args.sorts.now c.args.values.now in
+    let at = stands_at c.args.kind os c.args.spot c.args.rows.now c.requires.1 options (ap expect_of c.requires.0) in
+    let w = c.write_listed in
+    let g = option-fits c.args.kind os c.args.spot c.args.rows.now at _ w.ensures in
+    (sorts-held c.args.sorts.now c.args.values.now at.line c.requires.2.0 at.is-line, g, c.requires.2)
+
+pub returns : goal.returns
+unfolding expect_of
+returns c =
+    let os = tokens_resolved c.args.sorts.now c.args.values.now in
+    let at = stands_at c.args.kind os c.args.spot c.args.rows.now c.requires.1 options (ap expect_of c.requires.0) in
+    let w = c.write_listed in
+    let v = c.write_guard in
+    (v.ensures.0, option-laid c.args.kind os c.args.spot c.args.rows.now at _ w.ensures _ v.ensures.1)
