@@ -1,0 +1,10 @@
+-- `outcome_with` meets its contract: each arm is its case of the definition.
+use borrow.Author.Rules.{rules}
+use borrow.Author.Tests.{eq-eqb, ne_eqb}
+use Rattle.run_steps.proofs.outcome.outcome_with.Goals as goal
+
+pub returns-then-count-eq0 : goal.returns-then-count-eq0
+returns-then-count-eq0 c = rw (eq-eqb _ 0 c.if-count-eq0.true) c.rest_outcome.ensures
+
+pub returns : goal.returns
+returns c = rw (ne_eqb _ 0 c.if-count-eq0.false)
