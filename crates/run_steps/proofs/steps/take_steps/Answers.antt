@@ -207,14 +207,16 @@ loop-left-preserved c =
     let rows = c.args.rows.now in
     let P = c.requires.table in
     let made : c.match-w.state ≡ with_put c.written_by-w.result (record { values = l.state.values; marks = l.state.marks; places = c.put_host.new.places }) =
-    elim c.match-w.branch
-    [ in-Nowhere w ↦ rw w.in-Nowhere.is w.state-is
-    | in-Set w ↦ let f : SFits w32 w.in-Set.x = search rules in rw w.in-Set.is (w.state-is ∙ rw (to_z-of_z w32 w.in-Set.x f) at w.set-state.ensures.stored)
-    | in-Unset w ↦ rw w.in-Unset.is (w.state-is ∙ w.unset-state.ensures.stored) ] in
+    elim c.match-w.branch [
+      | in-Nowhere w ↦ rw w.in-Nowhere.is w.state-is
+      | in-Set w ↦ let f : SFits w32 w.in-Set.x = search rules in rw w.in-Set.is (w.state-is ∙ rw (to_z-of_z w32 w.in-Set.x f) at w.set-state.ensures.stored)
+      | in-Unset w ↦ rw w.in-Unset.is (w.state-is ∙ w.unset-state.ensures.stored)
+    ] in
     let cleared : c.if-came-ne0.state ≡ blocks_unset rows (listed_blocks c.change_states.new.came) c.match-w.state =
-    elim c.if-came-ne0.branch
-    [ then-came-ne0 w ↦ w.state-is ∙ w.unset_blocks-state.ensures rows P
-    | else-came-ne0 w ↦ w.state-is ∙ ap (λ (n : ℕ). blocks_unset rows (first_rows 2049 n c.change_states.new.came) c.match-w.state) (sym w.if-came-ne0.false) ] in
+    elim c.if-came-ne0.branch [
+      | then-came-ne0 w ↦ w.state-is ∙ w.unset_blocks-state.ensures rows P
+      | else-came-ne0 w ↦ w.state-is ∙ ap (λ (n : ℕ). blocks_unset rows (first_rows 2049 n c.change_states.new.came) c.match-w.state) (sym w.if-came-ne0.false)
+    ] in
     let h = c.put_host.new in
     let k = c.leave_step.new in
     let m = c.note_all-in-loop-left.new in (
