@@ -129,8 +129,7 @@ pub fn note_names(rows: &[i32], names: &mut [u16])
         sources: 0,
         sinks: 0,
     };
-    let mut r = 0;
-    while r < n {
+    for r in 0..n {
         let name = name_of(rows, r, s);
         let at = 5 * r;
         names[at] = name.sort;
@@ -139,7 +138,6 @@ pub fn note_names(rows: &[i32], names: &mut [u16])
         names[at + 3] = name.number;
         names[at + 4] = name.capacity;
         s = with_row(rows, r, s);
-        r += 1;
     }
 }
 

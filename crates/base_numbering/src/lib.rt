@@ -66,9 +66,7 @@ pub fn measure(rows: &[i32], sizes: &mut [u32])
 {
     let table = base_kinds::kind_table();
     let d = base_rows::declarations(rows);
-    let mut r: usize = base_rows::row_count(rows);
-    while d < r {
-        r -= 1;
+    for r in (d..base_rows::row_count(rows)).rev() {
         let v = row_size(&table, rows, sizes, r);
         sizes[r] = v;
     }
@@ -102,9 +100,7 @@ pub fn number(rows: &[i32], sizes: &[u32], numbers: &mut [u32])
     let d = base_rows::declarations(rows);
     let n = base_rows::row_count(rows);
     numbers[d] = d as u32;
-    let mut r: usize = d;
-    while r < n {
+    for r in d..n {
         number_row(&table, rows, sizes, numbers, r);
-        r += 1;
     }
 }

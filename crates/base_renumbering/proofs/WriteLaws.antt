@@ -2,7 +2,7 @@
 use mathlib.Core.Path.{◌≡◌, refl, sym, ap, ◌∙◌, subst}
 use mathlib.Core.Logic.{inl, inr}
 use mathlib.Core.Bool.{Bool, true, false≢true}
-use mathlib.Core.List.{List}
+use mathlib.Core.List.{List, ◌++◌}
 use mathlib.Core.Option.{Option, some, none-ne-some}
 use Prim.Native.Nat.{ℕ, zero, suc, ◌+◌, ◌*◌, ◌/◌, ◌%◌, ◌≤◌, ◌<◌}
 use native.Mathlib.Decide.{dec_lt}
@@ -10,7 +10,8 @@ use native.Mathlib.Omega.{arith}
 use lib.IntN.{ℤ, pos, negsuc}
 use lib.Dec.{ltb}
 use borrow.Author.Tests.{lt-ltb, le-ltb}
-use lib.ListN.{length, get_or, set, length-set, get_or-eq_default}
+use lib.ListN.{length, get_or, set, take, length-set, length-take, get_or-append, get_or-eq_default}
+use Rattle.std.proofs.lemmas.List.{get_or-take}
 use lib.Seq.{set_out, get_or-set_same, get_or-set_other, ext_get_or}
 use Rattle.meaning.specs.Basics.{if_else}
 use Rattle.meaning.specs.Rows.{natural_of, row_count, field_at, kind_at}
@@ -49,16 +50,10 @@ module _ (rows out : List ℤ) (q : ℕ) (v : ℤ) (e : v ≡ get_or (top_down r
   unfolding RightNumber
   set_new h = get_or-set_same out q v (pos 0) h ∙ e
 
--- one declaration's number more
-pub one_more : (rows out : List ℤ) (i : ℕ) → i < 4 * declarations rows → i < length out → ((p : ℕ) → p < i → RightNumber rows out p) → (p : ℕ) → p < i + 1 → RightNumber rows (set out i (get_or rows i (pos 0))) p
-one_more rows out i l h f p j = go (dec_lt p i)
-  where
-    e : get_or rows i (pos 0) ≡ get_or (top_down rows) i (pos 0)
-    e = sym (declared-number rows i l)
-
-    go : Dec (p < i) → RightNumber rows (set out i (get_or rows i (pos 0))) p
-    go (yes a) = set_keeps rows out i (get_or rows i (pos 0)) e p (f p a)
-    go (no a) = let q : i ≡ p = omega arith in subst (RightNumber rows (set out i (get_or rows i (pos 0)))) q (set_new rows out i (get_or rows i (pos 0)) e h)
+-- the numbers of the declarations, copied before others
+pub copied : (rows rest : List ℤ) (n : ℕ) → n ≤ length rows → (p : ℕ) → p < n → p < 4 * declarations rows → RightNumber rows (take n rows ++ rest) p
+unfolding RightNumber
+copied rows rest n h p l d = get_or-append (take n rows) rest (pos 0) p (simp length-take (omega arith)) ∙ get_or-take n rows p (pos 0) l ∙ sym (declared-number rows p d)
 
 -- four of them
 four : (rows out : List ℤ) (m : ℕ) (k a b c : ℤ) → 4 * m + 3 < length out → k ≡ field_at (top_down rows) m 0 → a ≡ field_at (top_down rows) m 1 → b ≡ field_at (top_down rows) m 2 → c ≡ field_at (top_down rows) m 3 → Wrote rows m out (set_four out (4 * m) k a b c)

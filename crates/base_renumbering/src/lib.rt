@@ -52,11 +52,7 @@ fn copy_declarations(rows: &[i32], d: usize, out: &mut [i32])
     requires { (d ≡ declarations rows.now) × ((row_count rows.now ≤ 1024) × (4 * row_count rows.now ≤ length out.old)) }
     ensures { (length out.new ≡ length out.old) × ((p : ℕ) → p < 4 * d → RightNumber rows.now out.new p) }
 {
-    let mut i: usize = 0;
-    while i < 4 * d {
-        out[i] = rows[i];
-        i += 1;
-    }
+    out[..4 * d].copy_from_slice(&rows[..4 * d]);
 }
 
 // The table numbered top down.
@@ -68,10 +64,8 @@ fn renumber(rows: &[i32], numbers: &[u32], out: &mut [i32])
     let d = base_rows::declarations(rows);
     let n = base_rows::row_count(rows);
     copy_declarations(rows, d, out);
-    let mut r: usize = d;
-    while r < n {
+    for r in d..n {
         write_row(&table, rows, numbers, r, out);
-        r += 1;
     }
 }
 

@@ -1,5 +1,5 @@
 // The ALT of each option, noted once for a table.
-ghost use Rattle.std.specs.Prelude.{◌≡◌, ℕ, ◌+◌, ◌<◌, ◌≤◌, length, get_or, replicate};
+ghost use Rattle.std.specs.Prelude.{◌≡◌, ℕ, ◌+◌, ◌<◌, ◌≤◌, length, get_or};
 ghost use Rattle.meaning.specs.Basics.{among};
 ghost use Rattle.meaning.specs.Rows.{row_count};
 ghost use Rattle.meaning.specs.Tree.{content_at};
@@ -12,23 +12,8 @@ use base_layout::nodes::{natural, operand};
 pub fn note_at(notes: &mut [u16], t: usize, note: u16)
     ensures { notes.new ≡ note_at notes.old t note }
 {
-    if notes.len() <= t {
-        return;
-    }
-    if notes[t] != 0 {
-        return;
-    }
-    notes[t] = note;
-}
-
-// No row has a note.
-pub fn clear_notes(notes: &mut [u16])
-    ensures { notes.new ≡ replicate (length notes.old) 0 }
-{
-    let mut i = 0;
-    while i < notes.len() {
-        notes[i] = 0;
-        i += 1;
+    if t < notes.len() && notes[t] == 0 {
+        notes[t] = note;
     }
 }
 
@@ -51,12 +36,10 @@ pub fn note_owners(rows: &[i32], owners: &mut [u16])
     requires { row_count rows.now ≤ 1024 }
     ensures { owners.new ≡ owner_notes rows.now (length owners.old) }
 {
-    clear_notes(owners);
-    let mut r = 0;
-    while r < rows.len() / 4 {
+    owners.fill(0);
+    for r in 0..rows.len() / 4 {
         if natural(rows, r, 0) == 34 {
             note_options(rows, operand(rows, r, 1), (r + 1) as u16, owners);
         }
-        r += 1;
     }
 }

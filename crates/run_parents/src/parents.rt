@@ -6,7 +6,6 @@ ghost use Rattle.meaning.specs.Tree.{content_at};
 ghost use Rattle.meaning.specs.Answers.{check};
 ghost use Rattle.run_parents.specs.Parents.{in_table, parent_notes, next_notes, where_free, ParentsNumbered, NextOf, NextIs, ProcessNoted, ProcessesNoted, RowNoted};
 
-use crate::owners::clear_notes;
 use crate::shape::{Shape, is_process, shape_at};
 
 // Link t as a note; past the table, where nothing stands, the row after the last.
@@ -25,11 +24,10 @@ fn note_parent(parents: &mut [u16], nexts: &mut [u16], p: usize, note: u16, next
     requires room { (p < length parents.old) × (p < length nexts.old) }
     ensures { (parents.new ≡ where_free parents.old p parents.old note) × (nexts.new ≡ where_free parents.old p nexts.old next) }
 {
-    if parents[p] != 0 {
-        return;
+    if parents[p] == 0 {
+        parents[p] = note;
+        nexts[p] = next;
     }
-    parents[p] = note;
-    nexts[p] = next;
 }
 
 // The same, if a process stands at row p. The members of link t are after it.
@@ -103,10 +101,8 @@ pub fn note_parents(rows: &[i32], parents: &mut [u16], nexts: &mut [u16])
     ensures notes { parents.new ≡ parent_notes rows.now (length parents.old) }
     ensures links { nexts.new ≡ next_notes rows.now nexts.old }
 {
-    clear_notes(parents);
-    let mut r = 0;
-    while r < rows.len() / 4 {
+    parents.fill(0);
+    for r in 0..rows.len() / 4 {
         note_row(rows, r, parents, nexts);
-        r += 1;
     }
 }

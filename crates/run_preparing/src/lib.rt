@@ -255,13 +255,11 @@ fn declare(rows: &[i32], code: &mut [u16; 6150])
         sinks: 0,
     };
     let mut strip: u16 = 0;
-    let mut r = 0;
-    while r < n {
+    for r in 0..n {
         let name = name_of(rows, r, s);
         put(code, r, named_row(name, strip));
         strip += name.capacity;
         s = with_row(rows, r, s);
-        r += 1;
     }
 }
 
@@ -278,12 +276,9 @@ fn fill(
     requires noted { Noted rows.now parents.now nexts.now owners.now }
     ensures { code.new ≡ prepared rows.now }
 {
-    let n = rows.len() / 4;
-    let mut r = base_rows::declarations(rows);
-    while r < n {
+    for r in base_rows::declarations(rows)..rows.len() / 4 {
         let row = row_at(code, rows, parents, nexts, owners, r);
         put(code, r, row);
-        r += 1;
     }
 }
 

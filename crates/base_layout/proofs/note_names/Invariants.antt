@@ -14,6 +14,3 @@ use Rattle.base_layout.proofs.note_names.Given as goal
 
 abbrev pub invariant-loop-r : goal.invariant-loop-r
 invariant-loop-r l = (l.r ≤ l.n) × (5 * l.n ≤ length l.initial.names) × (l.s ≡ sums_below l.rows l.r) × (length l.names ≡ length l.initial.names) × Begins l.names (names_of l.rows l.r)
-
-abbrev pub decreases-loop-r : goal.decreases-loop-r
-decreases-loop-r l = l.n - l.r

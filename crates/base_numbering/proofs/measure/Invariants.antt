@@ -19,6 +19,3 @@ use Rattle.base_numbering.proofs.measure.Given as goal
 
 abbrev pub invariant-loop-r : goal.invariant-loop-r
 invariant-loop-r l = (l.d ≡ declarations l.rows) × (l.d ≤ l.r) × (l.r ≤ row_count l.rows) × (length l.sizes ≡ length l.initial.sizes) × Sizes l.rows l.r l.sizes × (l.sizes ≡ sizes_from l.rows l.r l.initial.sizes)
-
-abbrev pub decreases-loop-r : goal.decreases-loop-r
-decreases-loop-r l = l.r

@@ -1,94 +1,46 @@
--- The invariant: the first i numbers are right. Assumes nothing.
-use mathlib.Core.Path.{◌≡◌, refl, ◌∙◌}
-use Prim.Native.Nat.{ℕ, ◌-◌, ◌*◌, ◌≤◌, ◌<◌}
+-- The declarations are within both lists, and what is copied is right. Assumes nothing.
+use mathlib.Core.Path.{◌≡◌, ap, sym, ◌∙◌, subst}
+use mathlib.Core.List.{List, ◌++◌}
+use Prim.Native.Nat.{ℕ, ◌*◌, ◌≤◌, ◌<◌}
 use native.Mathlib.Omega.{arith}
-use lib.IntN.{pos}
-use mir.Syntax.{w32}
-use mir.ValLaws.{to_z-of_z}
-use lib.ListN.{length, get_or, length-set}
+use lib.IntN.{ℤ}
+use lib.ListN.{length, take, drop, length-take, length-drop, length-append}
+use Rattle.meaning.specs.Rows.{row_count}
+use Rattle.meaning.specs.Declarations.{declarations}
 use Rattle.base_top_down.specs.New.{RightNumber}
 use Rattle.base_top_down.proofs.Again.{declarations-le}
-use Rattle.base_renumbering.proofs.WriteLaws.{one_more}
-use borrow.Author.Rules.{rules}
+use Rattle.base_renumbering.proofs.WriteLaws.{copied}
 use Rattle.base_renumbering.proofs.copy_declarations.Goals as goal
 
-pub loop-i-init : goal.loop-i-init
-loop-i-init c = (omega arith, refl, λ p h. absurd (omega arith))
+room : (rows out : List ℤ) (d : ℕ) → (d ≡ declarations rows) × ((row_count rows ≤ 1024) × (4 * row_count rows ≤ length out)) → (4 * d ≤ length rows) × (4 * d ≤ length out) × (d ≤ 1024)
+room rows out d (e, (a, b)) = let h = declarations-le rows in (omega arith, omega arith, omega arith)
 
 pub overflow_mul-d : goal.overflow_mul-d
-overflow_mul-d c =
-    let few : (4 * c.args.d ≤ length c.args.rows.now) × (4 * c.args.d ≤ length c.args.out.now) × (c.args.d ≤ 1024) = let h = declarations-le c.args.rows.now in
-    let e = c.requires.0 in
-    let a = c.requires.1.0 in
-    let b = c.requires.1.1 in
-    (omega arith, omega arith, omega arith) in
-    omega (arith, few)
+overflow_mul-d c = omega (arith, room c.args.rows.now c.args.out.now c.args.d c.requires)
 
-pub offset_bounds-rows-i : goal.offset_bounds-rows-i
-offset_bounds-rows-i c =
-    let few : (4 * c.args.d ≤ length c.args.rows.now) × (4 * c.args.d ≤ length c.args.out.now) × (c.args.d ≤ 1024) = let h = declarations-le c.args.rows.now in
-    let e = c.requires.0 in
-    let a = c.requires.1.0 in
-    let b = c.requires.1.1 in
-    (omega arith, omega arith, omega arith) in
-    omega (arith, few)
+pub overflow_mul-d-2 : goal.overflow_mul-d-2
+overflow_mul-d-2 c = omega (arith, room c.args.rows.now c.args.out.now c.args.d c.requires)
 
-pub bounds-rows-i : goal.bounds-rows-i
-bounds-rows-i c =
-    let few : (4 * c.args.d ≤ length c.args.rows.now) × (4 * c.args.d ≤ length c.args.out.now) × (c.args.d ≤ 1024) = let h = declarations-le c.args.rows.now in
-    let e = c.requires.0 in
-    let a = c.requires.1.0 in
-    let b = c.requires.1.1 in
-    (omega arith, omega arith, omega arith) in
-    let t = c.loop-i-test.true in omega (arith, few)
+pub slice_bounds-copy_from_slice-end : goal.slice_bounds-copy_from_slice-end
+slice_bounds-copy_from_slice-end c = (room c.args.rows.now c.args.out.now c.args.d c.requires).1
 
-pub offset_bounds-out-i : goal.offset_bounds-out-i
-offset_bounds-out-i c =
-    let few : (4 * c.args.d ≤ length c.args.rows.now) × (4 * c.args.d ≤ length c.args.out.now) × (c.args.d ≤ 1024) = let h = declarations-le c.args.rows.now in
-    let e = c.requires.0 in
-    let a = c.requires.1.0 in
-    let b = c.requires.1.1 in
-    (omega arith, omega arith, omega arith) in
-    omega (arith, few)
+pub slice_bounds-copy_from_slice-end-2 : goal.slice_bounds-copy_from_slice-end-2
+slice_bounds-copy_from_slice-end-2 c = simp length-take (omega (arith, room c.args.rows.now c.args.out.now c.args.d c.requires))
 
-pub bounds-out-i : goal.bounds-out-i
-bounds-out-i c =
-    let few : (4 * c.args.d ≤ length c.args.rows.now) × (4 * c.args.d ≤ length c.args.out.now) × (c.args.d ≤ 1024) = let h = declarations-le c.args.rows.now in
-    let e = c.requires.0 in
-    let a = c.requires.1.0 in
-    let b = c.requires.1.1 in
-    (omega arith, omega arith, omega arith) in
-    let t = c.loop-i-test.true in
-    let e = c.loop-i.invariant.1 in
-    omega (arith, few)
+pub slice_bounds-copy_from_slice-end-3 : goal.slice_bounds-copy_from_slice-end-3
+slice_bounds-copy_from_slice-end-3 c = simp length-take (omega (arith, room c.args.rows.now c.args.out.now c.args.d c.requires))
 
-pub overflow_add-i : goal.overflow_add-i
-overflow_add-i c =
-    let few : (4 * c.args.d ≤ length c.args.rows.now) × (4 * c.args.d ≤ length c.args.out.now) × (c.args.d ≤ 1024) = let h = declarations-le c.args.rows.now in
-    let e = c.requires.0 in
-    let a = c.requires.1.0 in
-    let b = c.requires.1.1 in
-    (omega arith, omega arith, omega arith) in
-    omega (arith, few)
-
-pub loop-i-preserved : goal.loop-i-preserved
-loop-i-preserved c =
-    let few : (4 * c.args.d ≤ length c.args.rows.now) × (4 * c.args.d ≤ length c.args.out.now) × (c.args.d ≤ 1024) = let h = declarations-le c.args.rows.now in
-    let e = c.requires.0 in
-    let a = c.requires.1.0 in
-    let b = c.requires.1.1 in
-    (omega arith, omega arith, omega arith) in
-    let rows = c.args.rows.now in
-    let t = c.loop-i-test.true in
-    let i = c.loop-i.i in
-    let e = c.loop-i.invariant.1 in
-    let d = c.requires.0 in (
-      omega arith,
-      length-set c.loop-i.out i _ ∙ e,
-      rw (to_z-of_z w32 (get_or rows i (pos 0)) (search rules)) (one_more rows c.loop-i.out i (omega arith) (omega (arith, few)) c.loop-i.invariant.2),
-    )
+pub copy_from_slice-requires : goal.copy_from_slice-requires
+copy_from_slice-requires c = simp length-take (omega (arith, room c.args.rows.now c.args.out.now c.args.d c.requires))
 
 pub returns : goal.returns
 returns c =
-    let h = c.loop-i-test.false in
-    (c.loop-i.invariant.1, λ p l. c.loop-i.invariant.2 p (omega arith))
+    let rows = c.args.rows.now in
+    let out = c.args.out.now in
+    let n = 4 * c.args.d in
+    let r = room rows out c.args.d c.requires in
+    let e = c.requires.0 in
+    rw c.copy_from_slice.ensures.after (
+      simp (length-append, length-take, length-drop) (omega (arith, r)),
+      λ p l. copied rows (drop n out) n r.0 p l (omega arith),
+    )

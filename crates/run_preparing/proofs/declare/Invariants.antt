@@ -17,6 +17,3 @@ use Rattle.run_preparing.proofs.declare.Given as goal
 
 abbrev pub invariant-loop-r : goal.invariant-loop-r
 invariant-loop-r l = (l.r ≤ l.n) × (l.n ≡ declarations l.rows) × (l.n ≤ 1024) × (l.s ≡ sums_below l.rows l.r) × (l.strip ≡ sum_below (capacity_at l.rows) l.r) × Filled l.rows l.r l.code
-
-abbrev pub decreases-loop-r : goal.decreases-loop-r
-decreases-loop-r l = l.n - l.r

@@ -11,6 +11,3 @@ use Rattle.run_preparing.proofs.fill.Given as goal
 
 abbrev pub invariant-loop-r : goal.invariant-loop-r
 invariant-loop-r l = (l.r ≤ l.n) × (l.n ≤ 1024) × (declarations l.rows ≤ l.r) × Filled l.rows l.r l.code
-
-abbrev pub decreases-loop-r : goal.decreases-loop-r
-decreases-loop-r l = l.n - l.r

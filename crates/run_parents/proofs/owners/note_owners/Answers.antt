@@ -21,13 +21,13 @@ use Rattle.run_parents.proofs.owners.note_owners.Goals.{then-natural-eq34, else-
 pub loop-r-init : goal.loop-r-init
 loop-r-init c =
     let args = c.args in
-    (omega arith, refl, λ j l. ap (λ (o : List ℕ). get_or o j 0) c.clear_notes.ensures ∙ defaults-at 0 (length args.owners.now) j ∙ sym (lowest-none (is_option_of args.rows.now j)))
+    (omega arith, refl, λ j l. ap (λ (o : List ℕ). get_or o j 0) (c.fill.ensures.after (λ y e. e)) ∙ defaults-at 0 (length args.owners.now) j ∙ sym (lowest-none (is_option_of args.rows.now j)))
 
 pub loop-r-preserved : goal.loop-r-preserved
 loop-r-preserved c =
     let rows = c.args.rows.now in
     let l = c.loop-r in
-    let n = length c.clear_notes.new.notes in
+    let n = length c.fill.new.self in
     let h : l.r < row_count rows = c.loop-r-test.true in
     elim c.if-natural-eq34.branch [
       | then-natural-eq34 w ↦ (omega arith, ap (λ (o : List ℕ). length o) w.owners-is ∙ w.note_options.auto.owners ∙ l.invariant.1, λ j m. ap (λ (o : List ℕ). get_or o j 0) w.owners-is ∙ with-alt rows l.r n h l.owners l.invariant.2 _ _ (sym c.natural.ensures ∙ w.if-natural-eq34.true) w.operand.ensures (λ i k. w.note_options.ensures i (rw l.invariant.1 k)) j m)
@@ -40,6 +40,6 @@ returns c =
     let args = c.args in
     let rows = args.rows.now in
     let e : c.loop-r.r ≡ row_count rows = omega (arith, c.loop-r.invariant.0) in
-    let n : length c.clear_notes.new.notes ≡ length args.owners.now = ap (λ (o : List ℕ). length o) c.clear_notes.ensures ∙ length-replicate (length args.owners.now) 0 in
+    let n : length c.fill.new.self ≡ length args.owners.now = ap (λ (o : List ℕ). length o) (c.fill.ensures.after (λ y e. e)) ∙ length-replicate (length args.owners.now) 0 in
     by_row (λ j. row_note (alt_of (program rows) j)) (length args.owners.now) c.loop-r.owners (c.loop-r.invariant.1 ∙ n)
     (λ j l. c.loop-r.invariant.2 j (rw n l) ∙ ap row_note (ap (lowest (is_option_of rows j)) e ∙ sym (alt-lowest rows j)))

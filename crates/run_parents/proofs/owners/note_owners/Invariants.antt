@@ -19,6 +19,3 @@ use Rattle.run_parents.proofs.owners.note_owners.Given as goal
 
 abbrev pub invariant-loop-r : goal.invariant-loop-r
 invariant-loop-r l = (l.r ≤ row_count l.rows) × (length l.owners ≡ length l.initial.owners) × ((j : ℕ) → j < length l.initial.owners → get_or l.owners j 0 ≡ row_note (lowest (is_option_of l.rows j) l.r))
-
-abbrev pub decreases-loop-r : goal.decreases-loop-r
-decreases-loop-r l = row_count l.rows - l.r

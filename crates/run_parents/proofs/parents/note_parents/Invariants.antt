@@ -14,6 +14,3 @@ use Rattle.run_parents.proofs.parents.note_parents.Given as goal
 
 abbrev pub invariant-loop-r : goal.invariant-loop-r
 invariant-loop-r l = (l.r ≤ row_count l.rows) × (length l.parents ≡ length l.initial.parents) × (length l.nexts ≡ length l.initial.nexts) × NotedBelow l.rows l.r l.parents × ParentsNumbered (NextOf l.rows) l.initial.parents l.initial.nexts l.parents l.nexts
-
-abbrev pub decreases-loop-r : goal.decreases-loop-r
-decreases-loop-r l = row_count l.rows - l.r
