@@ -16,24 +16,3 @@ module _ (from r n : ℕ) (l : List ℕ) where
 
   pub not_listed : 2048 ≤ n → l ≡ list_after from n r l
   not_listed h = rw (le-ltb n 2048 h)
-
--- ---- members left
-
-module _ (r n : ℕ) (s l c : List ℕ) where
-  pub remains-none : n ≡ 0 → kept_of (set s r 2) l c ≡ remain r n (kept_of s l c)
-  remains-none e = rw e
-
-  pub remains-some : (n ≡ 0 → ⊥) → kept_of s (set l r n) c ≡ remain r n (kept_of s l c)
-  remains-some z = go n z
-    where
-      go : (i : ℕ) → (i ≡ 0 → ⊥) → kept_of s (set l r i) c ≡ remain r i (kept_of s l c)
-      go zero z = absurd (z refl)
-      go (suc i) z = refl
-
--- one member fewer
-module _ (r : ℕ) (s l c : List ℕ) where
-  pub lowers-none : get_or l r 0 < 2 → kept_of (set s r 2) l c ≡ remain r (get_or l r 0 - 1) (kept_of s l c)
-  lowers-none h = remains-none r (get_or l r 0 - 1) s l c (omega arith)
-
-  pub lowers-some : 2 ≤ get_or l r 0 → kept_of s (set l r (get_or l r 0 - 1)) c ≡ remain r (get_or l r 0 - 1) (kept_of s l c)
-  lowers-some h = remains-some r (get_or l r 0 - 1) s l c (λ z. omega arith)

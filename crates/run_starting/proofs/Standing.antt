@@ -310,3 +310,12 @@ module _ {rows : List ℤ} {list : List ℕ} (P : Prepared rows list) where
 
       pub block-action : n ≡ 35 → a ≡ block (variable_at rows (natural_at rows r 1))
       block-action i = action-at 35 i (λ z. omega arith)
+
+-- a kind from 40 to 42 is that of a link
+pub link-kind : (n : ℕ) → 40 ≤ n → n < 43 → IsLink n
+link-kind n a b = go (dec_lt n 41) (dec_lt n 42)
+  where
+    go : Dec (n < 41) → Dec (n < 42) → IsLink n
+    go (yes x) y = inl (omega arith)
+    go (no x) (yes y) = inr (inl (omega arith))
+    go (no x) (no y) = inr (inr (omega arith))

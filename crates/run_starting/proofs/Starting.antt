@@ -19,7 +19,7 @@ use Rattle.meaning.specs.Settle.{is_ended, local_of}
 use Rattle.agreement.proofs.TableTree.{process-is}
 use Rattle.base_layout.proofs.Parts.{higher_content, part-past, part-of-kind}
 use Rattle.run_parents.proofs.KindCases.{kind-cases}
-use Rattle.machine.specs.Counts.{Kept, kept_of, comes_to, block_starts, state_set, remain, row_comes, go_next, start_by, start_row, start_members, start_beneath}
+use Rattle.machine.specs.Counts.{Kept, state_set, remain, row_comes, go_next, start_by, start_row, start_members, start_beneath}
 use Rattle.machine.proofs.Parents.{own_row}
 use Rattle.machine.proofs.Starting.{start_none, start-also}
 use Rattle.machine.proofs.CountedClimbs.{starts-beneath}
@@ -27,6 +27,7 @@ use Rattle.run_parents.specs.declared.shape.Mode.{Mode}
 use Rattle.run_parents.specs.Members.{mode_of, only_process}
 use Rattle.run_code.specs.Prepared.{Prepared, place_at}
 use Rattle.run_starting.specs.Parts.{IsProcess, starts_if}
+use Rattle.run_starting.specs.Kept.{block_begins}
 use Rattle.run_starting.proofs.Standing.{EndingIn, SingleIn, LinkIn, kind-place}
 
 -- a state other than 2 is not that of an ended process
@@ -59,16 +60,16 @@ module _ (rows : List ℤ) where
       rw (start-also z ms all r n k, g, i)
 
   -- a block: it is listed as one that starts, and its process has started: j is what that left
-  module _ (r : ℕ) (k : Kept) {b : ℕ} (h : SingleIn rows r b) {v : Variable} (a : h.action ≡ block v) {c : List ℕ} (f : c ≡ block_starts r k.came) {j : Kept}
-      (e : j ≡ start_beneath b (process_at (program rows) b) (state_set b 1 (kept_of k.states k.left c))) where
+  module _ (r : ℕ) (k : Kept) {b : ℕ} (h : SingleIn rows r b) {v : Variable} (a : h.action ≡ block v) {i : Kept} (f : i ≡ block_begins r k) {j : Kept}
+      (e : j ≡ start_beneath b (process_at (program rows) b) (state_set b 1 i)) where
     abbrev block-goes-on : Bool → Kept
     block-goes-on t = go_next false t 0 (λ n. start_members empty false r n j) j
 
     block-starts : start_beneath r (process_at (program rows) r) k ≡ block-goes-on (is_ended (get_or j.states b 0))
     block-starts =
-        let (p, i) = h.member_is in
-        let w = h.process-is ∙ ap (λ (o : Option Process). some (node h.action r (only_process o))) i ∙ ap (λ (y : Action). some (node y r (also p empty))) a in
-        beneath r k w ∙ ap (λ (l : List ℕ). start_members (also p empty) false r 0 (kept_of k.states k.left l)) (sym f) ∙ first-starts b p empty false r 0 (kept_of k.states k.left c) i e
+        let (p, z) = h.member_is in
+        let w = h.process-is ∙ ap (λ (o : Option Process). some (node h.action r (only_process o))) z ∙ ap (λ (y : Action). some (node y r (also p empty))) a in
+        beneath r k w ∙ ap (start_members (also p empty) false r 0) (sym f) ∙ first-starts b p empty false r 0 i z e
 
     -- that has ended at once, and so the block ends
     pub block-ends : get_or j.states b 0 ≡ 2 → {w : Kept} → w ≡ remain r 0 j → w ≡ start_beneath r (process_at (program rows) r) k
@@ -95,9 +96,9 @@ module _ {rows : List ℤ} {list : List ℕ} (P : Prepared rows list) (r : ℕ) 
           (λ e. absurd (n30 (kind-place P r 30 l e))) (λ e. absurd (n31 (kind-place P r 31 l e))) (λ e. refl) (λ e. refl) (λ e. refl) (λ e. absurd (n35 (kind-place P r 35 l e)))
           (λ e. refl) (λ e. refl) (λ e. refl) (λ e. refl) refl
 
-  pub comes-itself : {n : ℕ} → n ≡ place_at list r 0 → (n ≡ 21 → ⊥) → (n ≡ 30 → ⊥) → (n ≡ 31 → ⊥) → (n ≡ 35 → ⊥) → {c : List ℕ} → c ≡ comes_to r k.came
-      → kept_of k.states k.left c ≡ start_beneath r (process_at (program rows) r) k
-  comes-itself e n21 n30 n31 n35 i = ap (kept_of k.states k.left) i ∙ sym (itself-starts (λ z. n21 (e ∙ z)) (λ z. n30 (e ∙ z)) (λ z. n31 (e ∙ z)) (λ z. n35 (e ∙ z)))
+  pub comes-itself : {n : ℕ} → n ≡ place_at list r 0 → (n ≡ 21 → ⊥) → (n ≡ 30 → ⊥) → (n ≡ 31 → ⊥) → (n ≡ 35 → ⊥) → {w : Kept} → w ≡ row_comes r k
+      → w ≡ start_beneath r (process_at (program rows) r) k
+  comes-itself e n21 n30 n31 n35 i = i ∙ sym (itself-starts (λ z. n21 (e ∙ z)) (λ z. n30 (e ∙ z)) (λ z. n31 (e ∙ z)) (λ z. n35 (e ∙ z)))
 
 -- ---- the members from link m on
 

@@ -1,5 +1,5 @@
 use Rattle.std.proofs.Common.{ℕ, ◌+◌, ◌-◌, ◌*◌}
-use Rattle.run_starting.proofs.start.+start_beneath_start_members_start_row.Given as goal
+use Rattle.run_starting.proofs.kept.Kept.+start_beneath_start_members_start_row.Given as goal
 
 abbrev pub decreases-start_beneath : goal.decreases-start_beneath
 decreases-start_beneath l = 2 * (1025 - l.r)

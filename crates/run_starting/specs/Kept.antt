@@ -1,0 +1,16 @@
+-- What settling keeps, as the definitions have it.
+use Rattle.std.specs.Prelude.{ℕ, replicate}
+use Rattle.machine.specs.Counts as counts
+use Rattle.machine.specs.Counts.{kept_of, block_starts}
+use Rattle.run_starting.specs.declared.kept.Kept.{Kept}
+
+abbrev pub kept_lists : Kept → counts.Kept
+kept_lists k = kept_of k.states k.left k.came
+
+-- every row is idle, and no row has come to work
+abbrev pub idle_lists : counts.Kept
+idle_lists = kept_of (replicate 1024 0) (replicate 1024 0) (replicate 4098 0)
+
+-- the block of row r starts, and nothing else changes
+abbrev pub block_begins : ℕ → counts.Kept → counts.Kept
+block_begins r k = kept_of k.states k.left (block_starts r k.came)
