@@ -1,5 +1,5 @@
 -- A process of a prepared table goes on after its member, and so on up, as the code goes.
-use mathlib.Core.Path.{◌≡◌, refl, sym, ap, ap₂, subst, ◌∙◌}
+use mathlib.Core.Path.{◌≡◌, refl, sym, ap, subst, ◌∙◌}
 use mathlib.Core.Bool.{false}
 use mathlib.Core.Option.{Option, none, some}
 use mathlib.Core.List.Memᴰ
@@ -18,7 +18,7 @@ use Rattle.meaning.specs.State.{program, process_at}
 use Rattle.base_layout.proofs.Parts.{higher_content, part-past, part-of-kind}
 use Rattle.run_parents.proofs.KindCases.{kind-cases}
 use Rattle.machine.specs.Upward.{processes_after, reset, parent_of}
-use Rattle.machine.specs.Counts.{Kept, kept_of, comes_to, state_set, remain, start_members, goes_on_counted, goes_on_counted_at, upward_counted, change_up_counted, end_up_counted}
+use Rattle.machine.specs.Counts.{Kept, kept_of, comes_to, row_comes, state_set, remain, start_members, goes_on_counted, goes_on_counted_at, upward_counted, change_up_counted, end_up_counted}
 use Rattle.machine.proofs.Parents.{parent-has, parent-below}
 use Rattle.machine.proofs.Starting.{start_none}
 use Rattle.machine.proofs.CountedClimbs.{counted-rests, counted-top, counted-goes, counted-enough}
@@ -46,10 +46,10 @@ module _ (rows : List ℤ) (q r : ℕ) (k : Kept) where
   together-goes-on h g = of-process h.process-is (rw h.mode-is g)
 
   -- every row beneath a WHILE becomes idle, and it comes to work again
-  pub repeating-goes-on : {b : ℕ} {t c : List ℕ} (h : SingleIn rows q b) {x : Expr} {n : ℕ} → h.action ≡ loop x n → t ≡ reset (process_at (program rows) b) k.states → c ≡ comes_to q k.came
-      → kept_of t k.left c ≡ goes_on_counted_at (program rows) q r k
+  pub repeating-goes-on : {b : ℕ} {t : List ℕ} {w : Kept} (h : SingleIn rows q b) {x : Expr} {n : ℕ} → h.action ≡ loop x n → t ≡ reset (process_at (program rows) b) k.states → w ≡ row_comes q (kept_of t k.left k.came)
+      → w ≡ goes_on_counted_at (program rows) q r k
   repeating-goes-on {b} h a g i =
-      of-process (h.process-is ∙ ap (λ (y : Action). some (node y q (only_process (content_at rows b).process))) a) (ap₂ (λ (t c : List ℕ). kept_of t k.left c) (body-resets rows q k.states h g) i)
+      of-process (h.process-is ∙ ap (λ (y : Action). some (node y q (only_process (content_at rows b).process))) a) (i ∙ ap (λ (t : List ℕ). kept_of t k.left (comes_to q k.came)) (body-resets rows q k.states h g))
 
 -- an IF, an ALT or a block ends; no other row has a member
 module _ {rows : List ℤ} {list : List ℕ} (P : Prepared rows list) (q r : ℕ) (k : Kept) {n : ℕ} (e : n ≡ place_at list q 0) (n30 : n ≡ 30 → ⊥) (n31 : n ≡ 31 → ⊥) (n33 : n ≡ 33 → ⊥) where

@@ -1,19 +1,19 @@
 -- `settle_up` meets its contract. The measure is the row: a parent is a lower row.
 use Rattle.run_settling.proofs.GoingUp.{up-not-ended, up-no-parent, up-parent}
 use Rattle.run_settling.proofs.ParentNotes.{parent-process, no-parent-noted, parent-noted, note-below}
-use Rattle.machine.specs.Counts.{kept_of}
+use Rattle.run_starting.specs.Kept.{kept_lists}
 use native.Mathlib.Omega.{arith}
 use borrow.Author.Rules.{rules}
 use Prim.Native.Nat.{ℕ, ◌<◌}
 use Rattle.run_settling.proofs.+settle_up.Goals as goal
 
-pub returns-then-states-r-ne2 : goal.returns-then-states-r-ne2
-returns-then-states-r-ne2 t c =
-    λ rows P i. up-not-ended rows c.args.r (kept_of c.args.states.now c.args.left.now c.args.came.now) c.if-states-r-ne2.true
+pub returns-then-kept-r-ne2 : goal.returns-then-kept-r-ne2
+returns-then-kept-r-ne2 t c =
+    λ rows P i. up-not-ended rows c.args.r (kept_lists c.args.kept.now) c.if-kept-r-ne2.true
 
 pub returns-then-note-eq0 : goal.returns-then-note-eq0
 returns-then-note-eq0 t c =
-    λ rows P i. up-no-parent rows c.args.r (kept_of c.args.states.now c.args.left.now c.args.came.now) (no-parent-noted P c.args.r c.requires.row c.place-note.ensures i c.if-note-eq0.true)
+    λ rows P i. up-no-parent rows c.args.r (kept_lists c.args.kept.now) (no-parent-noted P c.args.r c.requires.row c.place-note.ensures i c.if-note-eq0.true)
 
 pub go_on-requires : goal.go_on-requires
 go_on-requires t c =
@@ -36,4 +36,4 @@ pub returns : goal.returns
 returns t c =
     λ rows P i.
     let parent = parent-noted P c.args.r c.requires.row c.place-note.ensures i c.if-note-eq0.false in
-    up-parent rows c.args.r (kept_of c.args.states.now c.args.left.now c.args.came.now) c.if-states-r-ne2.false parent (c.go_on.ensures rows P parent) (c.settle_up.ensures rows P (parent-process rows _ c.args.r parent))
+    up-parent rows c.args.r (kept_lists c.args.kept.now) c.if-kept-r-ne2.false parent (c.go_on.ensures rows P parent) (c.settle_up.ensures rows P (parent-process rows _ c.args.r parent))

@@ -3,9 +3,6 @@ use Rattle.run_settling.proofs.GoingUp.{noted-ends, none-ends}
 use Rattle.machine.specs.Counts.{kept_of, forgotten}
 use native.Mathlib.Omega.{arith}
 use borrow.Author.Rules.{rules}
-use Rattle.run_settling.proofs.change_states.Reads as reads
-use Rattle.run_settling.proofs.change_states.Lts as lts
-use Rattle.run_settling.proofs.change_up.Reads as change-up-reads
 use Rattle.run_settling.proofs.change_states.Goals as goal
 
 pub change_up-requires : goal.change_up-requires
@@ -20,8 +17,8 @@ change_up-requires-then-sender-ne0 c =
 
 pub returns-then-sender-ne0 : goal.returns-then-sender-ne0
 returns-then-sender-ne0 c =
-    λ rows P i. noted-ends rows c.args.at c.args.n c.args.sender (kept_of c.args.states.now c.args.left.now (forgotten c.args.came.now)) (c.change_up.ensures rows P i.0) c.if-sender-ne0.true (c.change_up-then-sender-ne0.ensures rows P (i.1 c.if-sender-ne0.true))
+    λ rows P i. noted-ends rows c.args.at c.args.n c.args.sender (kept_of c.args.kept.now.states c.args.kept.now.left (forgotten c.args.kept.now.came)) (c.change_up.ensures rows P i.0) c.if-sender-ne0.true (c.change_up-then-sender-ne0.ensures rows P (i.1 c.if-sender-ne0.true))
 
 pub returns-else-sender-ne0 : goal.returns-else-sender-ne0
 returns-else-sender-ne0 c =
-    λ rows P i. none-ends rows c.args.at c.args.n c.args.sender (kept_of c.args.states.now c.args.left.now (forgotten c.args.came.now)) (c.change_up.ensures rows P i.0) c.if-sender-ne0.false
+    λ rows P i. none-ends rows c.args.at c.args.n c.args.sender (kept_of c.args.kept.now.states c.args.kept.now.left (forgotten c.args.kept.now.came)) (c.change_up.ensures rows P i.0) c.if-sender-ne0.false

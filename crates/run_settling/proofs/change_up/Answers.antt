@@ -1,11 +1,7 @@
 -- `change_up` meets its contract: the change, the start of its members, the way up.
 use Rattle.run_settling.proofs.GoingUp.{change-goes-up}
-use Rattle.machine.specs.Counts.{kept_of}
+use Rattle.run_starting.specs.Kept.{kept_lists}
 use borrow.Author.Rules.{rules}
-use Rattle.run_settling.proofs.change_up.Reads as reads
-use Rattle.run_settling.proofs.change_up.Lts as lts
-use Rattle.run_settling.proofs.settle_up.Reads as settle-up-reads
-use Rattle.run_starting.proofs.start.start_if.Reads as start-if-reads
 use Rattle.run_settling.proofs.change_up.Goals as goal
 
 pub start_if-requires : goal.start_if-requires
@@ -14,4 +10,4 @@ start_if-requires c =
 
 pub returns : goal.returns
 returns c =
-    λ rows P i. change-goes-up rows c.args.r c.args.n (kept_of c.args.states.now c.args.left.now c.args.came.now) (c.start_if.ensures rows P) (c.settle_up.ensures rows P i)
+    λ rows P i. change-goes-up rows c.args.r c.args.n (kept_lists c.args.kept.now) (c.start_if.ensures rows P) (c.settle_up.ensures rows P i)

@@ -3,17 +3,10 @@ use Rattle.run_settling.proofs.GoingUp.{in-turn-goes-on, together-goes-on, repea
 use Rattle.run_starting.proofs.Standing.{found_in, seq-shape, par-shape, while-shape-in, while-action}
 use Rattle.run_code.proofs.Owners.{next-members}
 use Rattle.run_code.proofs.Inside.{next-inside}
-use Rattle.machine.specs.Counts.{kept_of}
+use Rattle.run_starting.specs.Kept.{kept_lists}
 use native.Mathlib.Omega.{arith}
 use mathlib.Core.Path.{refl}
 use borrow.Author.Rules.{rules}
-use Rattle.run_settling.proofs.go_on.Reads as reads
-use Rattle.run_settling.proofs.go_on.Lts as lts
-use Rattle.run_code.proofs.place.Reads as place-reads
-use Rattle.run_starting.proofs.counts.comes.Reads as comes-reads
-use Rattle.run_starting.proofs.counts.lower.Reads as lower-reads
-use Rattle.run_starting.proofs.reset.reset.Reads as reset-reads
-use Rattle.run_starting.proofs.start.start_next.Reads as start-next-reads
 use Rattle.run_settling.proofs.go_on.Goals as goal
 
 pub start_next-requires : goal.start_next-requires
@@ -28,20 +21,20 @@ reset-requires c =
 
 pub returns-in-30 : goal.returns-in-30
 returns-in-30 c =
-    λ rows P i. in-turn-goes-on rows c.args.q c.args.r (kept_of c.args.states.now c.args.left.now c.args.came.now) c.place-in-30.result (found_in P c.args.q (seq-shape P c.args.q (omega (arith, c.requires.inside.0)) c.place.ensures c.in-30.is refl) refl) (rw c.place-in-30.ensures (next-members P c.args.r (omega (arith, c.requires.inside.1)) c.args.q i)) (c.start_next.ensures rows P)
+    λ rows P i. in-turn-goes-on rows c.args.q c.args.r (kept_lists c.args.kept.now) c.place-in-30.result (found_in P c.args.q (seq-shape P c.args.q (omega (arith, c.requires.inside.0)) c.place.ensures c.in-30.is refl) refl) (rw c.place-in-30.ensures (next-members P c.args.r (omega (arith, c.requires.inside.1)) c.args.q i)) (c.start_next.ensures rows P)
 
 pub returns-in-31 : goal.returns-in-31
 returns-in-31 c =
-    λ rows P i. together-goes-on rows c.args.q c.args.r (kept_of c.args.states.now c.args.left.now c.args.came.now) (found_in P c.args.q (par-shape P c.args.q (omega (arith, c.requires.inside.0)) c.place.ensures c.in-31.is refl) refl) (c.lower.ensures c.args.came.now)
+    λ rows P i. together-goes-on rows c.args.q c.args.r (kept_lists c.args.kept.now) (found_in P c.args.q (par-shape P c.args.q (omega (arith, c.requires.inside.0)) c.place.ensures c.in-31.is refl) refl) c.lower.ensures
 
 pub returns-in-33 : goal.returns-in-33
 returns-in-33 c =
     λ rows P i.
     let h = found_in P c.args.q (while-shape-in P c.args.q (omega (arith, c.requires.inside.0)) c.place.ensures c.in-33.is c.place-in-33.ensures) refl in
     let a = while-action P c.args.q (omega (arith, c.requires.inside.0)) c.place.ensures h.process-is c.in-33.is in
-    repeating-goes-on rows c.args.q c.args.r (kept_of c.args.states.now c.args.left.now c.args.came.now) h a (c.reset.ensures rows P h.member_is) c.comes.ensures
+    repeating-goes-on rows c.args.q c.args.r (kept_lists c.args.kept.now) h a (c.reset.ensures rows P h.member_is) c.comes.ensures
 
 pub returns-in_default : goal.returns-in_default
 returns-in_default c =
     let m = c.in_default.in_default-own.rest in
-    λ rows P i. other-goes-on P c.args.q c.args.r (kept_of c.args.states.now c.args.left.now c.args.came.now) c.place.ensures m.0.0.1 m.0.1 m.1 i
+    λ rows P i. other-goes-on P c.args.q c.args.r (kept_lists c.args.kept.now) c.place.ensures m.0.0.1 m.0.1 m.1 i
