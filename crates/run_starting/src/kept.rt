@@ -81,7 +81,7 @@ impl Kept {
         ensures { kept_lists self.new ≡ counts.remain r (get_or self.old.left r 0 - 1) (kept_lists self.old) }
     {
         let n = self.left[r];
-        self.remain(r, if n == 0 { 0 } else { n - 1 });
+        self.remain(r, if n < 2 { 0 } else { n - 1 });
     }
     // Row r runs, and its process starts its members, or comes to work.
     #[cycle(start_beneath_start_members_start_row)]
