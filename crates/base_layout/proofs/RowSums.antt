@@ -12,13 +12,15 @@ use borrow.Author.Tests.{eq-eqb, ne_eqb, eqb-true, eqb-false}
 use Rattle.meaning.specs.Rows.{natural_at, kind_at}
 use Rattle.meaning.specs.Declarations.{sum_below, cells_at, elements_at, host_channels_at}
 use Rattle.meaning.specs.Faults.{WithinLimits}
+use Rattle.base_layout.specs.declared.Sort.{Sort}
+use Rattle.base_layout.specs.declared.Sort.TheVariants.{Nothing, Variable, Inner, Source, Sink}
 use Rattle.base_layout.specs.declared.Name.{Name}
 use Rattle.base_layout.specs.declared.Sums.{Sums}
 use Rattle.base_layout.specs.Names.{sums_below, DeclarationReached, name_at}
 use Rattle.base_layout.proofs.Declared as row
 
--- five numbers as a name, four as sums
-abbrev pub name : ℕ → ℕ → ℕ → ℕ → ℕ → Name
+-- a sort and four numbers as a name, four as sums
+abbrev pub name : Sort → ℕ → ℕ → ℕ → ℕ → Name
 name sort first size port capacity = record { sort = sort; first = first; size = size; number = port; capacity = capacity }
 
 abbrev pub sums : ℕ → ℕ → ℕ → ℕ → Sums
@@ -79,7 +81,7 @@ module _ (rows : List ℤ) (r : ℕ) (s : Sums) (k : DeclarationReached rows r s
         (sources-are ∙ plus_none (host_channels_at 1 rows) r (row.variable-host-channels rows r k.declared e 1))
         (sinks-are ∙ plus_none (host_channels_at 2 rows) r (row.variable-host-channels rows r k.declared e 2))
 
-    pub variable-name : name 1 s.cells (natural_at rows r 1) 0 0 ≡ name_at rows r
+    pub variable-name : name Variable s.cells (natural_at rows r 1) 0 0 ≡ name_at rows r
     unfolding name_at
     variable-name = simp (row.is-variable rows r k.declared e, cells_are, row.variable-cells rows r k.declared e)
 
@@ -122,19 +124,19 @@ module _ (rows : List ℤ) (r : ℕ) (s : Sums) (k : DeclarationReached rows r s
     unfolding WithinLimits sum_below
     capacity-fits h = omega (arith, row.channel-capacity rows r k.declared p ∙ ap (λ (t : Bool). if_else t (natural_at rows r 3) 0) (eq-eqb _ _ h), k.limits.4)
 
-    pub inner_name : natural_at rows r 2 ≡ 0 → name 2 s.elements (natural_at rows r 1) 0 0 ≡ name_at rows r
+    pub inner_name : natural_at rows r 2 ≡ 0 → name Inner s.elements (natural_at rows r 1) 0 0 ≡ name_at rows r
     unfolding name_at
     inner_name h = simp (row.no-variable rows r k.declared p, row.is-channel rows r k.declared p, h, elements-are, row.channel-elements rows r k.declared p)
 
-    pub source_name : natural_at rows r 2 ≡ 1 → name 3 s.elements (natural_at rows r 1) s.sources 0 ≡ name_at rows r
+    pub source_name : natural_at rows r 2 ≡ 1 → name Source s.elements (natural_at rows r 1) s.sources 0 ≡ name_at rows r
     unfolding name_at
     source_name h = simp (row.no-variable rows r k.declared p, row.is-channel rows r k.declared p, h, elements-are, sources-are, row.channel-elements rows r k.declared p)
 
-    pub sink-name : natural_at rows r 2 ≡ 2 → name 4 s.elements (natural_at rows r 1) s.sinks (natural_at rows r 3) ≡ name_at rows r
+    pub sink-name : natural_at rows r 2 ≡ 2 → name Sink s.elements (natural_at rows r 1) s.sinks (natural_at rows r 3) ≡ name_at rows r
     unfolding name_at
     sink-name h = simp (row.no-variable rows r k.declared p, row.is-channel rows r k.declared p, row.channel-capacity rows r k.declared p, h, elements-are, sinks-are, row.channel-elements rows r k.declared p)
 
-    pub no_name : (natural_at rows r 2 ≡ 0 → ⊥) → (natural_at rows r 2 ≡ 1 → ⊥) → (natural_at rows r 2 ≡ 2 → ⊥) → name 0 0 0 0 0 ≡ name_at rows r
+    pub no_name : (natural_at rows r 2 ≡ 0 → ⊥) → (natural_at rows r 2 ≡ 1 → ⊥) → (natural_at rows r 2 ≡ 2 → ⊥) → name Nothing 0 0 0 0 ≡ name_at rows r
     unfolding name_at
     no_name f g h = simp (row.no-variable rows r k.declared p, row.is-channel rows r k.declared p, ne_eqb _ 0 f, ne_eqb _ 1 g, ne_eqb _ 2 h)
 

@@ -1,26 +1,45 @@
 // The layout of a table: what each row names, prepared once and read from then on.
 #![tactic(auto)]
 
-ghost use Rattle.std.specs.Prelude.{◌≡◌, ℕ, suc, ◌*◌, ◌<◌, ◌≤◌, length, get_or};
+ghost use Rattle.std.specs.Prelude.{◌≡◌, ℕ, suc, ◌<◌, ◌≤◌, length};
 ghost use Rattle.meaning.specs.Buffers.{sized};
-ghost use Rattle.meaning.specs.Declarations.{declarations, no_channel};
+ghost use Rattle.meaning.specs.Declarations.{declarations};
 ghost use Rattle.meaning.specs.Faults.{WithinLimits};
-ghost use Rattle.base_layout.specs.Names.{DeclarationReached, Named, name_at, names_of, sums_below, extent_of, variable_in, channel_of, channel_in};
+ghost use Rattle.base_layout.specs.Names.{DeclarationReached, Named, name_at, names_of, name_in, sums_below, extent_of, variable_in, named_channel, channel_of, channel_in};
+ghost use Rattle.base_layout.specs.declared.Sort.TheVariants.{Source, Sink};
 
 pub mod nodes; // nodes.rt: the numbers of a row, and the rows that it refers to
 
 use nodes::natural;
 
-// The sort of what a row names: 0 nothing, 1 a variable, 2 an inner channel, 3 one from the host, 4 one to the host; its
-// first cell or element, and how many; of a host channel its number among those of its role, and its capacity.
+// The sort of what a row names: nothing, a variable, an inner channel, one from the host, one to the host.
+#[derive(Clone, Copy, PartialEq, Eq)]
+pub enum Sort {
+    Nothing,
+    Variable,
+    Inner,
+    Source,
+    Sink,
+}
+
+// What a row names: its sort; its first cell or element, and how many; of a host channel its number among those of its role, and its capacity.
 #[derive(Clone, Copy)]
 pub struct Name {
-    pub sort: u16,
+    pub sort: Sort,
     pub first: u16,
     pub size: u16,
     pub number: u16,
     pub capacity: u16,
 }
+
+// The name of a row that names nothing.
+pub const NO_NAME: Name = Name {
+    sort: Sort::Nothing,
+    first: 0,
+    size: 0,
+    number: 0,
+    capacity: 0,
+};
 
 // The cells, elements and host channels that rows declare.
 #[derive(Clone, Copy)]
@@ -40,31 +59,22 @@ pub fn with_row(rows: &[i32], r: usize, s: Sums) -> Sums
     if natural(rows, r, 0) == 1 {
         return Sums {
             cells: s.cells + size,
-            elements: s.elements,
-            sources: s.sources,
-            sinks: s.sinks,
+            ..s
         };
     }
     let elements = s.elements + size;
     match natural(rows, r, 2) {
         1 => Sums {
-            cells: s.cells,
             elements,
             sources: s.sources + 1,
-            sinks: s.sinks,
+            ..s
         },
         2 => Sums {
-            cells: s.cells,
             elements,
-            sources: s.sources,
             sinks: s.sinks + 1,
+            ..s
         },
-        _ => Sums {
-            cells: s.cells,
-            elements,
-            sources: s.sources,
-            sinks: s.sinks,
-        },
+        _ => Sums { elements, ..s },
     }
 }
 
@@ -76,165 +86,142 @@ pub fn name_of(rows: &[i32], r: usize, s: Sums) -> Name
     let size = natural(rows, r, 1) as u16;
     if natural(rows, r, 0) == 1 {
         return Name {
-            sort: 1,
+            sort: Sort::Variable,
             first: s.cells,
             size,
-            number: 0,
-            capacity: 0,
+            ..NO_NAME
         };
     }
     match natural(rows, r, 2) {
         0 => Name {
-            sort: 2,
+            sort: Sort::Inner,
             first: s.elements,
             size,
-            number: 0,
-            capacity: 0,
+            ..NO_NAME
         },
         1 => Name {
-            sort: 3,
+            sort: Sort::Source,
             first: s.elements,
             size,
             number: s.sources,
             capacity: 0,
         },
         2 => Name {
-            sort: 4,
+            sort: Sort::Sink,
             first: s.elements,
             size,
             number: s.sinks,
             capacity: natural(rows, r, 3) as u16,
         },
-        _ => Name {
-            sort: 0,
-            first: 0,
-            size: 0,
-            number: 0,
-            capacity: 0,
-        },
+        _ => NO_NAME,
     }
 }
 
-// Notes what each declaration of a table within the limits names, five numbers each, in a list of zeros with room for them.
-pub fn note_names(rows: &[i32], names: &mut [u16])
+// Notes what each declaration of a table within the limits names, in a list with room for them that holds no names.
+pub fn note_names(rows: &[i32], names: &mut [Name])
     requires limits { (r : ℕ) → r < declarations rows.now → WithinLimits rows.now r }
-    requires room { (5 * declarations rows.now ≤ length names.old) × ((i : ℕ) → get_or names.old i 0 ≡ 0) }
-    ensures numbers { names.new ≡ sized (length names.old) 0 (names_of rows.now (declarations rows.now)) }
+    requires room { (declarations rows.now ≤ length names.old) × ((i : ℕ) → name_in names.old i ≡ NO_NAME) }
+    ensures numbers { names.new ≡ sized (length names.old) NO_NAME (names_of rows.now (declarations rows.now)) }
     ensures meaning { Named rows.now names.new }
 {
-    let n = base_rows::declarations(rows);
     let mut s = Sums {
         cells: 0,
         elements: 0,
         sources: 0,
         sinks: 0,
     };
-    for r in 0..n {
+    for r in 0..base_rows::declarations(rows) {
         let name = name_of(rows, r, s);
-        let at = 5 * r;
-        names[at] = name.sort;
-        names[at + 1] = name.first;
-        names[at + 2] = name.size;
-        names[at + 3] = name.number;
-        names[at + 4] = name.capacity;
+        names[r] = name;
         s = with_row(rows, r, s);
     }
 }
 
-// Number i of the layout.
-fn number(names: &[u16], i: usize) -> u32
-    requires { i < length names.now }
-    ensures { result ≡ get_or names.now i 0 }
+// What row a names; nothing past the list.
+fn name_in(names: &[Name], a: u32) -> Name
+    ensures { result ≡ name_in names.now a }
 {
-    names[i] as u32
+    let a = a as usize;
+    if a < names.len() { names[a] } else { NO_NAME }
 }
 
 // The cells of a variable: the first, and how many.
-#[derive(Drop)]
+#[derive(Clone, Copy)]
 pub struct Extent {
     pub first: u32,
     pub size: u32,
 }
 
 // The variable that row a declares; no cell where it declares none.
-pub fn variable_at(names: &[u16], a: u32) -> Extent
+pub fn variable_at(names: &[Name], a: u32) -> Extent
     ensures { result ≡ extent_of (variable_in names.now a) }
 {
-    let at = 5 * (a as usize);
-    if names.len() <= at + 4 {
-        return Extent { first: 0, size: 0 };
+    let name = name_in(names, a);
+    match name.sort {
+        Sort::Variable => Extent {
+            first: u32::from(name.first),
+            size: u32::from(name.size),
+        },
+        _ => Extent { first: 0, size: 0 },
     }
-    if number(names, at) == 1 {
-        return Extent {
-            first: number(names, at + 1),
-            size: number(names, at + 2),
-        };
-    }
-    Extent { first: 0, size: 0 }
 }
 
-// The elements of a channel: the first, and how many; whether it is the host's, and then its number and capacity.
-#[derive(Drop)]
-pub struct Channel {
-    pub first: u32,
-    pub size: u32,
-    pub host: bool,
+// A channel of the host: its number among those of its role, and its capacity.
+#[derive(Clone, Copy)]
+pub struct HostChannel {
     pub number: u32,
     pub capacity: u32,
 }
 
-fn no_channel() -> Channel
-    ensures { result ≡ channel_of no_channel }
+// The elements of a channel: the first, and how many; and if it is the host's, what it is there.
+#[derive(Clone, Copy)]
+pub struct Channel {
+    pub first: u32,
+    pub size: u32,
+    pub host: Option<HostChannel>,
+}
+
+// The channel of a name, where an inner one or one of this host sort may be named; no element where it is none.
+fn channel_named(name: Name, sort: Sort) -> Channel
+    ensures { result ≡ channel_of (named_channel sort name) }
 {
+    let first = u32::from(name.first);
+    let size = u32::from(name.size);
+    if name.sort == sort {
+        let host = HostChannel {
+            number: u32::from(name.number),
+            capacity: u32::from(name.capacity),
+        };
+        return Channel {
+            first,
+            size,
+            host: Some(host),
+        };
+    }
+    if name.sort == Sort::Inner {
+        return Channel {
+            first,
+            size,
+            host: None,
+        };
+    }
     Channel {
         first: 0,
         size: 0,
-        host: false,
-        number: 0,
-        capacity: 0,
+        host: None,
     }
-}
-
-// The channel that row a declares, where an inner one or one of this host sort may be named; no element where it declares none.
-fn channel_in(names: &[u16], sort: u32, a: u32) -> Channel
-    ensures { result ≡ channel_of (channel_in names.now sort a) }
-{
-    let at = 5 * (a as usize);
-    if names.len() <= at + 4 {
-        return no_channel();
-    }
-    let found = number(names, at);
-    if found == sort {
-        return Channel {
-            first: number(names, at + 1),
-            size: number(names, at + 2),
-            host: true,
-            number: number(names, at + 3),
-            capacity: number(names, at + 4),
-        };
-    }
-    if found == 2 {
-        return Channel {
-            first: number(names, at + 1),
-            size: number(names, at + 2),
-            host: false,
-            number: 0,
-            capacity: 0,
-        };
-    }
-    no_channel()
 }
 
 // The channel of an input that names row a: an inner one, or one from the host.
-pub fn source_at(names: &[u16], a: u32) -> Channel
-    ensures { result ≡ channel_of (channel_in names.now 3 a) }
+pub fn source_at(names: &[Name], a: u32) -> Channel
+    ensures { result ≡ channel_of (channel_in names.now Source a) }
 {
-    channel_in(names, 3, a)
+    channel_named(name_in(names, a), Sort::Source)
 }
 
 // The channel of an output that names row a: an inner one, or one to the host.
-pub fn sink_at(names: &[u16], a: u32) -> Channel
-    ensures { result ≡ channel_of (channel_in names.now 4 a) }
+pub fn sink_at(names: &[Name], a: u32) -> Channel
+    ensures { result ≡ channel_of (channel_in names.now Sink a) }
 {
-    channel_in(names, 4, a)
+    channel_named(name_in(names, a), Sort::Sink)
 }
