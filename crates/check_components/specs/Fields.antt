@@ -5,10 +5,11 @@ use Rattle.meaning.specs.Declarations.{variable_at, source_at, sink_at}
 use Rattle.meaning.specs.Tree.{Expr, Target, ChannelInput, Action, output, content_at}
 use Rattle.base_layout.specs.Operands.{operand_at, GivenElements}
 use Rattle.base_layout.specs.Names.{Named}
+use Rattle.base_layout.specs.declared.Name.{Name}
 use Rattle.check_components.specs.Marks.{target_cells}
 
 -- the names of the rows are noted, and what GIVEN refers to is an element
-pub record WalkFacts (rows : List ℤ) (names : List ℕ) : Type 0 where
+pub record WalkFacts (rows : List ℤ) (names : List Name) : Type 0 where
   pub named : Named rows names
   pub given : GivenElements rows
 

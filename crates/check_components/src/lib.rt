@@ -11,7 +11,7 @@ ghost use Rattle.check_components.specs.Fields.{target_in, cells_in, input_in, o
 ghost use Rattle.check_components.specs.RowSets.{stored_at, ParsHave, SetsFrom, with_component};
 
 use base_layout::nodes::{natural, operand};
-use base_layout::{sink_at, source_at, variable_at};
+use base_layout::{Name, sink_at, source_at, variable_at};
 use base_sets::{copy, join};
 use check_subscripts::count;
 
@@ -25,7 +25,7 @@ const INPUT: usize = 2;
 const OUTPUT: usize = 3;
 
 // The cells that row r means by the variable of its field a and the subscript of its field b.
-fn cells<'a>(rows: &'a [i32], names: &'a [u16], r: usize, sort: usize, sets: &mut [u64])
+fn cells<'a>(rows: &'a [i32], names: &'a [Name], r: usize, sort: usize, sets: &mut [u64])
     requires { (sort < 4) × (r < row_count rows.now) × WalkFacts rows.now names.now }
     ensures { sets.new ≡ with_all sets.old (in_sort sort (cells_in rows.now r)) }
 {
@@ -34,7 +34,7 @@ fn cells<'a>(rows: &'a [i32], names: &'a [u16], r: usize, sort: usize, sets: &mu
 }
 
 // The cells that stand in the expression of row e, subscripts included.
-fn expression<'a>(rows: &'a [i32], names: &'a [u16], e: usize, sets: &mut [u64])
+fn expression<'a>(rows: &'a [i32], names: &'a [Name], e: usize, sets: &mut [u64])
     requires { WalkFacts rows.now names.now }
     ensures { sets.new ≡ with_all sets.old (mark_expr (content_at rows.now e).expr) }
 {
@@ -58,7 +58,7 @@ fn expression<'a>(rows: &'a [i32], names: &'a [u16], e: usize, sets: &mut [u64])
 }
 
 // The target of row r, by its fields a and b: it is changed and used, and its subscript stands in it.
-fn target<'a>(rows: &'a [i32], names: &'a [u16], r: usize, sets: &mut [u64])
+fn target<'a>(rows: &'a [i32], names: &'a [Name], r: usize, sets: &mut [u64])
     requires { (r < row_count rows.now) × WalkFacts rows.now names.now }
     ensures { sets.new ≡ with_all sets.old (mark_target (target_in rows.now r)) }
 {
@@ -68,7 +68,7 @@ fn target<'a>(rows: &'a [i32], names: &'a [u16], r: usize, sets: &mut [u64])
 }
 
 // The target that stands at row c, if one does.
-fn target_at<'a>(rows: &'a [i32], names: &'a [u16], c: usize, sets: &mut [u64])
+fn target_at<'a>(rows: &'a [i32], names: &'a [Name], c: usize, sets: &mut [u64])
     requires { WalkFacts rows.now names.now }
     ensures { sets.new ≡ with_all sets.old (mark_target (content_at rows.now c).target) }
 {
@@ -80,7 +80,7 @@ fn target_at<'a>(rows: &'a [i32], names: &'a [u16], c: usize, sets: &mut [u64])
 }
 
 // The input of row r: its target, its subscript, and the elements of its channel.
-fn of_input<'a>(rows: &'a [i32], names: &'a [u16], r: usize, sets: &mut [u64])
+fn of_input<'a>(rows: &'a [i32], names: &'a [Name], r: usize, sets: &mut [u64])
     requires { (r < row_count rows.now) × WalkFacts rows.now names.now }
     ensures { sets.new ≡ with_all sets.old (mark_input (input_in rows.now r)) }
 {
@@ -92,7 +92,7 @@ fn of_input<'a>(rows: &'a [i32], names: &'a [u16], r: usize, sets: &mut [u64])
 }
 
 // The output of row r: the elements of its channel, its subscript, and its expression.
-fn of_output<'a>(rows: &'a [i32], names: &'a [u16], r: usize, sets: &mut [u64])
+fn of_output<'a>(rows: &'a [i32], names: &'a [Name], r: usize, sets: &mut [u64])
     requires { (r < row_count rows.now) × WalkFacts rows.now names.now }
     ensures { sets.new ≡ with_all sets.old (marks (output_in rows.now r)) }
 {
@@ -104,7 +104,7 @@ fn of_output<'a>(rows: &'a [i32], names: &'a [u16], r: usize, sets: &mut [u64])
 }
 
 // The booleans of the choices from row m on.
-fn choices<'a>(rows: &'a [i32], names: &'a [u16], m: usize, sets: &mut [u64])
+fn choices<'a>(rows: &'a [i32], names: &'a [Name], m: usize, sets: &mut [u64])
     requires { WalkFacts rows.now names.now }
     ensures { sets.new ≡ with_all sets.old (mark_choices (content_at rows.now m).tests) }
 {
@@ -118,7 +118,7 @@ fn choices<'a>(rows: &'a [i32], names: &'a [u16], m: usize, sets: &mut [u64])
 }
 
 // The input of the guard of row g, if it has one.
-fn guard_input<'a>(rows: &'a [i32], names: &'a [u16], g: usize, sets: &mut [u64])
+fn guard_input<'a>(rows: &'a [i32], names: &'a [Name], g: usize, sets: &mut [u64])
     requires { WalkFacts rows.now names.now }
     ensures { sets.new ≡ with_all sets.old (of_guard mark_input (content_at rows.now g).guard.input) }
 {
@@ -137,7 +137,7 @@ fn guard_input<'a>(rows: &'a [i32], names: &'a [u16], g: usize, sets: &mut [u64]
 }
 
 // The boolean of the guard of row g.
-fn guard_boolean<'a>(rows: &'a [i32], names: &'a [u16], g: usize, sets: &mut [u64])
+fn guard_boolean<'a>(rows: &'a [i32], names: &'a [Name], g: usize, sets: &mut [u64])
     requires { WalkFacts rows.now names.now }
     ensures { sets.new ≡ with_all sets.old (mark_expr (content_at rows.now g).guard.boolean) }
 {
@@ -149,7 +149,7 @@ fn guard_boolean<'a>(rows: &'a [i32], names: &'a [u16], g: usize, sets: &mut [u6
 }
 
 // The guards of the options from row m on.
-fn options<'a>(rows: &'a [i32], names: &'a [u16], m: usize, sets: &mut [u64])
+fn options<'a>(rows: &'a [i32], names: &'a [Name], m: usize, sets: &mut [u64])
     requires { WalkFacts rows.now names.now }
     ensures { sets.new ≡ with_all sets.old (mark_options (content_at rows.now m).options) }
 {
@@ -165,7 +165,7 @@ fn options<'a>(rows: &'a [i32], names: &'a [u16], m: usize, sets: &mut [u64])
 }
 
 // What the assignment, input or output at row r counts for; nothing if another row stands there that is no IF, WHILE or ALT.
-fn step<'a>(rows: &'a [i32], names: &'a [u16], r: usize, sets: &mut [u64])
+fn step<'a>(rows: &'a [i32], names: &'a [Name], r: usize, sets: &mut [u64])
     requires { (r < row_count rows.now) × WalkFacts rows.now names.now × NotIfWhileAlt rows.now r }
     ensures { sets.new ≡ with_all sets.old (own_marks (content_at rows.now r).process) }
 {
@@ -185,7 +185,7 @@ fn step<'a>(rows: &'a [i32], names: &'a [u16], r: usize, sets: &mut [u64])
 }
 
 // What the process of row r does by itself, if one stands there.
-fn action<'a>(rows: &'a [i32], names: &'a [u16], r: usize, sets: &mut [u64])
+fn action<'a>(rows: &'a [i32], names: &'a [Name], r: usize, sets: &mut [u64])
     requires { (r < row_count rows.now) × WalkFacts rows.now names.now }
     ensures { sets.new ≡ with_all sets.old (own_marks (content_at rows.now r).process) }
 {
@@ -241,7 +241,7 @@ fn store<'a>(own: &'a [u64], r: usize, sets: &mut [u64])
 
 // The walk over a process, if one stands at row r: its own action, and then its members. The sets of a PAR are there already.
 #[cycle(walk_members_walk_process)]
-fn walk_process<'a>(rows: &'a [i32], names: &'a [u16], sets: &'a [u64], r: usize, own: &mut [u64])
+fn walk_process<'a>(rows: &'a [i32], names: &'a [Name], sets: &'a [u64], r: usize, own: &mut [u64])
     requires { WalkFacts rows.now names.now × ParsHave rows.now sets.now r × (length own.old ≡ 16) }
     ensures { own.new ≡ with_all own.old (all_marks (content_at rows.now r).process) }
 {
@@ -265,7 +265,7 @@ fn walk_process<'a>(rows: &'a [i32], names: &'a [u16], sets: &'a [u64], r: usize
 
 // The walk over the member list at row m.
 #[cycle(walk_members_walk_process)]
-fn walk_members<'a>(rows: &'a [i32], names: &'a [u16], sets: &'a [u64], m: usize, own: &mut [u64])
+fn walk_members<'a>(rows: &'a [i32], names: &'a [Name], sets: &'a [u64], m: usize, own: &mut [u64])
     requires { WalkFacts rows.now names.now × ParsHave rows.now sets.now m × (length own.old ≡ 16) }
     ensures { own.new ≡ with_all own.old (gather_all (content_at rows.now m).listed marks) }
 {
@@ -278,7 +278,7 @@ fn walk_members<'a>(rows: &'a [i32], names: &'a [u16], sets: &'a [u64], m: usize
 // The sets of the component at row p, if a process stands there; they are put into those of its PAR too.
 fn gather_component<'a>(
     rows: &'a [i32],
-    names: &'a [u16],
+    names: &'a [Name],
     p: usize,
     all: &mut [u64],
     sets: &mut [u64],
@@ -295,7 +295,7 @@ fn gather_component<'a>(
 }
 
 // The sets of each component of the PAR at row r, and its own, which are those of all of them.
-fn gather_par<'a>(rows: &'a [i32], names: &'a [u16], r: usize, sets: &mut [u64])
+fn gather_par<'a>(rows: &'a [i32], names: &'a [Name], r: usize, sets: &mut [u64])
     requires { WalkFacts rows.now names.now × (r < row_count rows.now) × (kind_at rows.now r ≡ 31) × SetsFrom rows.now sets.old (suc r) }
     ensures { SetsFrom rows.now sets.new r }
 {
@@ -309,7 +309,7 @@ fn gather_par<'a>(rows: &'a [i32], names: &'a [u16], r: usize, sets: &mut [u64])
 }
 
 // The sets of every PAR and of its components, each gathered once: from the last row up, since references go to higher rows.
-pub fn gather_all<'a>(rows: &'a [i32], names: &'a [u16], sets: &mut [u64])
+pub fn gather_all<'a>(rows: &'a [i32], names: &'a [Name], sets: &mut [u64])
     requires { WalkFacts rows.now names.now × (length sets.old ≡ 16 * row_count rows.now) }
     ensures { SetsFrom rows.now sets.new 0 }
 {

@@ -1,20 +1,21 @@
 // Refusals 7, 8 and 9: usage in a PAR. Pairs of components are compared in the order of the refusal table, until two clash.
 #![tactic(auto)]
 
-ghost use Rattle.std.specs.Prelude.{◌≡◌, false, map, ℕ, ◌+◌, ◌*◌, ◌<◌, ◌≤◌, length, get_or};
+ghost use Rattle.std.specs.Prelude.{◌≡◌, false, map, ℕ, ◌+◌, ◌*◌, ◌<◌, ◌≤◌, length};
 ghost use Rattle.std.proofs.Math.Option.{none};
 ghost use Rattle.meaning.specs.Rows.{row_count, kind_at};
 ghost use Rattle.meaning.specs.Tree.{content_at, contents};
 ghost use Rattle.meaning.specs.Verdict.{form_fault, limit_fault};
 ghost use Rattle.meaning.specs.Usage.{comparisons_in, comparisons_of, clashes, usage_fault, pairs_compared};
 ghost use Rattle.meaning.specs.Answers.{checked};
+ghost use Rattle.base_layout.specs.Names.{name_in, no_name};
 ghost use Rattle.check_usage.specs.Search.{searched, verdict_on, SearchFacts};
 
 mod members; // members.rt: the rows of a PAR's components
 mod pairs; // pairs.rt: pairs compared in turn
 
 use base_layout::nodes::{natural, operand};
-use base_layout::note_names;
+use base_layout::{NO_NAME, Name, note_names};
 use meaning::{Checked, Verdict};
 use pairs::Search;
 
@@ -107,11 +108,11 @@ fn has_par(rows: &[i32]) -> bool
     false
 }
 
-// The search, with what the rows name and their sets put into lists that have room for them; that of names is of zeros.
-fn search_in(rows: &[i32], names: &mut [u16], sets: &mut [u64]) -> Checked
+// The search, with what the rows name and their sets put into lists that have room for them; that of names has none.
+fn search_in(rows: &[i32], names: &mut [Name], sets: &mut [u64]) -> Checked
     requires table { (row_count rows.now ≤ 1024) × (form_fault rows.now ≡ none) × (limit_fault rows.now ≡ none) }
-    requires room { (5 * row_count rows.now ≤ length names.old) × (16 * row_count rows.now ≤ length sets.old) }
-    requires zeros { (i : ℕ) → get_or names.old i 0 ≡ 0 }
+    requires room { (row_count rows.now ≤ length names.old) × (16 * row_count rows.now ≤ length sets.old) }
+    requires empty { (i : ℕ) → name_in names.old i ≡ no_name }
     ensures { result ≡ checked (usage_fault rows.now) (pairs_compared rows.now) }
 {
     note_names(rows, names);
@@ -132,11 +133,11 @@ pub fn first_clash(rows: &[i32]) -> Checked
         };
     }
     if rows.len() <= 800 {
-        let mut names = [0u16; 1000];
+        let mut names = [NO_NAME; 200];
         let mut sets = [0u64; 3200];
         return search_in(rows, &mut names, &mut sets);
     }
-    let mut names = [0u16; 5120];
+    let mut names = [NO_NAME; 1024];
     let mut sets = [0u64; 16384];
     search_in(rows, &mut names, &mut sets)
 }

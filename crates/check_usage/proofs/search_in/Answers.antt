@@ -14,7 +14,7 @@ use Rattle.check_usage.proofs.search_in.Goals as goal
 
 pub note_names-requires : goal.note_names-requires
 note_names-requires c =
-    record { limits = (limit-none c.args.rows.now).0 c.requires.table.2; room = (omega (arith, declarations-at-most c.args.rows.now, c.requires.room.0), c.requires.zeros) }
+    record { limits = (limit-none c.args.rows.now).0 c.requires.table.2; room = (omega (arith, declarations-at-most c.args.rows.now, c.requires.room.0), c.requires.empty) }
 
 pub overflow_mul-end : goal.overflow_mul-end
 overflow_mul-end c = omega arith
