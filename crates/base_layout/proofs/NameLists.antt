@@ -20,25 +20,25 @@ use Rattle.base_layout.specs.Names.{name_at, no_name, names_of}
 abbrev pub Begins : List Name → List Name → Type 0
 Begins l xs = (i : ℕ) → get_or l i no_name ≡ get_or xs i no_name
 
--- one more name put in
-pub put_one : (l xs : List Name) (v : Name) (n : ℕ) → length xs ≡ n → n < length l → Begins l xs → Begins (set l n v) (xs ++ (v ∷ []))
-put_one l xs v n e h b i = go (eqb i n) refl (ltb i n) refl
+-- one more element put in after the first ones, in a list that holds d from there on
+pub put_one : {A : Type 0} (d : A) (l xs : List A) (v : A) (n : ℕ) → length xs ≡ n → n < length l → ((i : ℕ) → get_or l i d ≡ get_or xs i d) → (i : ℕ) → get_or (set l n v) i d ≡ get_or (xs ++ (v ∷ [])) i d
+put_one {A} d l xs v n e h b i = go (eqb i n) refl (ltb i n) refl
   where
-    go : (s : Bool) → eqb i n ≡ s → (t : Bool) → ltb i n ≡ t → get_or (set l n v) i no_name ≡ get_or (xs ++ (v ∷ [])) i no_name
+    go : (s : Bool) → eqb i n ≡ s → (t : Bool) → ltb i n ≡ t → get_or (set l n v) i d ≡ get_or (xs ++ (v ∷ [])) i d
     go true p t q =
-        ap (λ (i : ℕ). get_or (set l n v) i no_name) (eqb-true i n p)
-        ∙ get_or-set_same l n v no_name h
-        ∙ sym (get_or-append_seam xs v [] no_name)
-        ∙ ap (λ (i : ℕ). get_or (xs ++ (v ∷ [])) i no_name) (e ∙ sym (eqb-true i n p))
+        ap (λ (i : ℕ). get_or (set l n v) i d) (eqb-true i n p)
+        ∙ get_or-set_same l n v d h
+        ∙ sym (get_or-append_seam xs v [] d)
+        ∙ ap (λ (i : ℕ). get_or (xs ++ (v ∷ [])) i d) (e ∙ sym (eqb-true i n p))
     go false p true q =
-        get_or-set_other l n i v no_name (eqb-false i n p)
+        get_or-set_other l n i v d (eqb-false i n p)
         ∙ b i
-        ∙ sym (get_or-append xs (v ∷ []) no_name i (omega (arith, ltb-true i n q)))
+        ∙ sym (get_or-append xs (v ∷ []) d i (omega (arith, ltb-true i n q)))
     go false p false q =
-        get_or-set_other l n i v no_name (eqb-false i n p)
+        get_or-set_other l n i v d (eqb-false i n p)
         ∙ b i
-        ∙ get_or-eq_default xs no_name (omega (arith, ltb-false i n q))
-        ∙ sym (get_or-eq_default (xs ++ (v ∷ [])) no_name (omega (arith, ltb-false i n q, eqb-false i n p, length-append xs (v ∷ []))))
+        ∙ get_or-eq_default xs d (omega (arith, ltb-false i n q))
+        ∙ sym (get_or-eq_default (xs ++ (v ∷ [])) d (omega (arith, ltb-false i n q, eqb-false i n p, length-append xs (v ∷ []))))
 
 -- such a list is what it holds, filled up with no names
 pub begins-sized : (l xs : List Name) (n : ℕ) → length l ≡ n → Begins l xs → l ≡ sized n no_name xs

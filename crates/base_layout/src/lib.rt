@@ -50,6 +50,14 @@ pub struct Sums {
     pub sinks: u16,
 }
 
+// The sums of no rows.
+pub const NO_SUMS: Sums = Sums {
+    cells: 0,
+    elements: 0,
+    sources: 0,
+    sinks: 0,
+};
+
 // The sums with those of row r.
 pub fn with_row(rows: &[i32], r: usize, s: Sums) -> Sums
     requires { DeclarationReached rows.now r s }
@@ -124,12 +132,7 @@ pub fn note_names(rows: &[i32], names: &mut [Name])
     ensures numbers { names.new ≡ sized (length names.old) NO_NAME (names_of rows.now (declarations rows.now)) }
     ensures meaning { Named rows.now names.new }
 {
-    let mut s = Sums {
-        cells: 0,
-        elements: 0,
-        sources: 0,
-        sinks: 0,
-    };
+    let mut s = NO_SUMS;
     for r in 0..base_rows::declarations(rows) {
         let name = name_of(rows, r, s);
         names[r] = name;

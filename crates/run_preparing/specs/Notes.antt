@@ -1,11 +1,13 @@
 -- What is noted of the rows of a table before it is prepared, a row put into the list, and the list filled up to a row.
-use Rattle.std.specs.Prelude.{◌≡◌, List, ℕ, suc, ◌+◌, ◌*◌, ◌<◌, ℤ, length, get_or, set, eqb}
+use Rattle.std.specs.Prelude.{◌≡◌, List, ℕ, suc, ◌+◌, ◌*◌, ◌<◌, ℤ, length, get_or, set}
 use Rattle.meaning.specs.Basics.{if_else}
 use Rattle.meaning.specs.Rows.{row_count}
 use Rattle.meaning.specs.State.{program}
 use Rattle.machine.specs.Upward.{parent_of}
 use Rattle.machine.specs.RowSteps.{alt_of}
 use Rattle.base_layout.specs.declared.Name.{Name}
+use Rattle.base_layout.specs.declared.Sort.TheVariants.{Source, Sink}
+use Rattle.base_layout.specs.Names.{same_sort}
 use Rattle.run_parents.specs.Marks.{row_note}
 use Rattle.run_code.specs.declared.Row.{Row}
 use Rattle.run_code.specs.Prepared.{next_note, prepared_to}
@@ -26,7 +28,7 @@ declaration_row n host strip = record { what = 0; first = n.first; second = n.si
 
 -- the declaration of a name: a host channel has a note, one to the host a strip
 abbrev pub named_row : Name → ℕ → Row
-named_row n strip = if_else (eqb n.sort 3) (declaration_row n (suc n.number) 0) (if_else (eqb n.sort 4) (declaration_row n (suc n.number) strip) (declaration_row n 0 0))
+named_row n strip = if_else (same_sort n.sort Source) (declaration_row n (suc n.number) 0) (if_else (same_sort n.sort Sink) (declaration_row n (suc n.number) strip) (declaration_row n 0 0))
 
 -- a list of 6,150 numbers holds the rows below n, prepared, and then zeros
 abbrev pub Filled : List ℤ → ℕ → List ℕ → Type 0

@@ -11,7 +11,7 @@ ghost use Rattle.meaning.specs.Answers.{check};
 ghost use Rattle.run_code.specs.Prepared.{row, literal_row, kind_in, referred_row, fixed, owner_note, next_note, element_row, assigned_row, kept_row, row_at, prepared, Prepared};
 ghost use Rattle.run_preparing.specs.Notes.{Noted, row_put, declaration_row, named_row, Filled};
 
-use base_layout::{Name, Sums, name_of, nodes, with_row};
+use base_layout::{NO_SUMS, Name, Sort, name_of, nodes, with_row};
 use meaning::{Index, Value};
 use run_code::{Row, place};
 
@@ -233,10 +233,9 @@ fn named_row(name: Name, strip: u16) -> Row
     requires { name.number < 65535 }
     ensures { result ≡ named_row name strip }
 {
-    let sort = name.sort;
-    match sort {
-        3 => declaration(name, name.number + 1, 0),
-        4 => declaration(name, name.number + 1, strip),
+    match name.sort {
+        Sort::Source => declaration(name, name.number + 1, 0),
+        Sort::Sink => declaration(name, name.number + 1, strip),
         _ => declaration(name, 0, 0),
     }
 }
@@ -248,12 +247,7 @@ fn declare(rows: &[i32], code: &mut [u16; 6150])
     ensures { Filled rows.now (declarations rows.now) code.new }
 {
     let n = base_rows::declarations(rows);
-    let mut s = Sums {
-        cells: 0,
-        elements: 0,
-        sources: 0,
-        sinks: 0,
-    };
+    let mut s = NO_SUMS;
     let mut strip: u16 = 0;
     for r in 0..n {
         let name = name_of(rows, r, s);

@@ -37,7 +37,7 @@ loop-r-preserved c =
     let rows = c.args.rows.now in
     let r = c.loop-r.r in
     let n = c.name_of-name.result in
-    let one = put_one c.loop-r.names (names_of rows r) n r (names-length rows r) (omega (arith, c.declarations-r-end.ensures, c.requires.room.0, c.loop-r.invariant.1)) c.loop-r.invariant.2 in
+    let one = put_one no_name c.loop-r.names (names_of rows r) n r (names-length rows r) (omega (arith, c.declarations-r-end.ensures, c.requires.room.0, c.loop-r.invariant.1)) c.loop-r.invariant.2 in
     let next = next_row rows r n c.name_of-name.ensures in
     (rw add-one c.with_row-s.ensures, length-set _ _ _ ∙ c.loop-r.invariant.1, λ i. one i ∙ ap (λ (x : List Name). get_or x i no_name) next)
 

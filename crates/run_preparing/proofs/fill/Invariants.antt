@@ -3,6 +3,7 @@ use mathlib.Core.Path.{sym, subst}
 use Prim.Native.Nat.{◌+◌, ◌-◌, ◌≤◌}
 use native.Mathlib.Omega.{arith}
 use Rattle.meaning.specs.Declarations.{declarations}
+use Rattle.meaning.specs.Rows.{row_count}
 use Rattle.agreement.proofs.TableFit.{rows-limit}
 use Rattle.run_code.proofs.RowKinds.{declarations-few}
 use Rattle.run_preparing.specs.Notes.{Filled}
@@ -10,4 +11,4 @@ use Rattle.run_preparing.proofs.Filling.{whole, row_put_lem}
 use Rattle.run_preparing.proofs.fill.Given as goal
 
 abbrev pub invariant-loop-r : goal.invariant-loop-r
-invariant-loop-r l = (l.r ≤ l.n) × (l.n ≤ 1024) × (declarations l.rows ≤ l.r) × Filled l.rows l.r l.code
+invariant-loop-r l = (l.r ≤ row_count l.rows) × (row_count l.rows ≤ 1024) × (declarations l.rows ≤ l.r) × Filled l.rows l.r l.code
