@@ -1,21 +1,21 @@
 -- A list that holds the names of a table's declarations, and then no names, stands for what its rows declare.
 use mathlib.Core.Path.{◌≡◌, refl, sym, ap, ◌∙◌}
-use mathlib.Core.Bool.{Bool, true, false, ◌&&◌, ◌||◌, and-false, false≢true}
+use mathlib.Core.Bool.{Bool, true, false, ◌&&◌, ◌||◌, false≢true}
 use mathlib.Core.List.{List}
-use Prim.Native.Nat.{ℕ, zero, suc, ◌+◌, ◌*◌, ◌<◌, ◌≤◌}
+use Prim.Native.Nat.{ℕ, zero, suc, ◌<◌}
 use native.Mathlib.Omega.{arith}
 use native.Mathlib.Decide.{dec_lt}
 use lib.IntN.{ℤ}
-use lib.ListN.{length, get_or, get_or-eq_default}
+use lib.ListN.{get_or, get_or-eq_default}
 use lib.Dec.{ltb, eqb}
 use Rattle.meaning.specs.Basics.{if_else}
-use borrow.Author.Tests.{lt-ltb, ltb-true, ltb-false, ne_eqb, eqb-true}
+use borrow.Author.Tests.{ne_eqb, eqb-true}
 use Rattle.meaning.specs.Rows.{natural_at, kind_at}
 use Rattle.meaning.specs.Declarations as declared
 use Rattle.meaning.specs.Declarations.{declarations, no_variable, no_channel, sum_below, is_variable, is_channel, cells_at, elements_at, host_channels_at, capacity_at, variable_at, channel_at, source_at, sink_at}
 use Rattle.base_layout.specs.declared.Name.{Name}
 use Rattle.base_layout.specs.declared.Sort.TheVariants.{Source, Sink}
-use Rattle.base_layout.specs.Names.{variable_name, inner_name, source_name, sink_name, name_at, no_name, names_of, name_in, named_variable, named_channel, variable_in, channel_in, host_number, Named}
+use Rattle.base_layout.specs.Names.{variable_name, inner_name, source_name, sink_name, name_at, no_name, names_of, name_in, named_variable, named_channel, host_number, Named}
 use Rattle.base_layout.proofs.NameLists.{Begins, late-name, names-length, name-among}
 
 module _ (rows : List ℤ) (a : ℕ) where

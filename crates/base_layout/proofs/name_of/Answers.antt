@@ -1,5 +1,4 @@
 -- `name_of` meets its contract, by kind and role. Within the limits every number fits in 16 bits.
-use borrow.Author.Rules.{rules}
 use mathlib.Core.Path.{sym, ◌∙◌}
 use native.Mathlib.Omega.{arith}
 use Rattle.base_layout.proofs.RowSums.{size_fits, capacity-fits, variable-name, inner_name, source_name, sink-name, no_name}

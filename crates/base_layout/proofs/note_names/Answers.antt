@@ -1,10 +1,10 @@
 -- `note_names` meets its contract. The loop's invariant: the list holds the names of the rows below r, and then no names; the sums are those of the rows below r.
 use mathlib.Core.Path.{◌≡◌, refl, ap, subst, ◌∙◌}
 use mathlib.Core.List.{List}
-use Prim.Native.Nat.{ℕ, ◌≤◌, ◌<◌}
+use Prim.Native.Nat.{ℕ, ◌<◌}
 use native.Mathlib.Numerals.{add-one}
 use native.Mathlib.Omega.{arith}
-use lib.ListN.{length, get_or, length-set}
+use lib.ListN.{get_or, length-set}
 use Rattle.meaning.specs.Declarations.{declarations, sum_below}
 use Rattle.base_layout.specs.declared.Name.{Name}
 use Rattle.base_layout.specs.Names.{no_name, sums_below, names_of}

@@ -1,5 +1,4 @@
 -- `with_row` meets its contract, by kind and role. Within the limits no sum passes 16 bits.
-use borrow.Author.Rules.{rules}
 use mathlib.Core.Path.{sym, ◌∙◌}
 use native.Mathlib.Omega.{arith}
 use Rattle.base_layout.proofs.RowSums.{size_fits, cells_fit, elements-fit, sources-fit, sinks-fit, with-variable, with-source, with-sink, with-inner}

@@ -6,7 +6,6 @@ use Rattle.meaning.specs.Rows.{natural_of}
 use Rattle.base_kinds.specs.Table.{field_meant}
 use Rattle.base_top_down.specs.Forms.{is_reference}
 use Rattle.base_numbering.proofs.Entries.{held-there, held-past, held-not}
-use borrow.Author.Rules.{rules}
 use Rattle.base_numbering.proofs.held.Goals as goal
 
 pub returns-then-t-sizes : goal.returns-then-t-sizes

@@ -1,15 +1,13 @@
 -- The invariant: the numbers of the root and of the rows that earlier rows refer to are right. Assumes nothing.
-use mathlib.Core.Path.{◌≡◌, refl, sym, ap, ◌∙◌, subst}
-use Prim.Native.Nat.{ℕ, suc, ◌+◌, ◌-◌, ◌≤◌, ◌<◌}
+use mathlib.Core.Path.{refl, sym, ap, ◌∙◌, subst}
+use Prim.Native.Nat.{ℕ, suc, ◌+◌, ◌-◌, ◌<◌}
 use native.Mathlib.Omega.{arith}
 use lib.ListN.{length, set, length-set}
-use Rattle.meaning.specs.Rows.{row_count}
 use Rattle.meaning.specs.Declarations.{declarations}
 use Rattle.base_top_down.proofs.Again.{declarations-le}
 use Rattle.base_top_down.proofs.Kept.{has-root}
 use Rattle.base_numbering.specs.Arrays.{numbered_rows}
 use Rattle.base_numbering.proofs.Lists.{sizes-later, RightTo, right-first, reached, right-more, rows_next, rows-done, all-rows}
-use borrow.Author.Rules.{rules}
 use Rattle.base_numbering.proofs.number.Goals as goal
 
 pub overflow_cast-numbers : goal.overflow_cast-numbers

@@ -12,7 +12,6 @@ use Rattle.base_top_down.specs.Forms.{is_reference, form_size}
 use Rattle.base_top_down.specs.New.{item_of_row, Numbered}
 use Rattle.base_numbering.specs.Fields.{held_in, placed_in}
 use Rattle.base_numbering.proofs.RowLaws.{held-size, numbered, number-room, numbered-row}
-use borrow.Author.Rules.{rules}
 use Rattle.base_numbering.proofs.number_row.Goals as goal
 
 pub overflow_add-at_a : goal.overflow_add-at_a

@@ -6,7 +6,6 @@ use Rattle.meaning.specs.Rows.{natural_of}
 use Rattle.base_kinds.specs.Table.{field_meant}
 use Rattle.base_top_down.specs.Forms.{is_reference}
 use Rattle.base_numbering.proofs.Entries.{placed-there, placed_past, placed-not}
-use borrow.Author.Rules.{rules}
 use Rattle.base_numbering.proofs.place.Goals as goal
 
 pub returns-then-t-numbers : goal.returns-then-t-numbers

@@ -10,7 +10,6 @@ use Rattle.base_top_down.specs.Forms.{is_reference, form_at, form_size}
 use Rattle.base_top_down.proofs.New.{fields-sum, size-within}
 use Rattle.base_numbering.specs.Fields.{held_in}
 use Rattle.base_numbering.proofs.RowLaws.{held-size}
-use borrow.Author.Rules.{rules}
 use native.Mathlib.Omega.{arith}
 use Rattle.base_numbering.proofs.row_size.Goals as goal
 

@@ -1,13 +1,12 @@
 -- The declarations are within both lists, and what is copied is right. Assumes nothing.
-use mathlib.Core.Path.{◌≡◌, ap, sym, ◌∙◌, subst}
-use mathlib.Core.List.{List, ◌++◌}
-use Prim.Native.Nat.{ℕ, ◌*◌, ◌≤◌, ◌<◌}
+use mathlib.Core.Path.{◌≡◌}
+use mathlib.Core.List.{List}
+use Prim.Native.Nat.{ℕ, ◌*◌, ◌≤◌}
 use native.Mathlib.Omega.{arith}
 use lib.IntN.{ℤ}
-use lib.ListN.{length, take, drop, length-take, length-drop, length-append}
+use lib.ListN.{length, drop, length-take, length-drop, length-append}
 use Rattle.meaning.specs.Rows.{row_count}
 use Rattle.meaning.specs.Declarations.{declarations}
-use Rattle.base_top_down.specs.New.{RightNumber}
 use Rattle.base_top_down.proofs.Again.{declarations-le}
 use Rattle.base_renumbering.proofs.WriteLaws.{copied}
 use Rattle.base_renumbering.proofs.copy_declarations.Goals as goal

@@ -1,14 +1,8 @@
 -- The invariant: the declarations and the rows below r are written. Assumes nothing.
-use mathlib.Core.Path.{◌≡◌, sym, ◌∙◌}
-use Prim.Native.Nat.{ℕ, ◌-◌, ◌*◌, ◌≤◌, ◌<◌}
+use mathlib.Core.Path.{sym, ◌∙◌}
 use native.Mathlib.Omega.{arith}
-use lib.ListN.{length}
-use Rattle.meaning.specs.Rows.{row_count}
-use Rattle.meaning.specs.Declarations.{declarations}
-use Rattle.base_top_down.specs.New.{RightNumber}
 use Rattle.base_top_down.proofs.Again.{declarations-le}
-use Rattle.base_renumbering.proofs.WriteLaws.{WrittenTo, written-more, whole}
-use borrow.Author.Rules.{rules}
+use Rattle.base_renumbering.proofs.WriteLaws.{written-more, whole}
 use Rattle.base_renumbering.proofs.renumber.Goals as goal
 
 pub loop-r-init : goal.loop-r-init

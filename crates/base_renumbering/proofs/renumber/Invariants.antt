@@ -1,13 +1,10 @@
-use mathlib.Core.Path.{◌≡◌, sym, ◌∙◌}
-use Prim.Native.Nat.{ℕ, ◌-◌, ◌*◌, ◌≤◌, ◌<◌}
-use native.Mathlib.Omega.{arith}
+use mathlib.Core.Path.{◌≡◌}
+use Prim.Native.Nat.{ℕ, ◌*◌, ◌≤◌, ◌<◌}
 use lib.ListN.{length}
 use Rattle.meaning.specs.Rows.{row_count}
 use Rattle.meaning.specs.Declarations.{declarations}
 use Rattle.base_top_down.specs.New.{RightNumber}
-use Rattle.base_top_down.proofs.Again.{declarations-le}
-use Rattle.base_renumbering.proofs.WriteLaws.{WrittenTo, written-more, whole}
-use borrow.Author.Rules.{rules}
+use Rattle.base_renumbering.proofs.WriteLaws.{WrittenTo}
 use Rattle.base_renumbering.proofs.renumber.Given as goal
 
 abbrev pub invariant-loop-r : goal.invariant-loop-r

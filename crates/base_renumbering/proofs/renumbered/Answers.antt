@@ -9,7 +9,6 @@ use Rattle.meaning.specs.Rows.{natural_of}
 use Rattle.base_kinds.specs.Table.{field_meant}
 use Rattle.base_top_down.specs.Forms.{is_reference}
 use Rattle.base_renumbering.proofs.Entries.{renumbered-there, renumbered-past, renumbered-not}
-use borrow.Author.Rules.{rules}
 use Rattle.base_renumbering.proofs.renumbered.Goals as goal
 
 pub overflow_cast-result : goal.overflow_cast-result

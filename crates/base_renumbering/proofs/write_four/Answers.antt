@@ -1,7 +1,6 @@
 -- Four stores. Assumes nothing.
 use native.Mathlib.Omega.{arith}
 use lib.ListN.{length-set}
-use borrow.Author.Rules.{rules}
 use Rattle.base_renumbering.proofs.write_four.Goals as goal
 
 pub bounds-out-at-2 : goal.bounds-out-at-2

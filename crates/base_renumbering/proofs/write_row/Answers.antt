@@ -15,7 +15,6 @@ use Rattle.base_top_down.specs.New.{Wrote}
 use Rattle.base_renumbering.specs.Written.{renumbered_in}
 use Rattle.base_numbering.proofs.RowLaws.{entry_of}
 use Rattle.base_renumbering.proofs.WriteLaws.{number_small, row_small, wrote}
-use borrow.Author.Rules.{rules}
 use Rattle.base_renumbering.proofs.write_row.Goals as goal
 
 pub renumbered-a-requires : goal.renumbered-a-requires

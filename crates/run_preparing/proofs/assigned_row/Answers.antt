@@ -1,5 +1,4 @@
 -- `assigned_row` meets its contract.
-use borrow.Author.Rules.{rules}
 use Rattle.run_preparing.proofs.RowLaws.{assigned-same}
 use Rattle.run_preparing.proofs.assigned_row.Goals as goal
 

@@ -1,7 +1,6 @@
 -- `declare` meets its contract. The loop's invariant: the list holds the declarations below r, and then zeros; the sums and the capacities are those of the rows below r.
-use borrow.Author.Rules.{rules}
 use mathlib.Core.Path.{◌≡◌, refl, sym, ap, ap₂, subst, ◌∙◌}
-use Prim.Native.Nat.{ℕ, ◌+◌, ◌-◌, ◌<◌, ◌≤◌}
+use Prim.Native.Nat.{ℕ, ◌+◌, ◌<◌, ◌≤◌}
 use native.Mathlib.Numerals.{add-one}
 use native.Mathlib.Omega.{arith}
 use Rattle.meaning.specs.Declarations.{declarations, sum_below, capacity_at}

@@ -1,9 +1,7 @@
 -- `fill` meets its contract. The loop's invariant: the list holds the numbers of the rows below r, and then zeros.
-use borrow.Author.Rules.{rules}
 use mathlib.Core.Path.{sym, subst}
-use Prim.Native.Nat.{◌+◌, ◌-◌, ◌≤◌}
+use Prim.Native.Nat.{◌+◌, ◌≤◌}
 use native.Mathlib.Omega.{arith}
-use Rattle.meaning.specs.Declarations.{declarations}
 use Rattle.agreement.proofs.TableFit.{rows-limit}
 use Rattle.run_code.proofs.RowKinds.{declarations-few}
 use Rattle.run_preparing.specs.Notes.{Filled}

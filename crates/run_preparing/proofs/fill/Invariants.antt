@@ -1,13 +1,7 @@
-use borrow.Author.Rules.{rules}
-use mathlib.Core.Path.{sym, subst}
-use Prim.Native.Nat.{◌+◌, ◌-◌, ◌≤◌}
-use native.Mathlib.Omega.{arith}
+use Prim.Native.Nat.{◌≤◌}
 use Rattle.meaning.specs.Declarations.{declarations}
 use Rattle.meaning.specs.Rows.{row_count}
-use Rattle.agreement.proofs.TableFit.{rows-limit}
-use Rattle.run_code.proofs.RowKinds.{declarations-few}
 use Rattle.run_preparing.specs.Notes.{Filled}
-use Rattle.run_preparing.proofs.Filling.{whole, row_put_lem}
 use Rattle.run_preparing.proofs.fill.Given as goal
 
 abbrev pub invariant-loop-r : goal.invariant-loop-r

@@ -1,5 +1,4 @@
 -- `fixed` meets its contract: the place that a subscript means is below 65,536.
-use borrow.Author.Rules.{rules}
 use mathlib.Core.Path.{sym, ap, ◌∙◌}
 use native.Mathlib.Omega.{arith}
 use mir.Syntax.{w32}

@@ -1,5 +1,4 @@
 -- `kept_row` meets its contract.
-use borrow.Author.Rules.{rules}
 use Rattle.run_preparing.proofs.RowLaws.{kept_same}
 use Rattle.run_preparing.proofs.kept_row.Goals as goal
 

@@ -1,4 +1,3 @@
-use borrow.Author.Rules.{rules}
 use borrow.Author.Tests.{lt-ltb, le-ltb}
 use Rattle.run_code.specs.Prepared.{kind_in}
 use Rattle.run_preparing.proofs.kind_in.Goals as goal

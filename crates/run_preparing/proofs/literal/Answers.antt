@@ -1,5 +1,4 @@
 -- `literal` meets its contract: its number and 2,147,483,648 has 32 bits.
-use borrow.Author.Rules.{rules}
 use mathlib.Core.Path.{◌≡◌}
 use Prim.Native.Nat.{suc, ◌<◌}
 use native.Mathlib.Omega.{arith}

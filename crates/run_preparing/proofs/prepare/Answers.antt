@@ -1,5 +1,4 @@
 -- `prepare` meets its contract: the notes of the rows, the declarations, and the other rows.
-use borrow.Author.Rules.{rules}
 use Rattle.agreement.proofs.TableFit.{rows-limit}
 use Rattle.run_preparing.proofs.NotedRows.{noted-rows}
 use Rattle.run_preparing.proofs.prepare.Goals as goal

@@ -1,5 +1,4 @@
 -- `referred` meets its contract: the operand, or 1,024 where it is past the table.
-use borrow.Author.Rules.{rules}
 use mathlib.Core.Path.{sym, ◌∙◌}
 use Rattle.run_code.proofs.Referred.{present-here, present-past}
 use Rattle.run_preparing.proofs.referred.Goals as goal

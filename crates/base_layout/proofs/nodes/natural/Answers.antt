@@ -1,5 +1,4 @@
 -- `natural` meets its contract: the contracts of `field` and of `natural` in the crate `rows`.
-use borrow.Author.Rules.{rules}
 use mathlib.Core.Path.{ap, ◌∙◌}
 use mir.Syntax.{w32}
 use mir.ValLaws.{to_z-of_z}

@@ -1,5 +1,4 @@
 -- `operand` meets its contract, by the test whether the row is a higher one.
-use borrow.Author.Rules.{rules}
 use mathlib.Core.Path.{sym}
 use borrow.Author.Tests.{lt-ltb, le-ltb}
 use Rattle.base_layout.specs.Operands.{operand_at}

@@ -1,12 +1,10 @@
 -- `note_options` meets its contract. The invariant: what is left to note is due to the options from t on.
 use mathlib.Core.Path.{◌≡◌, refl, sym, ap, ◌∙◌}
 use mathlib.Core.List.{List, ◌∷◌}
-use Prim.Native.Nat.{ℕ, ◌<◌, ◌-◌}
+use Prim.Native.Nat.{ℕ}
 use native.Mathlib.Omega.{arith}
 use lib.ListN.{length, get_or}
-use borrow.Author.Rules.{rules}
 use Rattle.meaning.specs.Basics.{among}
-use Rattle.meaning.specs.Rows.{row_count}
 use Rattle.base_layout.proofs.Parts.{operand-higher}
 use Rattle.run_parents.specs.Marks.{first_note}
 use Rattle.run_parents.proofs.OptionLinks.{options_from, options-past, options-here, options-none}

@@ -1,15 +1,10 @@
-use mathlib.Core.Path.{◌≡◌, refl, sym, ap, ◌∙◌}
-use mathlib.Core.List.{List, ◌∷◌}
+use mathlib.Core.Path.{◌≡◌}
 use Prim.Native.Nat.{ℕ, ◌<◌, ◌-◌}
-use native.Mathlib.Omega.{arith}
 use lib.ListN.{length, get_or}
-use borrow.Author.Rules.{rules}
 use Rattle.meaning.specs.Basics.{among}
 use Rattle.meaning.specs.Rows.{row_count}
-use Rattle.base_layout.proofs.Parts.{operand-higher}
 use Rattle.run_parents.specs.Marks.{first_note}
-use Rattle.run_parents.proofs.OptionLinks.{options_from, options-past, options-here, options-none}
-use Rattle.run_parents.proofs.Noting.{noted-none, note-given, note-length}
+use Rattle.run_parents.proofs.OptionLinks.{options_from}
 use Rattle.run_parents.proofs.owners.note_options.Given as goal
 
 abbrev pub invariant-loop-t : goal.invariant-loop-t

@@ -1,10 +1,9 @@
 -- `note_owners` meets its contract. The invariant: each row has the note of its lowest ALT below r.
 use mathlib.Core.Path.{◌≡◌, refl, sym, ap, ◌∙◌}
 use mathlib.Core.List.{List}
-use Prim.Native.Nat.{ℕ, ◌-◌, ◌<◌, ◌≤◌}
+use Prim.Native.Nat.{ℕ, ◌<◌}
 use native.Mathlib.Omega.{arith}
 use lib.ListN.{length, get_or, length-replicate}
-use borrow.Author.Rules.{rules}
 use Rattle.meaning.specs.Basics.{lowest}
 use Rattle.meaning.specs.Rows.{row_count}
 use Rattle.meaning.specs.State.{program}

@@ -1,6 +1,5 @@
 -- `link_note` meets its contract, by its test.
 use borrow.Author.Tests.{lt-ltb, le-ltb}
-use borrow.Author.Rules.{rules}
 use Rattle.meaning.specs.Rows.{row_count}
 use Rattle.run_parents.proofs.parents.link_note.Goals as goal
 

@@ -2,7 +2,6 @@
 use mathlib.Core.Path.{sym, ◌∙◌}
 use Prim.Native.Nat.{◌<◌}
 use native.Mathlib.Omega.{arith}
-use borrow.Author.Rules.{rules}
 use Rattle.meaning.specs.Rows.{row_count}
 use Rattle.run_parents.proofs.MemberNotes.{row-alone, member-noted, no-member-noted}
 use Rattle.run_parents.specs.Parents.{NextIs}

@@ -1,14 +1,9 @@
 -- `note_members` meets its contract. The invariant: what notes the members from t on notes those from m on.
-use mathlib.Core.Path.{◌≡◌, refl, sym, ◌∙◌}
-use mathlib.Core.List.{List}
-use Prim.Native.Nat.{ℕ, ◌-◌}
-use lib.IntN.{ℤ}
-use lib.ListN.{length}
+use mathlib.Core.Path.{refl, sym, ◌∙◌}
 use borrow.Author.Rules.{rules}
-use Rattle.meaning.specs.Rows.{row_count}
-use Rattle.meaning.specs.Tree.{empty, content_at}
+use Rattle.meaning.specs.Tree.{content_at}
 use Rattle.run_parents.proofs.Standing.{found}
-use Rattle.run_parents.specs.Parents.{ParentsNumbered, NextOf, NextIs, ProcessesNoted}
+use Rattle.run_parents.specs.Parents.{NextOf, NextIs}
 use Rattle.run_parents.proofs.MemberNotes.{none-past, no-members-noted, link-noted}
 use Rattle.run_parents.proofs.NextLinks.{numbered-none, numbered-then, numbered_more, link-next}
 use Rattle.run_parents.proofs.parents.note_members.Goals as goal

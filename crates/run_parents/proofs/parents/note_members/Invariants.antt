@@ -1,15 +1,10 @@
-use mathlib.Core.Path.{◌≡◌, refl, sym, ◌∙◌}
+use mathlib.Core.Path.{◌≡◌}
 use mathlib.Core.List.{List}
 use Prim.Native.Nat.{ℕ, ◌-◌}
-use lib.IntN.{ℤ}
 use lib.ListN.{length}
-use borrow.Author.Rules.{rules}
 use Rattle.meaning.specs.Rows.{row_count}
-use Rattle.meaning.specs.Tree.{empty, content_at}
-use Rattle.run_parents.proofs.Standing.{found}
-use Rattle.run_parents.specs.Parents.{ParentsNumbered, NextOf, NextIs, ProcessesNoted}
-use Rattle.run_parents.proofs.MemberNotes.{none-past, no-members-noted, link-noted}
-use Rattle.run_parents.proofs.NextLinks.{numbered-none, numbered-then, numbered_more, link-next}
+use Rattle.meaning.specs.Tree.{content_at}
+use Rattle.run_parents.specs.Parents.{ParentsNumbered, NextOf, ProcessesNoted}
 use Rattle.run_parents.proofs.parents.note_members.Given as goal
 
 abbrev pub invariant-loop-t : goal.invariant-loop-t

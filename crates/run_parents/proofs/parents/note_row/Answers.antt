@@ -1,7 +1,6 @@
 -- `note_row` meets its contract, by the part of the row in settling.
 use mathlib.Core.Path.{sym, ◌∙◌}
 use lib.ListN.{length}
-use borrow.Author.Rules.{rules}
 use Rattle.run_parents.proofs.Standing.{found}
 use Rattle.run_parents.proofs.MemberNotes.{ending-noted, single-noted, bare-noted}
 use Rattle.run_parents.specs.Parents.{NextOf, NextIs}

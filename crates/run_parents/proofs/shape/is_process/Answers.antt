@@ -1,5 +1,4 @@
 -- `is_process` meets its contract: what stands at a row, by its part in settling.
-use borrow.Author.Rules.{rules}
 use Rattle.run_parents.proofs.Standing.{found}
 use Rattle.run_parents.proofs.shape.is_process.Goals as goal
 

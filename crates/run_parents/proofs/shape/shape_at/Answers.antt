@@ -1,12 +1,5 @@
 -- `shape_at` meets its contract, by the number of the kind.
-use mathlib.Core.List.{List}
-use mathlib.Core.Path.{◌≡◌, sym, ap, ap₂, ◌∙◌}
-use Prim.Native.Nat.{ℕ}
-use lib.IntN.{ℤ}
-use borrow.Author.Rules.{rules}
-use Rattle.meaning.specs.Rows.{field_at, natural_at}
-use Rattle.base_layout.proofs.RowNodes.{node_of}
-use Rattle.run_parents.specs.Shapes.{higher_row, settling_shape, shape_at}
+use mathlib.Core.Path.{sym, ap, ap₂, ◌∙◌}
 use Rattle.run_parents.specs.declared.shape.Shape.TheVariants.{Ending, Single, Link}
 use Rattle.run_parents.specs.declared.shape.Mode.TheVariants.{InTurn, Together, ByStep}
 use Rattle.run_parents.proofs.Standing.{told, told-past, told-neither, operand-is}
