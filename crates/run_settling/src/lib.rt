@@ -69,8 +69,7 @@ pub fn change_states(code: &[u16; 6150], at: usize, n: u8, sender: u16, kept: &m
     requires inside { (at < 1024) × (sender ≤ 1024) }
     ensures { (rows : List ℤ) → Prepared rows code.now → AreProcesses rows at sender → kept_lists kept.new ≡ states_changed rows at n sender (kept_lists kept.old) }
 {
-    kept.came[0] = 0;
-    kept.came[2049] = 0;
+    kept.forget();
     change_up(code, at, n, kept);
     if sender != 0 {
         let row = sender as usize - 1;

@@ -3,45 +3,37 @@
 ghost use Rattle.std.specs.Prelude.{◌≡◌, false, List, ◌-◌, ◌<◌, ◌≤◌, ℤ, get_or};
 ghost use Rattle.meaning.specs.Tree.{content_at};
 ghost use Rattle.meaning.specs.State.{program, process_at};
-ghost use Rattle.machine.specs.Counts.{list_after};
 ghost use Rattle.run_code.specs.Prepared.{Prepared};
 ghost use Rattle.run_starting.specs.Parts.{Links, starts_if};
 
+use crate::rows::RowList;
 use run_code::place;
 
-// The row states; by row the members left of a running PAR; the rows that come to work and, from place 2,049 on, the blocks that start, each with their number before
-// them.
+// The row states; by row the members left of a running PAR; the rows that come to work; the blocks that start.
 #[derive(Drop)]
 pub struct Kept {
     pub states: [u8; 1024],
     pub left: [u16; 1024],
-    pub came: [u16; 4098],
-}
-
-// Row r is listed after the n rows that are, in the list that begins at place `from`, if there is room.
-fn list_after(came: &mut [u16; 4098], from: usize, n: u16, r: usize)
-    requires { (r < 1024) × (from ≤ 2049) }
-    ensures { came.new ≡ list_after from n r came.old }
-{
-    if n < 2048 {
-        came[from + n as usize + 1] = r as u16;
-        came[from] = n + 1;
-    }
+    pub came: RowList,
+    pub blocks: RowList,
 }
 
 impl Kept {
     ghost use Rattle.machine.specs.Counts as counts;
     ghost use Rattle.machine.specs.Counts.{row_comes, state_set, start_beneath, start_members};
-    ghost use Rattle.run_starting.specs.Kept.{kept_lists, idle_lists, block_begins};
+    ghost use Rattle.run_starting.specs.Kept.{kept_lists, idle_lists, block_begins, lists_forgotten};
 
     // All rows are idle, and no row has come to work.
     pub fn new() -> Kept
         ensures { kept_lists result ≡ idle_lists }
     {
+        let came = RowList::new();
+        let blocks = RowList::new();
         Kept {
             states: [0; 1024],
             left: [0; 1024],
-            came: [0; 4098],
+            came,
+            blocks,
         }
     }
 
@@ -50,8 +42,7 @@ impl Kept {
         requires { r < 1024 }
         ensures { kept_lists self.new ≡ row_comes r (kept_lists self.old) }
     {
-        let n = self.came[0];
-        list_after(&mut self.came, 0, n, r);
+        self.came.push(r);
     }
 
     // The block of row r starts.
@@ -59,8 +50,15 @@ impl Kept {
         requires { r < 1024 }
         ensures { kept_lists self.new ≡ block_begins r (kept_lists self.old) }
     {
-        let n = self.came[2049];
-        list_after(&mut self.came, 2049, n, r);
+        self.blocks.push(r);
+    }
+
+    // No row has come to work, and no block has started.
+    pub fn forget(&mut self)
+        ensures { kept_lists self.new ≡ lists_forgotten (kept_lists self.old) }
+    {
+        self.came.forget();
+        self.blocks.forget();
     }
 
     // Row r has n members left: it ends where there are none.

@@ -2,4 +2,5 @@
 #![tactic(auto)]
 
 pub mod kept; // kept.rt: what settling keeps; a process starts
+pub mod rows; // rows.rt: a list of rows
 pub mod reset; // reset.rt: every row of a process becomes idle
