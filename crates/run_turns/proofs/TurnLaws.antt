@@ -14,7 +14,8 @@ use Rattle.meaning.specs.State.{program, process_at}
 use Rattle.meaning.specs.Values.{Message}
 use Rattle.machine.specs.Came.{first_rows}
 use Rattle.run_intents.specs.Does.{option_does, does_of}
-use Rattle.run_notes.specs.Notes.{Lists, note_numbers, note_row, leave_row}
+use Rattle.run_notes.specs.declared.Notes.{Notes}
+use Rattle.run_notes.specs.Notes.{note_numbers, note_row, leave_row}
 use Rattle.meaning.specs.Basics.{if_else}
 use Rattle.meaning.specs.Buffers.{Buffers, mark, number_in, cell_of}
 use Rattle.run_changes.specs.declared.Data.{Data}
@@ -28,8 +29,8 @@ use Rattle.run_turns.specs.Results.{arrays_of}
 use Rattle.run_turns.specs.Turns.{leave_noted, leave_step, note_listed, written, with_put, Host, host_of, host_put}
 
 -- the owner of a step is left, and then the row of its note, if there is one
-module _ (rows : List ℤ) (owner sender : ℕ) (m : Lists) {l : Lists} (e : l ≡ leave_row rows owner m) where
-  pub both_left : (sender ≡ 0 → ⊥) → {k : Lists} → k ≡ leave_row rows (sender - 1) l → k ≡ leave_step rows owner sender m
+module _ (rows : List ℤ) (owner sender : ℕ) (m : Notes) {l : Notes} (e : l ≡ leave_row rows owner m) where
+  pub both_left : (sender ≡ 0 → ⊥) → {k : Notes} → k ≡ leave_row rows (sender - 1) l → k ≡ leave_step rows owner sender m
   both_left h f = f ∙ ap (leave_row rows (sender - 1)) e ∙ go sender h
     where
       go : (n : ℕ) → (n ≡ 0 → ⊥) → leave_row rows (n - 1) (leave_row rows owner m) ≡ leave_noted rows n (leave_row rows owner m)
@@ -41,15 +42,15 @@ module _ (rows : List ℤ) (owner sender : ℕ) (m : Lists) {l : Lists} (e : l �
 
 module _ (rows : List ℤ) (cells : List Message) (places counts : List ℕ) (lines : ℕ) where
   -- a row is noted
-  abbrev note_one : ℕ → Lists → Lists
+  abbrev note_one : ℕ → Notes → Notes
   note_one r m = note_row rows (λ b. note_numbers (option_does lines cells places b)) r (note_numbers (does_of lines cells places counts (action_of (process_at (program rows) r)))) m
 
-  last-noted : (l : List ℕ) (r : ℕ) (m : Lists) → note_listed rows cells places counts lines (l ++ r ∷ []) m ≡ note_one r (note_listed rows cells places counts lines l m)
+  last-noted : (l : List ℕ) (r : ℕ) (m : Notes) → note_listed rows cells places counts lines (l ++ r ∷ []) m ≡ note_one r (note_listed rows cells places counts lines l m)
   last-noted [] r m = refl
   last-noted (q ∷ l) r m = last-noted l r (note_one q m)
 
   -- one more row of the list is noted
-  pub one-more-noted : (came : List ℕ) (i : ℕ) (m : Lists) {l k : Lists} → l ≡ note_listed rows cells places counts lines (first_rows 0 i came) m → k ≡ note_one (get_or came (i + 1) 0) l
+  pub one-more-noted : (came : List ℕ) (i : ℕ) (m : Notes) {l k : Notes} → l ≡ note_listed rows cells places counts lines (first_rows 0 i came) m → k ≡ note_one (get_or came (i + 1) 0) l
       → k ≡ note_listed rows cells places counts lines (first_rows 0 (i + 1) came) m
   one-more-noted came i m e f =
       let z : 0 + i ≡ i = omega arith in

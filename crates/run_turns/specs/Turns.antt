@@ -10,7 +10,8 @@ use Rattle.machine.specs.Lending.{Lent}
 use Rattle.machine.specs.Came.{local_at}
 use Rattle.run_values.specs.declared.store.State.{State}
 use Rattle.run_values.specs.Cells.{with_cell, with_unset}
-use Rattle.run_notes.specs.Notes.{Lists, leave_row}
+use Rattle.run_notes.specs.declared.Notes.{Notes}
+use Rattle.run_notes.specs.Notes.{leave_row}
 use Rattle.run_noting.specs.Noting.{row_noted}
 use Rattle.run_changes.specs.declared.Data.{Data}
 use Rattle.run_changes.specs.declared.Data.TheVariants.{Nothing, Cell, Reading, Output}
@@ -18,16 +19,16 @@ use Rattle.run_turns.specs.declared.Put.{Put}
 use Rattle.run_turns.specs.declared.Put.TheVariants.{Nowhere, Set, Unset}
 
 -- the row of a note, one more than its number, is taken off; 0 is none
-abbrev pub leave_noted : List ℤ → ℕ → Lists → Lists
+abbrev pub leave_noted : List ℤ → ℕ → Notes → Notes
 leave_noted rows zero m = m
 leave_noted rows (suc r) m = leave_row rows r m
 
 -- the rows of a step are taken off: its owner, and the row that outputs, if there is one
-abbrev pub leave_step : List ℤ → ℕ → ℕ → Lists → Lists
+abbrev pub leave_step : List ℤ → ℕ → ℕ → Notes → Notes
 leave_step rows owner sender m = leave_noted rows sender (leave_row rows owner m)
 
 -- each of these rows is noted, one after another
-abbrev pub note_listed : List ℤ → List Message → List ℕ → List ℕ → ℕ → List ℕ → Lists → Lists
+abbrev pub note_listed : List ℤ → List Message → List ℕ → List ℕ → ℕ → List ℕ → Notes → Notes
 note_listed rows cells places counts lines [] m = m
 note_listed rows cells places counts lines (r ∷ l) m = note_listed rows cells places counts lines l (row_noted lines cells places counts rows r m)
 
