@@ -1,7 +1,7 @@
 -- What the code does to the notes when rows are noted is what the definitions say.
 use mathlib.Core.Path.{◌≡◌, sym, ap, ◌∙◌}
 use mathlib.Core.List.{List, [], ◌∷◌}
-use Prim.Native.Nat.{ℕ, ◌+◌, ◌-◌, ◌%◌}
+use Prim.Native.Nat.{ℕ}
 use native.Mathlib.Omega.{arith}
 use lib.IntN.{ℤ}
 use Rattle.meaning.specs.Tree.{AltOption}
@@ -9,7 +9,7 @@ use Rattle.run_notes.specs.declared.Note.{Note}
 use Rattle.run_notes.specs.declared.Notes.{Notes}
 use Rattle.run_intents.specs.declared.Does.TheVariants.{Selects}
 use Rattle.run_notes.proofs.Changes.{test-yes, test-no}
-use Rattle.run_notes.specs.Notes.{noted_of, note_numbers, stored, raising, wait_input, wake_option, wake_options, options_at, wake, wait_output, note_as, note_options, note_alt, note_row}
+use Rattle.run_notes.specs.Notes.{noted_of, note_numbers, stored, raising, wait_input, wake_option, wake_options, options_at, wait_output, note_as, note_options, note_alt, note_row}
 
 -- options one after another
 pub none-woken : (e : ℕ) (m : Notes) {bs : List AltOption} → bs ≡ [] → m ≡ wake_options e bs m
