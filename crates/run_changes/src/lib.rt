@@ -43,7 +43,7 @@ fn becomes(owner: usize, at: usize, next: u8, written: Data) -> Change
 }
 
 // The row of a note, which is one more.
-fn row_of(note: u16) -> usize
+fn row_of(note: u32) -> usize
     ensures { result ≡ row_noted note }
 {
     (note as usize + 1023) % 1024
@@ -54,7 +54,7 @@ fn communicates(notes: &Notes, owner: usize, at: usize, next: u8, e: usize, cell
     ensures { result ≡ communicated notes.now.acts notes.now.sent notes.now.elements owner at next e cell }
 {
     let sender = notes.elements[2 * (e % 256) + 1];
-    let s = row_of(sender);
+    let s = row_of(u32::from(sender));
     let x = notes.sent[s];
     let mark = notes.acts[3 * s + 2] % 256;
     Change {
