@@ -34,7 +34,7 @@ use Rattle.run_notes.specs.Notes.{lists_of}
 use Rattle.run_changes.specs.declared.Change.{Change}
 use Rattle.run_changes.specs.Changes.{change_in, DataFits}
 use Rattle.run_starting.specs.Parts.{IsProcess}
-use Rattle.run_turns.specs.declared.Put.{Put}
+use Rattle.std.specs.Prelude.{Option}
 use Rattle.run_turns.specs.Results.{ResultReached, arrays_of}
 use Rattle.run_turns.specs.Ending.{is_last, outcome_with}
 use Rattle.run_turns.specs.Showing.{shown_from_place, lists_lent}
@@ -241,7 +241,7 @@ blocks-below y =
 
 -- after the turn: the host and a cell have what the change puts there, the cells of the blocks that started are unset, the rows of the step are left, and those that came to work are noted
 pub stands-further : (y : Settling) → let x = y.changing in let p = x.picking in let t = p.counting.standing in let g = t.setting in let b = t.arrays in
-    (h : Host) → h ≡ host_put x.change.written (host_of b.places b.numbers b.counts b.output_marks) → (w : Put) → w ≡ written g.readings g.given b.places x.change.written
+    (h : Host) → h ≡ host_put x.change.written (host_of b.places b.numbers b.counts b.output_marks) → (w : Option (ℕ × Option ℤ)) → w ≡ written g.readings g.given b.places x.change.written
     → (s : store.State) → s ≡ with_put w (record { values = b.cells; marks = b.marks; places = h.places }) → (z : store.State) → z ≡ blocks_unset g.rows (listed_blocks y.came) s → (l : Notes) → l ≡ leave_step g.rows x.change.owner x.change.sender t.notes
     → (m : Notes) → m ≡ note_listed g.rows (cells_in z.values z.marks) z.places h.counts g.lines (listed_rows y.came) l
     → (readied taken : List ℕ) → readied ≡ set t.lists.ready_counts t.n p.counting.count → taken ≡ set t.lists.taken_rows t.n p.row
