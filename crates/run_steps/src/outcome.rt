@@ -11,7 +11,7 @@ use meaning::Outcome;
 fn state_at(states: &[u8], r: usize) -> u8
     ensures { result ≡ get_or states.now r 0 }
 {
-    if r < states.len() { states[r] } else { 0 }
+    states.get(r).copied().unwrap_or(0)
 }
 
 // Whether one of the first n rows is stopped.
@@ -19,14 +19,7 @@ fn any_stopped(states: &[u8], n: usize) -> bool
     requires { n ≤ length states.now }
     ensures { result ≡ any_of is_stopped (take n states.now) }
 {
-    let mut r = 0;
-    while r < n {
-        if 10 <= states[r] {
-            return true;
-        }
-        r += 1;
-    }
-    false
+    states[..n].iter().any(|&state| 10 <= state)
 }
 
 // The outcome at rest of a table of n rows.
