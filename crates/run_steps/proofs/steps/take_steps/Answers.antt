@@ -5,21 +5,14 @@ use mathlib.Core.List.{List}
 use Prim.Native.Nat.{ℕ, ◌≤◌}
 use lib.IntN.{ℤ}
 use native.Mathlib.Omega.{arith}
-use borrow.Author.Rules.{rules}
-use mir.ValLaws.{to_z-of_z}
-use mir.Val.{SFits}
-use mir.Syntax.{w32}
 use Rattle.meaning.specs.Readings.{Sheet}
 use Rattle.meaning.specs.Trace.{TraceLists}
 use Rattle.meaning.specs.Answers.{check}
 use Rattle.machine.specs.Held.{KeptReadings}
 use Rattle.machine.specs.Came.{first_rows, listed_blocks}
-use Rattle.run_code.specs.Prepared.{Prepared}
-use Rattle.run_notes.specs.declared.Notes.{Notes}
 use Rattle.run_turns.specs.Showing.{lists_lent}
 use Rattle.run_turns.specs.Results.{arrays_with}
-use Rattle.run_turns.specs.Machine.{machine_of}
-use Rattle.run_turns.specs.Turns.{Host, host_with, blocks_unset}
+use Rattle.run_turns.specs.Turns.{host_with, blocks_unset}
 use Rattle.run_turns.proofs.ChangedRows.{root_is, root_below, root-is-process}
 use Rattle.run_turns.proofs.Turn as turn
 use Rattle.run_turns.proofs.Turn.{Setting, Begun, Standing, Counting, Picking, Changing, Settling}
