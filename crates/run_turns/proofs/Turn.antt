@@ -1,6 +1,6 @@
 -- A turn of a run, in records that grow with it: what the run is given, how it begins, where it stands, how many steps are ready, the row that it picks, the step's change, and the row states after it.
 -- What the laws of `Stands` say of them.
-use mathlib.Core.Path.{◌≡◌, sym, ap, ap₂, ◌∙◌}
+use mathlib.Core.Path.{◌≡◌, refl, sym, ap, ap₂, ◌∙◌}
 use mathlib.Core.Bool.{Bool, true, false}
 use mathlib.Core.Option.{none}
 use mathlib.Core.List.{List}
@@ -29,12 +29,15 @@ use Rattle.run_ready_bits.specs.Bits.{Shown, no_rows}
 use Rattle.run_code.specs.Prepared.{Prepared}
 use Rattle.run_values.specs.declared.store.State as store
 use Rattle.run_values.specs.Cells.{cells_in, unset_state}
-use Rattle.run_notes.specs.Notes.{Lists, lists_of}
+use Rattle.run_notes.specs.declared.Notes.{Notes}
+use Rattle.run_notes.specs.Notes.{no_notes}
 use Rattle.run_changes.specs.declared.Change.{Change}
+use Rattle.run_changes.specs.declared.Outputs.{Outputs}
+use Rattle.run_changes.specs.Outputs.{no_outputs}
 use Rattle.run_changes.specs.Changes.{change_in, DataFits}
 use Rattle.run_starting.specs.Parts.{IsProcess}
-use Rattle.run_turns.specs.declared.Put.{Put}
-use Rattle.run_turns.specs.Results.{ResultReached, arrays_of}
+use Rattle.std.specs.Prelude.{Option}
+use Rattle.run_turns.specs.Results.{ResultReached, arrays_of, arrays_with}
 use Rattle.run_turns.specs.Ending.{is_last, outcome_with}
 use Rattle.run_turns.specs.Showing.{shown_from_place, lists_lent}
 use Rattle.run_turns.specs.Turns.{leave_step, note_listed, written, with_put, blocks_unset, Host, host_of, host_put}
@@ -79,7 +82,7 @@ pub record Standing : Type 0 where
   pub arrays : Buffers
   pub left : List ℕ
   pub came : List ℕ
-  pub notes : Lists
+  pub notes : Notes
   pub stands : Stands setting.rows setting.sheet setting.choices setting.budget setting.first n lists (machine_of arrays left came notes)
 
 -- so many steps are ready there, and whether the run ends
@@ -126,12 +129,12 @@ began-below b =
     stands.began-below _ g.accepted _ _ _ _ g.kept g.few (laws g) g.choices g.budget g.first _ b.root_is _ _ _ b.up
 
 -- once they are noted, the run stands where it starts
-pub stands-first : (b : Begun) → let g = b.setting in (s : store.State) → s ≡ unset_state → (bits : List ℕ) → bits ≡ no_rows → (m : Lists)
-    → m ≡ note_listed g.rows (cells_in s.values s.marks) s.places (replicate 8 0) g.lines (listed_rows b.came) (lists_of (replicate 3072 0) (replicate 1024 (pos 0)) (replicate 512 0) bits)
-    → Stands g.rows g.sheet g.choices g.budget g.first 0 g.first (machine_of (arrays_of s b.states (replicate 1024 (pos 0)) (replicate 8 0) (replicate 1024 0)) b.left b.came m)
-stands-first b =
+pub stands-first : (b : Begun) → let g = b.setting in (s : store.State) → s ≡ unset_state → (o : Outputs) → o ≡ no_outputs → (l : Notes) → l ≡ no_notes → (m : Notes)
+    → m ≡ note_listed g.rows (cells_in s.values s.marks) s.places o.counts g.lines (listed_rows b.came) l
+    → Stands g.rows g.sheet g.choices g.budget g.first 0 g.first (machine_of (arrays_with s b.states o) b.left b.came m)
+stands-first b s s-is o o-is l l-is m m-is =
     let g = b.setting in
-    stands.stands-first _ g.accepted _ _ _ _ g.kept g.few (laws g) g.choices g.budget g.first _ b.root_is _ _ _ b.up
+    rw o-is (stands.stands-first _ g.accepted _ _ _ _ g.kept g.few (laws g) g.choices g.budget g.first _ b.root_is _ _ _ b.up s s-is no_rows refl m (rw (o-is, l-is) at m-is))
 
 -- the arrays have a state for each row of the table
 pub states-room : (t : Standing) → length t.arrays.states ≡ 1024
@@ -240,9 +243,9 @@ blocks-below y =
 
 -- after the turn: the host and a cell have what the change puts there, the cells of the blocks that started are unset, the rows of the step are left, and those that came to work are noted
 pub stands-further : (y : Settling) → let x = y.changing in let p = x.picking in let t = p.counting.standing in let g = t.setting in let b = t.arrays in
-    (h : Host) → h ≡ host_put x.change.written (host_of b.places b.numbers b.counts b.output_marks) → (w : Put) → w ≡ written g.readings g.given b.places x.change.written
-    → (s : store.State) → s ≡ with_put w (record { values = b.cells; marks = b.marks; places = h.places }) → (z : store.State) → z ≡ blocks_unset g.rows (listed_blocks y.came) s → (l : Lists) → l ≡ leave_step g.rows x.change.owner x.change.sender t.notes
-    → (m : Lists) → m ≡ note_listed g.rows (cells_in z.values z.marks) z.places h.counts g.lines (listed_rows y.came) l
+    (h : Host) → h ≡ host_put x.change.written (host_of b.places b.numbers b.counts b.output_marks) → (w : Option (ℕ × Option ℤ)) → w ≡ written g.readings g.given b.places x.change.written
+    → (s : store.State) → s ≡ with_put w (record { values = b.cells; marks = b.marks; places = h.places }) → (z : store.State) → z ≡ blocks_unset g.rows (listed_blocks y.came) s → (l : Notes) → l ≡ leave_step g.rows x.change.owner x.change.sender t.notes
+    → (m : Notes) → m ≡ note_listed g.rows (cells_in z.values z.marks) z.places h.counts g.lines (listed_rows y.came) l
     → (readied taken : List ℕ) → readied ≡ set t.lists.ready_counts t.n p.counting.count → taken ≡ set t.lists.taken_rows t.n p.row
     → Stands g.rows g.sheet g.choices g.budget g.first (t.n + 1) (lists_lent readied taken) (machine_of (arrays_of z y.states h.numbers h.counts h.output_marks) y.left y.came m)
 stands-further y h host-is w w-is s s-is z z-is l left_is m m-is readied taken readied-is taken_is =
