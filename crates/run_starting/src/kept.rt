@@ -19,6 +19,7 @@ pub struct Kept {
 }
 
 impl Kept {
+    ghost use Rattle.machine.specs.Came.{listed_rows, listed_blocks};
     ghost use Rattle.machine.specs.Counts as counts;
     ghost use Rattle.machine.specs.Counts.{row_comes, state_set, start_beneath, start_members};
     ghost use Rattle.run_starting.specs.Kept.{kept_lists, idle_lists, block_begins, lists_forgotten};
@@ -59,6 +60,20 @@ impl Kept {
     {
         self.came.forget();
         self.blocks.forget();
+    }
+
+    // The rows that have come to work.
+    pub fn working(&self) -> &[u16]
+        ensures { result.now ≡ listed_rows (kept_lists self.now).came }
+    {
+        self.came.rows()
+    }
+
+    // The blocks that have started.
+    pub fn started(&self) -> &[u16]
+        ensures { result.now ≡ listed_blocks (kept_lists self.now).came }
+    {
+        self.blocks.rows()
     }
 
     // Row r has n members left: it ends where there are none.

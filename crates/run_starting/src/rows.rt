@@ -1,5 +1,5 @@
 // Rows in a list with room for 2,048.
-ghost use Rattle.std.specs.Prelude.{◌≡◌, ◌∷◌, ◌<◌, ◌≤◌, ◌↔◌, IsTrue, replicate, take};
+ghost use Rattle.std.specs.Prelude.{◌≡◌, ◌∷◌, ◌<◌, ◌≤◌, replicate, take};
 ghost use Rattle.machine.specs.Counts.{list_after};
 
 // The first `count` rows are listed.
@@ -40,12 +40,6 @@ impl RowList {
         ensures { numbers_of self.new ≡ 0 ∷ self.old.rows }
     {
         self.count = 0;
-    }
-
-    pub fn is_empty(&self) -> bool
-        ensures { IsTrue result ↔ (self.now.count ≡ 0) }
-    {
-        self.count == 0
     }
 
     // The rows that are listed.
