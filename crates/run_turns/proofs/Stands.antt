@@ -3,8 +3,9 @@ use mathlib.Core.Path.{◌≡◌, refl, sym, ap, subst, ◌∙◌}
 use mathlib.Core.Logic.{◌⊎◌}
 use mathlib.Core.Bool.{Bool, true, false}
 use mathlib.Core.Option.{none, some}
-use mathlib.Core.List.{List, [], ◌∷◌}
-use Prim.Native.Nat.{ℕ, suc, ◌+◌, ◌-◌, ◌%◌, ◌<◌, ◌≤◌}
+use mathlib.Core.List.Memᴰ
+use mathlib.Core.List.{List, [], ◌∷◌, Memᴰ}
+use Prim.Native.Nat.{ℕ, zero, suc, ◌+◌, ◌-◌, ◌%◌, ◌<◌, ◌≤◌}
 use native.Mathlib.Omega.{arith}
 use lib.IntN.{ℤ, pos}
 use lib.ListN.{length, get_or, set, replicate, length-replicate}
@@ -31,7 +32,6 @@ use Rattle.machine.specs.Held.{HoldsState, blank, KeptReadings, put_unset}
 use Rattle.machine.specs.Counts.{Kept, kept_of, Counted, start_row, change_up_counted, end_up_counted, forgotten}
 use Rattle.machine.specs.Came.{listed_rows, listed_blocks, local_at}
 use Rattle.machine.proofs.CameRows.{WorkListed, start-gathers}
-use Rattle.machine.proofs.CameLists.{listed_at}
 use Rattle.machine.proofs.CountedSteps.{start-counted}
 use Rattle.machine.proofs.RowReady.{step-ordered}
 use Rattle.machine.proofs.MachineSteps.{start-held}
@@ -74,13 +74,15 @@ pub record NoteLaws (rows : List ℤ) (sheet : Sheet) (lines : ℕ) : Type 0 whe
   pub notes : (l : List Label) (t : State) → OrderOf rows sheet l t → (b : Buffers) → HoldsState rows t b → NotesRight rows sheet lines t b
   pub starts : lists_of (replicate 3072 0) (replicate 1024 (pos 0)) (replicate 512 0) no_rows ≡ noted_by rows (λ r. waits)
 
+-- what stands at a place of a list is in it
+member-at : (l : List ℕ) (i : ℕ) → i < length l → Memᴰ (get_or l i 0) l
+member-at [] i h = absurd (omega arith)
+member-at (x ∷ l) zero h = Memᴰ.head refl
+member-at (x ∷ l) (suc i) h = Memᴰ.tail (member-at l i (omega arith))
+
 -- the rows that are listed are rows of the arrays
-pub rows-listed : (rows : List ℤ) (ok : check rows ≡ none) (sheet : Sheet) (Those : ℕ → Type 0) (t : State) (came : List ℕ) → WorkListed rows ok sheet Those t came → RowsBelow came
-rows-listed rows ok sheet Those t came W =
-    record {
-      room = W.few;
-      below = λ i h. let k = W.below (get_or came (suc (0 + i)) 0) (listed_at 0 i came h) in let e : suc (0 + i) ≡ i + 1 = omega arith in subst (λ (q : ℕ). get_or came q 0 < 1024) e (omega (arith, k, rows-limit rows ok));
-    }
+pub rows-listed : (rows : List ℤ) (ok : check rows ≡ none) (sheet : Sheet) (Those : ℕ → Type 0) (t : State) (came : List ℕ) → WorkListed rows ok sheet Those t came → RowsBelow (listed_rows came)
+rows-listed rows ok sheet Those t came W = λ i h. let k = W.below (get_or (listed_rows came) i 0) (member-at (listed_rows came) i h) in omega (arith, k, rows-limit rows ok)
 
 module _ (rows : List ℤ) (ok : check rows ≡ none) (sheet : Sheet) (readings : List ℤ) (given : List ℕ) (lines : ℕ) (K : KeptReadings rows sheet readings given lines) (few : lines ≤ 128) (N : NoteLaws rows sheet lines)
     (choices : List ℕ) (budget : ℕ) (first : TraceLists) where
@@ -151,20 +153,14 @@ module _ (rows : List ℤ) (ok : check rows ≡ none) (sheet : Sheet) (readings 
               turned-listed rows ok sheet S.under.labels s S.under.order b left came S.held readings given lines K few m.acts m.sent m.elements T j picked-below x step_is c c-change states lefts cames up
 
           -- the rows that came to work are rows of the arrays
-          pub came-below : RowsBelow cames
+          pub came-below : RowsBelow (listed_rows cames)
           came-below = rows-listed rows ok sheet (λ r. RowOf x r ⊎ (is_live (program rows) sheet r s ≡ false)) (after (program rows) sheet x s) cames listed
 
           -- the blocks that started are rows of blocks
-          pub blocks-below : (code : List ℕ) → Prepared rows code → BlocksBelow code cames
+          pub blocks-below : (code : List ℕ) → Prepared rows code → BlocksBelow code (listed_blocks cames)
           blocks-below code p =
               let B = turned-begins rows ok sheet S.under.labels s S.under.order b left came S.held readings given lines K few m.acts m.sent m.elements T j picked-below x step_is c c-change states lefts cames up in
-              record {
-                room = B.number;
-                block = λ i h.
-                    let (v, (ms, u)) = B.blocks (get_or cames (suc (2049 + i)) 0) (listed_at 2049 i cames h) in
-                    let e : suc (2049 + i) ≡ 2050 + i = omega arith in
-                    subst (λ (k : ℕ). (get_or cames k 0 < 1024) × (place_at code (get_or cames k 0) 0 ≡ 35)) e (block-place rows ok code p v (get_or cames (suc (2049 + i)) 0) ms u);
-              }
+              λ i h. let (v, (ms, u)) = B.blocks (get_or (listed_blocks cames) i 0) (member-at (listed_blocks cames) i h) in block-place rows ok code p v (get_or (listed_blocks cames) i 0) ms u
 
           -- after the turn
           pub stands-further : (d : Buffers) → d ≡ put_unset (local_at (program rows) (listed_blocks cames)) (with_states states (put_data readings given c.written b)) → (h : Notes) → h ≡ leave_step rows c.owner c.sender m
@@ -202,7 +198,7 @@ module _ (rows : List ℤ) (ok : check rows ≡ none) (sheet : Sheet) (readings 
         subst (λ (k : Kept). WorkListed rows ok sheet (λ q. Unit {0}) (start (program rows)) k.came) (sym begun)
         (start-gathers rows ok sheet (replicate 1024 0) (replicate 4098 0) (omega (arith, length-replicate {A = ℕ} 1024 0)) refl refl (omega (arith, length-replicate {A = ℕ} 4098 0)))
 
-    pub began-below : RowsBelow came
+    pub began-below : RowsBelow (listed_rows came)
     began-below = rows-listed rows ok sheet (λ q. Unit {0}) (start (program rows)) came started
 
     pub stands-start : (d : Buffers) → d ≡ record { cells = replicate 256 (pos 0); marks = replicate 256 0; states = states; places = replicate 8 0; numbers = replicate 1024 (pos 0); counts = replicate 8 0; output_marks = replicate 1024 0 }

@@ -123,7 +123,7 @@ laws : (g : Setting) → NoteLaws g.rows g.sheet g.lines
 laws g = note-laws g.rows g.accepted g.sheet g.readings g.given g.lines g.kept
 
 -- the rows that came to work at the start are rows of the arrays
-pub began-below : (b : Begun) → RowsBelow b.came
+pub began-below : (b : Begun) → RowsBelow (listed_rows b.came)
 began-below b =
     let g = b.setting in
     stands.began-below _ g.accepted _ _ _ _ g.kept g.few (laws g) g.choices g.budget g.first _ b.root_is _ _ _ b.up
@@ -222,7 +222,7 @@ pub reading-fits : (x : Changing) → let t = x.picking.counting.standing in Rea
 reading-fits x = let t = x.picking.counting.standing in changes.reading-fits t.setting.readings t.setting.given x.change.written t.arrays (fits x)
 
 -- the rows that came to work are rows of the arrays
-pub came-below : (y : Settling) → RowsBelow y.came
+pub came-below : (y : Settling) → RowsBelow (listed_rows y.came)
 came-below y =
     let x = y.changing in
     let p = x.picking in
@@ -232,7 +232,7 @@ came-below y =
     stands.came-below _ g.accepted _ _ _ _ g.kept g.few (laws g) _ _ _ _ _ _ _ _ _ t.stands _ k.count-is (more p).0 (more p).1 _ _ p.choice-is p.row_is x.change x.change-is _ _ _ y.up
 
 -- the blocks that started are rows of blocks
-pub blocks-below : (y : Settling) (code : List ℕ) → Prepared y.changing.picking.counting.standing.setting.rows code → BlocksBelow code y.came
+pub blocks-below : (y : Settling) (code : List ℕ) → Prepared y.changing.picking.counting.standing.setting.rows code → BlocksBelow code (listed_blocks y.came)
 blocks-below y =
     let x = y.changing in
     let p = x.picking in

@@ -3,11 +3,12 @@ use mathlib.Core.Path.{◌≡◌, refl, sym, ap, ◌∙◌}
 use mathlib.Core.Bool.{Bool, true, false}
 use mathlib.Core.Option.{none, some}
 use mathlib.Core.List.{List, [], ◌∷◌, ◌++◌}
-use Prim.Native.Nat.{ℕ, suc, ◌+◌, ◌*◌}
+use Prim.Native.Nat.{ℕ, suc, ◌+◌, ◌*◌, ◌<◌}
 use native.Mathlib.Numerals.{add-one}
 use native.Mathlib.Omega.{arith}
 use lib.IntN.{ℤ, pos}
-use lib.ListN.{get_or, set}
+use lib.ListN.{length, get_or, set, take}
+use Rattle.std.proofs.lemmas.List.{take_more}
 use lib.Dec.{eqb}
 use Rattle.meaning.specs.Tree.{action_of}
 use Rattle.meaning.specs.State.{program, process_at}
@@ -37,12 +38,9 @@ module _ (rows : List ℤ) (cells : List Message) (places counts : List ℕ) (li
   last-noted (q ∷ l) r m = last-noted l r (note_one q m)
 
   -- one more row of the list is noted
-  pub one-more-noted : (came : List ℕ) (i : ℕ) (m : Notes) {l k : Notes} → l ≡ note_listed rows cells places counts lines (first_rows 0 i came) m → k ≡ note_one (get_or came (i + 1) 0) l
-      → k ≡ note_listed rows cells places counts lines (first_rows 0 (i + 1) came) m
-  one-more-noted came i m e f =
-      let z : 0 + i ≡ i = omega arith in
-      rw (f, e, add-one i)
-      (sym (last-noted (first_rows 0 i came) (get_or came (suc i) 0) m) ∙ ap (λ (k : ℕ). note_listed rows cells places counts lines (first_rows 0 i came ++ get_or came (suc k) 0 ∷ []) m) (sym z))
+  pub one-more-noted : (came : List ℕ) (i : ℕ) → i < length came → (m : Notes) {l k : Notes} → l ≡ note_listed rows cells places counts lines (take i came) m → k ≡ note_one (get_or came i 0) l
+      → k ≡ note_listed rows cells places counts lines (take (i + 1) came) m
+  one-more-noted came i h m e f = rw (f, e, take_more came i 0 h) (sym (last-noted (take i came) (get_or came i 0) m))
 
 -- where a change of data is within the arrays, so it is at the host
 module _ (readings : List ℤ) (given : List ℕ) where

@@ -7,7 +7,8 @@ use mathlib.Core.List.{List, [], ◌∷◌, ◌++◌, append-nil, append_assoc, 
 use Prim.Native.Nat.{ℕ, zero, suc, ◌+◌, ◌<◌, ◌≤◌}
 use native.Mathlib.Omega.{arith}
 use lib.IntN.{ℤ}
-use lib.ListN.{get_or}
+use lib.ListN.{length, get_or, take}
+use Rattle.std.proofs.lemmas.List.{take_more}
 use Rattle.meaning.specs.Declarations.{Variable, variable_at}
 use Rattle.meaning.specs.Answers.{check}
 use Rattle.meaning.specs.Tree.{block, Process, node, Processes, empty, also, Content, or_stop, action_of}
@@ -107,14 +108,12 @@ pub variable-below : {rows : List ℤ} {code : List ℕ} (p : Prepared rows code
 variable-below {rows} p r l e = omega (arith, (block-variable p r (omega arith) e).0, declarations-few rows, rows-limit rows p.accepted)
 
 -- so one block more of a list
-pub one-more-unset : (rows : List ℤ) (code came : List ℕ) → Prepared rows code → BlocksBelow code came → (i : ℕ) → i < get_or came 2049 0 → (x : State) {y z : State}
-    → y ≡ blocks_unset rows (first_rows 2049 i came) x → z ≡ with_unset (first_of code (get_or came (2050 + i) 0)) (size_of code (get_or came (2050 + i) 0)) y → z ≡ blocks_unset rows (first_rows 2049 (i + 1) came) x
-one-more-unset rows code came p B i h x {y} e f =
-    let r = get_or came (2050 + i) 0 in
-    let (l, k) = B.block i h in
-    let vs = local_at (program rows) (first_rows 2049 i came) in
-    let q : i + 1 ≡ suc i = omega arith in
-    let at : suc (2049 + i) ≡ 2050 + i = omega arith in
+pub one-more-unset : (rows : List ℤ) (code blocks : List ℕ) → Prepared rows code → BlocksBelow code blocks → (i : ℕ) → i < length blocks → (x : State) {y z : State}
+    → y ≡ blocks_unset rows (take i blocks) x → z ≡ with_unset (first_of code (get_or blocks i 0)) (size_of code (get_or blocks i 0)) y → z ≡ blocks_unset rows (take (i + 1) blocks) x
+one-more-unset rows code blocks p B i h x {y} e f =
+    let r = get_or blocks i 0 in
+    let (l, k) = B i h in
+    let vs = local_at (program rows) (take i blocks) in
     f ∙ block-unset rows code p r l k y ∙ ap (variables_unset (local_of (action_of (process_at (program rows) r)))) e
-    ∙ sym (unset-more vs (local_of (action_of (process_at (program rows) r))) x) ∙ ap (λ (us : List Variable). variables_unset us x) (sym (local-more rows (first_rows 2049 i came) r))
-    ∙ ap (λ (k : ℕ). blocks_unset rows (first_rows 2049 i came ++ get_or came k 0 ∷ []) x) (sym at) ∙ ap (λ (n : ℕ). blocks_unset rows (first_rows 2049 n came) x) (sym q)
+    ∙ sym (unset-more vs (local_of (action_of (process_at (program rows) r))) x) ∙ ap (λ (us : List Variable). variables_unset us x) (sym (local-more rows (take i blocks) r))
+    ∙ ap (λ (l : List ℕ). blocks_unset rows l x) (sym (take_more blocks i 0 h))

@@ -4,15 +4,13 @@ use Rattle.run_code.specs.Prepared.{place_at}
 use Rattle.run_changes.specs.declared.Data.{Data}
 use Rattle.run_changes.specs.declared.Data.TheVariants.{Nothing, Cell, Reading, Output}
 
--- the rows that came to work are rows of the arrays, and there was room for them
-pub record RowsBelow (came : List ℕ) : Type 0 where
-  pub room : get_or came 0 0 ≤ 2048
-  pub below : (i : ℕ) → i < get_or came 0 0 → get_or came (i + 1) 0 < 1024
+-- the rows that came to work are rows of the arrays
+abbrev pub RowsBelow : List ℕ → Type 0
+RowsBelow came = (i : ℕ) → i < length came → get_or came i 0 < 1024
 
--- the blocks that started are rows of blocks, and there was room for them
-pub record BlocksBelow (code came : List ℕ) : Type 0 where
-  pub room : get_or came 2049 0 ≤ 2048
-  pub block : (i : ℕ) → i < get_or came 2049 0 → (get_or came (2050 + i) 0 < 1024) × (place_at code (get_or came (2050 + i) 0) 0 ≡ 35)
+-- the blocks that started are rows of blocks
+abbrev pub BlocksBelow : List ℕ → List ℕ → Type 0
+BlocksBelow code blocks = (i : ℕ) → i < length blocks → (get_or blocks i 0 < 1024) × (place_at code (get_or blocks i 0) 0 ≡ 35)
 
 -- the host channel of a change of data is one of the arrays', and so is its next place: of a reading, of a number that is given
 abbrev pub HostFits : Data → List ℕ → List ℕ → Type 0

@@ -3,7 +3,6 @@
 
 ghost use Rattle.std.specs.Prelude.{◌≡◌, List, ◌<◌, ◌≤◌, ℤ};
 ghost use Rattle.run_values.specs.Cells.{lent_cells};
-ghost use Rattle.machine.specs.Came.{listed_rows, listed_blocks};
 ghost use Rattle.run_code.specs.Prepared.{Prepared};
 ghost use Rattle.run_turns.specs.Turns.{leave_step, note_listed, written, blocks_unset, host_with, host_put};
 ghost use Rattle.run_turns.specs.Fits.{RowsBelow, BlocksBelow, HostFits, ReadingFits};
@@ -27,14 +26,13 @@ pub fn leave_step(code: &[u16; 6150], notes: &mut Notes, owner: usize, sender: u
 }
 
 // The state with all cells of the blocks that started unset.
-pub fn unset_blocks(code: &[u16; 6150], came: &[u16; 4098], mut state: State) -> State
+pub fn unset_blocks(code: &[u16; 6150], blocks: &[u16], mut state: State) -> State
     requires table { (rows : List ℤ) × Prepared rows code.now }
-    requires listed { BlocksBelow code.now came.now }
-    ensures { (rows : List ℤ) → Prepared rows code.now → result ≡ blocks_unset rows (listed_blocks came.now) state }
+    requires listed { BlocksBelow code.now blocks.now }
+    ensures { (rows : List ℤ) → Prepared rows code.now → result ≡ blocks_unset rows blocks.now state }
 {
-    let n = came[2049] as usize;
-    for i in 0..n {
-        let v = place(code, came[2050 + i] as usize, 1) as usize;
+    for &b in blocks {
+        let v = place(code, b as usize, 1) as usize;
         state = state.unset_range(place(code, v, 1) as usize, place(code, v, 2) as usize);
     }
     state
@@ -48,17 +46,17 @@ pub fn note_all<'a>(
     places: &'a [u32; 8],
     counts: &'a [u32; 8],
     lines: usize,
-    came: &'a [u16; 4098],
+    came: &'a [u16],
     notes: &mut Notes,
 )
     requires table { (rows : List ℤ) × Prepared rows code.now }
     requires listed { RowsBelow came.now }
-    ensures { (rows : List ℤ) → Prepared rows code.now → notes.new ≡ note_listed rows (lent_cells values marks) places.now counts.now lines (listed_rows came.now) notes.old }
+    ensures { (rows : List ℤ) → Prepared rows code.now → notes.new ≡ note_listed rows (lent_cells values marks) places.now counts.now lines came.now notes.old }
 {
-    let n = came[0] as usize;
-    for i in 0..n {
-        let r = came[i + 1] as usize;
-        note_row(code, values, marks, places, counts, lines, notes, r);
+    for &r in came {
+        note_row(
+            code, values, marks, places, counts, lines, notes, r as usize,
+        );
     }
 }
 
