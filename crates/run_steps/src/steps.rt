@@ -14,6 +14,7 @@ use run_changes::{Outputs, change_of};
 use run_notes::Notes;
 use run_ready_bits::{choose, total};
 use run_settling::{begin, change_states};
+use run_starting::kept::Kept;
 use run_turns::{leave_step, note_all, put_host, unset_blocks, written_by};
 use run_values::store::{State, fresh};
 
@@ -72,13 +73,11 @@ pub fn take_steps<'a>(
     ensures { (sheet : Sheet) → KeptReadings rows.now sheet readings.now given.now lines → RunShown rows.now sheet choices.now budget result (lent_lists readied taken) (left_lists readied taken) }
 {
     let root = base_rows::declarations(rows);
-    let mut states = [0u8; 1024];
-    let mut left = [0u16; 1024];
-    let mut came = [0u16; 4098];
+    let mut kept = Kept::new();
     let mut outputs = Outputs::new();
     let mut notes = Notes::new();
     let mut state = fresh();
-    begin(code, root, &mut states, &mut left, &mut came);
+    begin(code, root, &mut kept);
     note_all(
         code,
         &state.values,
@@ -86,20 +85,20 @@ pub fn take_steps<'a>(
         &state.places,
         &outputs.counts,
         lines,
-        &came,
+        kept.working(),
         &mut notes,
     );
     let mut n: u32 = 0;
     loop {
         let ready = total(&notes.bits);
         if is_last(ready, n, budget) {
-            let outcome = outcome_with(ready as usize, &states, root, rows.len() / 4);
+            let outcome = outcome_with(ready as usize, &kept.states, root, rows.len() / 4);
             return Run {
                 outcome,
                 steps: n,
                 ready: ready as u32,
                 state,
-                states,
+                states: kept.states,
                 outputs,
             };
         }
@@ -112,17 +111,10 @@ pub fn take_steps<'a>(
         let w = written_by(d, &state.places, readings, given);
         put_host(d, &mut state.places, &mut outputs);
         state = with_put(state, w);
-        change_states(
-            code,
-            c.at,
-            c.next,
-            c.sender,
-            &mut states,
-            &mut left,
-            &mut came,
-        );
-        if came[2049] != 0 {
-            state = unset_blocks(code, &came, state);
+        change_states(code, c.at, c.next, c.sender, &mut kept);
+        let blocks = kept.started();
+        if !blocks.is_empty() {
+            state = unset_blocks(code, blocks, state);
         }
         note_all(
             code,
@@ -131,7 +123,7 @@ pub fn take_steps<'a>(
             &state.places,
             &outputs.counts,
             lines,
-            &came,
+            kept.working(),
             &mut notes,
         );
         n += 1;

@@ -1,15 +1,21 @@
 -- `take_steps` meets its contract. The records of the run and of a turn, at places of its code, are those of run_turns.
-use mathlib.Core.Path.{◌≡◌, refl, sym, ap, ◌∙◌}
+use mathlib.Core.Path.{◌≡◌, refl, sym, ap, subst, ◌∙◌}
 use mathlib.Core.Option.{none}
 use mathlib.Core.List.{List}
 use Prim.Native.Nat.{ℕ, ◌≤◌}
 use lib.IntN.{ℤ}
 use native.Mathlib.Omega.{arith}
+use borrow.Author.Tests.{eqb-true}
+use Rattle.std.proofs.lemmas.List.{nil_from_length}
 use Rattle.meaning.specs.Readings.{Sheet}
 use Rattle.meaning.specs.Trace.{TraceLists}
 use Rattle.meaning.specs.Answers.{check}
 use Rattle.machine.specs.Held.{KeptReadings}
-use Rattle.machine.specs.Came.{first_rows, listed_blocks}
+use Rattle.meaning.specs.State.{program, process_at}
+use Rattle.machine.specs.Counts.{start_row}
+use Rattle.machine.specs.Came.{listed_blocks}
+use Rattle.run_turns.specs.Fits.{RowsBelow, BlocksBelow}
+use Rattle.run_starting.specs.Kept.{kept_lists}
 use Rattle.run_turns.specs.Showing.{lists_lent}
 use Rattle.run_turns.specs.Results.{arrays_with}
 use Rattle.run_turns.specs.Turns.{host_with, blocks_unset}
@@ -17,7 +23,7 @@ use Rattle.run_turns.proofs.ChangedRows.{root_is, root_below, root-is-process}
 use Rattle.run_turns.proofs.Turn as turn
 use Rattle.run_turns.proofs.Turn.{Setting, Begun, Standing, Counting, Picking, Changing, Settling}
 use Rattle.run_steps.proofs.steps.take_steps.Goals as goal
-use Rattle.run_steps.proofs.steps.take_steps.Goals.{After-begin, After-is_last, After-choose-j, After-change_of-c, After-change_states, then-came-ne0, else-came-ne0}
+use Rattle.run_steps.proofs.steps.take_steps.Goals.{After-begin, After-is_last, After-choose-j, After-change_of-c, After-change_states, then-not-is_empty, else-not-is_empty}
 
 -- a sheet whose readings are kept
 abbrev Kept : List ℤ → List ℤ → List ℕ → ℕ → Type 0
@@ -46,23 +52,23 @@ begun c k =
     record {
       setting = setting c.args.rows.now c.args.readings.now c.args.given.now c.args.lines c.args.choices.now c.args.budget (lists_lent c.args.readied.now c.args.taken.now) c.requires.table.accepted c.requires.few k;
       row = c.declarations-root.result;
-      states = c.begin.new.states;
-      left = c.begin.new.left;
-      came = c.begin.new.came;
+      states = c.begin.new.kept.states;
+      left = c.begin.new.kept.left;
+      came = (kept_lists c.begin.new.kept).came;
       root_is = at-root;
-      up = c.begin.ensures c.args.rows.now c.requires.table (root-is-process _ c.requires.table.accepted _ at-root);
+      up = c.begin.ensures c.args.rows.now c.requires.table (root-is-process _ c.requires.table.accepted _ at-root) ∙ ap (start_row (process_at (program c.args.rows.now) c.declarations-root.result)) c.new-kept.ensures;
     }
 
 abbrev counting : (c : After-is_last) → Kept c.args.rows.now c.args.readings.now c.args.given.now c.args.lines → Counting
 counting c k =
-    let l = c.loop-left in
+    let l = c.loop-notes in
     let t : Standing = record {
       setting = setting c.args.rows.now c.args.readings.now c.args.given.now c.args.lines c.args.choices.now c.args.budget (lists_lent c.args.readied.now c.args.taken.now) c.requires.table.accepted c.requires.few k;
       n = l.n;
       lists = lists_lent l.readied l.taken;
-      arrays = arrays_with l.state l.states l.outputs;
-      left = l.left;
-      came = l.came;
+      arrays = arrays_with l.state l.kept.states l.outputs;
+      left = l.kept.left;
+      came = (kept_lists l.kept).came;
       notes = l.notes;
       stands = l.invariant.3 k.0 k.1;
     } in
@@ -70,14 +76,14 @@ counting c k =
 
 abbrev picking : (c : After-choose-j) → Kept c.args.rows.now c.args.readings.now c.args.given.now c.args.lines → Picking
 picking c k =
-    let l = c.loop-left in
+    let l = c.loop-notes in
     let t : Standing = record {
       setting = setting c.args.rows.now c.args.readings.now c.args.given.now c.args.lines c.args.choices.now c.args.budget (lists_lent c.args.readied.now c.args.taken.now) c.requires.table.accepted c.requires.few k;
       n = l.n;
       lists = lists_lent l.readied l.taken;
-      arrays = arrays_with l.state l.states l.outputs;
-      left = l.left;
-      came = l.came;
+      arrays = arrays_with l.state l.kept.states l.outputs;
+      left = l.kept.left;
+      came = (kept_lists l.kept).came;
       notes = l.notes;
       stands = l.invariant.3 k.0 k.1;
     } in
@@ -86,14 +92,14 @@ picking c k =
 
 abbrev changing : (c : After-change_of-c) → Kept c.args.rows.now c.args.readings.now c.args.given.now c.args.lines → Changing
 changing c k =
-    let l = c.loop-left in
+    let l = c.loop-notes in
     let t : Standing = record {
       setting = setting c.args.rows.now c.args.readings.now c.args.given.now c.args.lines c.args.choices.now c.args.budget (lists_lent c.args.readied.now c.args.taken.now) c.requires.table.accepted c.requires.few k;
       n = l.n;
       lists = lists_lent l.readied l.taken;
-      arrays = arrays_with l.state l.states l.outputs;
-      left = l.left;
-      came = l.came;
+      arrays = arrays_with l.state l.kept.states l.outputs;
+      left = l.kept.left;
+      came = (kept_lists l.kept).came;
       notes = l.notes;
       stands = l.invariant.3 k.0 k.1;
     } in
@@ -103,21 +109,21 @@ changing c k =
 
 abbrev settling : (c : After-change_states) → Kept c.args.rows.now c.args.readings.now c.args.given.now c.args.lines → Settling
 settling c k =
-    let l = c.loop-left in
+    let l = c.loop-notes in
     let t : Standing = record {
       setting = setting c.args.rows.now c.args.readings.now c.args.given.now c.args.lines c.args.choices.now c.args.budget (lists_lent c.args.readied.now c.args.taken.now) c.requires.table.accepted c.requires.few k;
       n = l.n;
       lists = lists_lent l.readied l.taken;
-      arrays = arrays_with l.state l.states l.outputs;
-      left = l.left;
-      came = l.came;
+      arrays = arrays_with l.state l.kept.states l.outputs;
+      left = l.kept.left;
+      came = (kept_lists l.kept).came;
       notes = l.notes;
       stands = l.invariant.3 k.0 k.1;
     } in
     let n : Counting = record { standing = t; count = c.total-ready.result; last = c.is_last.result; count-is = c.total-ready.ensures; last-is = c.is_last.ensures } in
     let p : Picking = record { counting = n; choice = c.choice_at.result; row = c.choose-j.result; goes_on = c.if-is_last.false; choice-is = c.choice_at.ensures; row_is = c.choose-j.ensures.meaning } in
     let x : Changing = record { picking = p; change = c.change_of-c.result; change-is = c.change_of-c.ensures c.args.rows.now c.requires.table } in
-    record { changing = x; states = c.change_states.new.states; left = c.change_states.new.left; came = c.change_states.new.came; up = c.change_states.ensures c.args.rows.now c.requires.table (turn.change-processes x) }
+    record { changing = x; states = c.change_states.new.kept.states; left = c.change_states.new.kept.left; came = (kept_lists c.change_states.new.kept).came; up = c.change_states.ensures c.args.rows.now c.requires.table (turn.change-processes x) }
 
 pub begin-requires-clause-row : goal.begin-requires-clause-row
 begin-requires-clause-row c =
@@ -125,11 +131,11 @@ begin-requires-clause-row c =
 
 pub note_all-requires-clause-listed : goal.note_all-requires-clause-listed
 note_all-requires-clause-listed c =
-    turn.began-below (begun (goal.at.note_all-requires-clause-listed c).After-begin c.requires.kept)
+    subst RowsBelow (sym c.working.ensures) (turn.began-below (begun (goal.at.note_all-requires-clause-listed c).After-begin c.requires.kept))
 
-pub loop-left-init : goal.loop-left-init
-loop-left-init c =
-    (omega arith, refl, refl, λ z K. turn.stands-first (begun (goal.at.loop-left-init c).After-begin (z, K)) _ c.fresh-state.ensures.stored _ c.new-outputs.ensures _ c.new-notes.ensures _ (c.note_all.ensures c.args.rows.now c.requires.table))
+pub loop-notes-init : goal.loop-notes-init
+loop-notes-init c =
+    (omega arith, refl, refl, λ z K. turn.stands-first (begun (goal.at.loop-notes-init c).After-begin (z, K)) _ c.fresh-state.ensures.stored _ c.new-outputs.ensures _ c.new-notes.ensures _ (rw c.working.ensures at (c.note_all.ensures c.args.rows.now c.requires.table)))
 
 pub outcome_with-outcome-requires : goal.outcome_with-outcome-requires
 outcome_with-outcome-requires c =
@@ -180,36 +186,36 @@ change_states-requires-clause-inside c =
 
 pub unset_blocks-state-requires-clause-listed : goal.unset_blocks-state-requires-clause-listed
 unset_blocks-state-requires-clause-listed c =
-    turn.blocks-below (settling (goal.at.unset_blocks-state-requires-clause-listed c).After-change_states c.requires.kept) _ c.requires.table
+    subst (BlocksBelow c.args.code.now) (sym c.started-blocks.ensures) (turn.blocks-below (settling (goal.at.unset_blocks-state-requires-clause-listed c).After-change_states c.requires.kept) c.args.code.now c.requires.table)
 
-pub note_all-requires-in-loop-left-clause-listed : goal.note_all-requires-in-loop-left-clause-listed
-note_all-requires-in-loop-left-clause-listed c =
-    turn.came-below (settling (goal.at.note_all-requires-in-loop-left-clause-listed c).After-change_states c.requires.kept)
+pub note_all-requires-in-loop-notes-clause-listed : goal.note_all-requires-in-loop-notes-clause-listed
+note_all-requires-in-loop-notes-clause-listed c =
+    subst RowsBelow (sym c.working-in-loop-notes.ensures) (turn.came-below (settling (goal.at.note_all-requires-in-loop-notes-clause-listed c).After-change_states c.requires.kept))
 
 pub overflow_add-n : goal.overflow_add-n
 overflow_add-n c =
     turn.next_fits (changing (goal.at.overflow_add-n c).After-change_of-c c.requires.kept).picking c.ranges.budget
 
-pub loop-left-smaller : goal.loop-left-smaller
-loop-left-smaller c =
-    (turn.budget-left (changing (goal.at.loop-left-smaller c).After-change_of-c c.requires.kept).picking).1
+pub loop-notes-smaller : goal.loop-notes-smaller
+loop-notes-smaller c =
+    (turn.budget-left (changing (goal.at.loop-notes-smaller c).After-change_of-c c.requires.kept).picking).1
 
-pub loop-left-preserved : goal.loop-left-preserved
-loop-left-preserved c =
-    let l = c.loop-left in
+pub loop-notes-preserved : goal.loop-notes-preserved
+loop-notes-preserved c =
+    let l = c.loop-notes in
     let rows = c.args.rows.now in
     let P = c.requires.table in
-    let cleared : c.if-came-ne0.state ≡ blocks_unset rows (listed_blocks c.change_states.new.came) c.with_put-state.result =
-    elim c.if-came-ne0.branch [
-      | then-came-ne0 w ↦ w.state-is ∙ w.unset_blocks-state.ensures rows P
-      | else-came-ne0 w ↦ w.state-is ∙ ap (λ (n : ℕ). blocks_unset rows (first_rows 2049 n c.change_states.new.came) c.with_put-state.result) (sym w.if-came-ne0.false)
+    let cleared : c.if-not-is_empty.state ≡ blocks_unset rows (listed_blocks (kept_lists c.change_states.new.kept).came) c.with_put-state.result =
+    elim c.if-not-is_empty.branch [
+      | then-not-is_empty w ↦ w.state-is ∙ (rw c.started-blocks.ensures at (w.unset_blocks-state.ensures rows P))
+      | else-not-is_empty w ↦ w.state-is ∙ ap (λ (l : List ℕ). blocks_unset rows l c.with_put-state.result) (sym (nil_from_length _ (eqb-true _ 0 (sym c.is_empty.ensures ∙ w.if-not-is_empty.false))) ∙ c.started-blocks.ensures)
     ] in
     let h = c.put_host.new in
     let k = c.leave_step.new in
-    let m = c.note_all-in-loop-left.new in (
-      (turn.budget-left (changing (goal.at.loop-left-preserved c).After-change_of-c c.requires.kept).picking).0,
+    let m = c.note_all-in-loop-notes.new in (
+      (turn.budget-left (changing (goal.at.loop-notes-preserved c).After-change_of-c c.requires.kept).picking).0,
       c.show.auto.list ∙ l.invariant.1,
-      c.show-in-loop-left.auto.list ∙ l.invariant.2,
-      λ z K. turn.stands-further (settling (goal.at.loop-left-preserved c).After-change_states (z, K)) (host_with h.places h.outputs) c.put_host.ensures _ c.written_by-w.ensures _ c.with_put-state.ensures _ cleared
-          k.notes (c.leave_step.ensures rows P) m.notes (c.note_all-in-loop-left.ensures rows P) _ _ c.show.ensures c.show-in-loop-left.ensures,
+      c.show-in-loop-notes.auto.list ∙ l.invariant.2,
+      λ z K. turn.stands-further (settling (goal.at.loop-notes-preserved c).After-change_states (z, K)) (host_with h.places h.outputs) c.put_host.ensures _ c.written_by-w.ensures _ c.with_put-state.ensures _ cleared
+          k.notes (c.leave_step.ensures rows P) m.notes (rw c.working-in-loop-notes.ensures at (c.note_all-in-loop-notes.ensures rows P)) _ _ c.show.ensures c.show-in-loop-notes.ensures,
     )

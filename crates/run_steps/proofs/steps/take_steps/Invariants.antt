@@ -7,13 +7,14 @@ use Rattle.machine.specs.Held.{KeptReadings}
 use Rattle.run_turns.specs.Showing.{lists_lent}
 use Rattle.run_turns.specs.Results.{arrays_with}
 use Rattle.run_turns.specs.Machine.{machine_of, Stands}
+use Rattle.run_starting.specs.Kept.{kept_lists}
 use Rattle.run_steps.proofs.steps.take_steps.Given as goal
 
-abbrev pub invariant-loop-left : goal.invariant-loop-left
-invariant-loop-left l =
+abbrev pub invariant-loop-notes : goal.invariant-loop-notes
+invariant-loop-notes l =
     (l.n ≤ l.budget) × (length l.readied ≡ length l.initial.readied) × (length l.taken ≡ length l.initial.taken)
     × ((sheet : Sheet) → KeptReadings l.rows sheet l.readings l.given l.lines
-    → Stands l.rows sheet l.choices l.budget (lists_lent l.initial.readied l.initial.taken) l.n (lists_lent l.readied l.taken) (machine_of (arrays_with l.state l.states l.outputs) l.left l.came l.notes))
+    → Stands l.rows sheet l.choices l.budget (lists_lent l.initial.readied l.initial.taken) l.n (lists_lent l.readied l.taken) (machine_of (arrays_with l.state l.kept.states l.outputs) l.kept.left (kept_lists l.kept).came l.notes))
 
-abbrev pub decreases-loop-left : goal.decreases-loop-left
-decreases-loop-left l = l.budget - l.n
+abbrev pub decreases-loop-notes : goal.decreases-loop-notes
+decreases-loop-notes l = l.budget - l.n
