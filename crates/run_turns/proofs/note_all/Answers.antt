@@ -7,4 +7,4 @@ pub loop-i-preserved : goal.loop-i-preserved
 loop-i-preserved c =
     let args = c.args in
     λ rows ok. one-more-noted rows (cells_in args.values.now args.marks.now) args.places.now args.counts.now args.lines args.came.now c.loop-i.i args.notes.now
-        (c.loop-i.invariant rows ok) (c.note_row.ensures rows ok)
+    (c.loop-i.invariant rows ok) (c.note_row.ensures rows ok)
