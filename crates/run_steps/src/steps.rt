@@ -89,6 +89,7 @@ pub fn take_steps<'a>(
         &mut notes,
     );
     let mut n: u32 = 0;
+    // kept: n is the number of steps that the run leaves (`steps`), and the one test of its end is `is_last`
     loop {
         let ready = total(&notes.bits);
         if is_last(ready, n, budget) {
