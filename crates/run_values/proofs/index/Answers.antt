@@ -1,5 +1,4 @@
 -- `index` meets its contract: the subscript of the value of its expression.
-use borrow.Author.Rules.{rules}
 use mathlib.Core.Path.{◌∙◌}
 use Rattle.meaning.specs.Values.{index}
 use Rattle.run_code.proofs.Inside.{second-inside}

@@ -1,5 +1,4 @@
 -- `subscripted` meets its contract: the declaration that the row names is in the list.
-use borrow.Author.Rules.{rules}
 use mathlib.Core.Path.{◌∙◌}
 use native.Mathlib.Omega.{arith}
 use Rattle.run_code.proofs.Inside.{first-inside}

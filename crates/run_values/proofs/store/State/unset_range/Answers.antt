@@ -1,8 +1,7 @@
 -- `unset_range` meets its contract. The invariant: i cells from a on are unset. The measure is the cells that are left.
 use mathlib.Core.Path.{◌≡◌, refl}
-use Prim.Native.Nat.{◌-◌, ◌≤◌, zero-le}
+use Prim.Native.Nat.{zero-le}
 use native.Mathlib.Omega.{arith}
-use Rattle.run_values.specs.Cells.{with_unset}
 use Rattle.run_values.proofs.CellLaws.{unset-more}
 use Rattle.run_values.proofs.store.State.unset_range.Goals as goal
 

@@ -1,8 +1,6 @@
-use mathlib.Core.Path.{◌≡◌, refl}
-use Prim.Native.Nat.{◌-◌, ◌≤◌, zero-le}
-use native.Mathlib.Omega.{arith}
+use mathlib.Core.Path.{◌≡◌}
+use Prim.Native.Nat.{◌-◌, ◌≤◌}
 use Rattle.run_values.specs.Cells.{with_unset}
-use Rattle.run_values.proofs.CellLaws.{unset-more}
 use Rattle.run_values.proofs.store.State.unset_range.Given as goal
 
 abbrev pub invariant-loop-i : goal.invariant-loop-i

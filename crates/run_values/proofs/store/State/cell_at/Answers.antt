@@ -1,6 +1,5 @@
 -- `cell_at` meets its contract, by the cases of the index.
-use borrow.Author.Rules.{rules}
-use Rattle.run_values.proofs.cell_at.Goals as goal
+use Rattle.run_values.proofs.store.State.cell_at.Goals as goal
 
 pub returns-in-At : goal.returns-in-At
 returns-in-At c = rw c.in-At.is c.cell.ensures
