@@ -2,9 +2,8 @@
 use Rattle.run_intents.proofs.RowFacts.{input-few}
 use Rattle.run_intents.proofs.Inputs.{input-found}
 use Rattle.run_code.proofs.Inside.{first-inside, third-inside}
-use Rattle.run_values.specs.Cells.{cells_in}
+use Rattle.run_values.specs.Cells.{state_cells}
 use native.Mathlib.Omega.{arith}
-use borrow.Author.Rules.{rules}
 use Rattle.run_intents.proofs.input_does.Goals as goal
 
 pub index-e-requires : goal.index-e-requires
@@ -24,4 +23,4 @@ received-requires c =
 
 pub returns : goal.returns
 returns c =
-    λ rows p. input-found p (cells_in c.args.values.now c.args.marks.now) c.args.r c.requires.row.0 c.args.lines c.args.places.now c.requires.row.1 (c.index-e.ensures rows p) c.place.ensures (c.target-t.ensures rows p) c.place-d.ensures c.place-2.ensures c.received.ensures
+    λ rows p. input-found p (state_cells c.args.state.now) c.args.r c.requires.row.0 c.args.lines c.args.state.now.places c.requires.row.1 (c.index-e.ensures rows p) c.place.ensures (c.target-t.ensures rows p) c.place-d.ensures c.place-2.ensures c.received.ensures

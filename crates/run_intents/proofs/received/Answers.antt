@@ -1,7 +1,6 @@
 -- `received` meets its contract, by the cases of the two subscripts, and by whether a reading is left.
 use Rattle.run_intents.proofs.HostNotes.{read_left, read-over}
 use mathlib.Core.Path.{sym, ◌∙◌}
-use borrow.Author.Rules.{rules}
 use Rattle.run_intents.proofs.received.Goals as goal
 
 pub returns-then-channel-eq0 : goal.returns-then-channel-eq0
@@ -11,7 +10,7 @@ pub returns-then-is_left : goal.returns-then-is_left
 returns-then-is_left c =
     let s = c.args in
     rw (c.in-At.is, c.in-At-t.is)
-    (read_left s.places.now s.lines s.channel _ _ c.if-channel-eq0.false (sym c.is_left.ensures ∙ c.if-is_left.true))
+    (read_left s.state.now.places s.lines s.channel _ _ c.if-channel-eq0.false (sym c.is_left.ensures ∙ c.if-is_left.true))
 
 pub returns-in-Fails : goal.returns-in-Fails
 returns-in-Fails c = rw c.in-Fails.is
@@ -23,4 +22,4 @@ pub returns-else-is_left : goal.returns-else-is_left
 returns-else-is_left c =
     let s = c.args in
     rw (c.in-At.is, c.in-At-t.is)
-    (read-over s.places.now s.lines s.channel _ _ c.if-channel-eq0.false (sym c.is_left.ensures ∙ c.if-is_left.false))
+    (read-over s.state.now.places s.lines s.channel _ _ c.if-channel-eq0.false (sym c.is_left.ensures ∙ c.if-is_left.false))
