@@ -4,11 +4,11 @@ use mathlib.Core.Bool.{Bool, true, false}
 use mathlib.Core.List.{List}
 use Prim.Native.Nat.{ℕ, zero, suc, ◌-◌, ◌<◌, ◌≤◌}
 use native.Mathlib.Omega.{arith}
-use lib.IntN.{ℤ}
 use lib.ListN.{get_or}
 use lib.Dec.{ltb}
 use borrow.Author.Tests.{lt-ltb, le-ltb}
 use Rattle.meaning.specs.Basics.{if_else}
+use Rattle.run_values.specs.Sending.{CodeMessage}
 use Rattle.run_intents.specs.declared.Does.{Does}
 use Rattle.run_intents.specs.declared.Does.TheVariants.{Waits, Reads, Writes}
 use Rattle.run_intents.specs.Does.{on_host, host_read, host_write}
@@ -28,12 +28,12 @@ module _ (places : List ℕ) (lines n a : ℕ) (d : Does) (h : n ≡ 0 → ⊥) 
   pub read-over : ltb (get_or places (n - 1) 0) lines ≡ false → Waits ≡ on_host n (host_read places lines a) d
   read-over = read_by false
 
-module _ (counts : List ℕ) (n capacity : ℕ) (v : ℤ) (m : ℕ) (d : Does) (h : n ≡ 0 → ⊥) where
-  write-by : (t : Bool) → ltb (get_or counts (n - 1) 0) capacity ≡ t → if_else t (Writes (n - 1) v m) Waits ≡ on_host n (host_write counts capacity v m) d
-  write-by t e = ap (λ (t : Bool). if_else t (Writes (n - 1) v m) Waits) (sym e) ∙ on-host n (host_write counts capacity v m) d h
+module _ (counts : List ℕ) (n capacity : ℕ) (m : CodeMessage) (d : Does) (h : n ≡ 0 → ⊥) where
+  write-by : (t : Bool) → ltb (get_or counts (n - 1) 0) capacity ≡ t → if_else t (Writes (n - 1) m) Waits ≡ on_host n (host_write counts capacity m) d
+  write-by t e = ap (λ (t : Bool). if_else t (Writes (n - 1) m) Waits) (sym e) ∙ on-host n (host_write counts capacity m) d h
 
-  pub write-left : get_or counts (n - 1) 0 < capacity → Writes (n - 1) v m ≡ on_host n (host_write counts capacity v m) d
+  pub write-left : get_or counts (n - 1) 0 < capacity → Writes (n - 1) m ≡ on_host n (host_write counts capacity m) d
   write-left l = write-by true (lt-ltb _ _ l)
 
-  pub write-full : capacity ≤ get_or counts (n - 1) 0 → Waits ≡ on_host n (host_write counts capacity v m) d
+  pub write-full : capacity ≤ get_or counts (n - 1) 0 → Waits ≡ on_host n (host_write counts capacity m) d
   write-full l = write-by false (le-ltb _ _ l)

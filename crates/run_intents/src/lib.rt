@@ -16,9 +16,9 @@ use run_values::store::State;
 use run_values::{assigned, eval, index, passed, target};
 
 // What a row would do: nothing; stop for a reason; assign a value to a cell; end; start another row; read from a host
-// channel into a cell; write a message, its number and mark, to a host channel; input from an element into a cell; output a
-// message to an element; look at its options.
-#[derive(Drop)]
+// channel into a cell; write a message, a number or none for the absence, to a host channel; input from an element into a
+// cell; output a message to an element; look at its options.
+#[derive(Clone, Copy)]
 pub enum Does {
     Waits,
     Stops(u8),
@@ -26,9 +26,9 @@ pub enum Does {
     Ends,
     Starts(usize),
     Reads(usize, usize),
-    Writes(usize, i32, u8),
+    Writes(usize, Option<i32>),
     InputsFrom(usize, usize),
-    OutputsTo(usize, i32, u8),
+    OutputsTo(usize, Option<i32>),
     Selects,
 }
 
@@ -90,17 +90,17 @@ fn received(state: &State, lines: usize, channel: u32, element: Index, t: Index)
     }
 }
 
-// The output of a message, its number and mark, to element e; to the host only "if capacity is left".
-fn handed_on(counts: &[u32; 8], channel: u32, capacity: u32, e: usize, x: i32, mark: u8) -> Does
+// The output of message m to element e; to the host only "if capacity is left".
+fn handed_on(counts: &[u32; 8], channel: u32, capacity: u32, e: usize, m: Option<i32>) -> Does
     requires { channel ≤ 8 }
-    ensures { result ≡ handed_on counts.now channel capacity e x mark }
+    ensures { result ≡ handed_on counts.now channel capacity e m }
 {
     if channel == 0 {
-        return Does::OutputsTo(e, x, mark);
+        return Does::OutputsTo(e, m);
     }
     let p = channel as usize - 1;
     if counts[p] < capacity {
-        return Does::Writes(p, x, mark);
+        return Does::Writes(p, m);
     }
     Does::Waits
 }
@@ -120,8 +120,7 @@ fn sent(
         Index::Fails(k) => Does::Stops(k),
         Index::At(e) => match v {
             Err(k) => Does::Stops(k),
-            Ok(None) => handed_on(counts, channel, capacity, e, 0, 0),
-            Ok(Some(x)) => handed_on(counts, channel, capacity, e, x, 1),
+            Ok(m) => handed_on(counts, channel, capacity, e, m),
         },
     }
 }

@@ -17,6 +17,7 @@ use Rattle.meaning.specs.Tree.{Expr, literal, element, monadic, given, dyadic, n
 use Rattle.meaning.specs.Basics.{is_some}
 use Rattle.meaning.specs.Values.{Message, truth, monadic_of, when_number, dyadic_of, in_array, cell_value, read_cell, given_value, value, index, gives, cell_sent, value_sent, passed}
 use Rattle.run_values.specs.declared.store.State.{State}
+use Rattle.run_values.specs.Sending.{message_in, coded}
 use Rattle.run_values.specs.Cells.{state_cells, with_cell, with_unset}
 
 -- a change of number i and mark i changes cell i alone
@@ -63,6 +64,11 @@ number-set m e q = sym (of-cell m) ∙ ap number_of (sym e ∙ q)
 
 pub missing-unset : (m : Message) {v : Value} {k : ℕ} → v ≡ cell_value m → v ≡ Missing k → m ≡ none
 missing-unset m e q = sym (of-cell m) ∙ ap number_of (sym e ∙ q)
+
+-- the code's form of a message is of that message
+pub message-back : (m : Message) → message_in (coded m) ≡ m
+message-back none = refl
+message-back (some x) = refl
 
 -- a value follows from what stands at each place
 module _ (cs ds : List Message) (same : (i : ℕ) → get_or cs i none ≡ get_or ds i none) where

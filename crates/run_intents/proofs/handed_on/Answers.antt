@@ -1,19 +1,16 @@
 -- `handed_on` meets its contract, by the channel and by the capacity left.
 use Rattle.run_intents.proofs.HostNotes.{write-left, write-full}
-use mir.ValLaws.{to_z-of_z}
-use mir.Syntax.{w32}
-use borrow.Author.Rules.{rules}
 use Rattle.run_intents.proofs.handed_on.Goals as goal
 
 pub returns-then-channel-eq0 : goal.returns-then-channel-eq0
-returns-then-channel-eq0 c = rw (to_z-of_z w32 c.args.x (search rules), c.if-channel-eq0.true)
+returns-then-channel-eq0 c = rw c.if-channel-eq0.true
 
 pub returns-then-counts-p : goal.returns-then-counts-p
 returns-then-counts-p c =
     let s = c.args in
-    rw (to_z-of_z w32 s.x (search rules)) (write-left s.counts.now s.channel s.capacity s.x s.mark _ c.if-channel-eq0.false c.if-counts-p.true)
+    write-left s.counts.now s.channel s.capacity s.m _ c.if-channel-eq0.false c.if-counts-p.true
 
 pub returns : goal.returns
 returns c =
     let s = c.args in
-    write-full s.counts.now s.channel s.capacity s.x s.mark _ c.if-channel-eq0.false c.if-counts-p.false
+    write-full s.counts.now s.channel s.capacity s.m _ c.if-channel-eq0.false c.if-counts-p.false
