@@ -93,12 +93,8 @@ impl State {
         requires { a + n ≤ 256 }
         ensures { result ≡ with_unset a n self }
     {
-        let mut i: usize = 0;
-        while i < n {
-            self.values[a + i] = 0;
-            self.marks[a + i] = 0;
-            i += 1;
-        }
+        self.values[a..a + n].fill(0);
+        self.marks[a..a + n].fill(0);
         self
     }
 }
