@@ -10,6 +10,7 @@ use lib.Seq.{set_out, paste}
 use Rattle.std.proofs.lemmas.List.Edits.{paste_none, fill_from_more}
 use Rattle.std.proofs.lemmas.Slice.{put_mid-paste}
 use borrow.Rule.Slice.PartMut.{put_mid}
+use Rattle.std.specs.Prelude.{Some, None}
 use Rattle.meaning.specs.declared.Value.{Value}
 use Rattle.meaning.specs.declared.Value.TheVariants.{Number, Missing}
 use Rattle.meaning.specs.declared.Index.{Index}
@@ -20,7 +21,7 @@ use Rattle.meaning.specs.Tree.{Expr, literal, element, monadic, given, dyadic, n
 use Rattle.meaning.specs.Basics.{is_some}
 use Rattle.meaning.specs.Values.{Message, truth, monadic_of, when_number, dyadic_of, in_array, cell_value, read_cell, given_value, value, index, gives, cell_sent, value_sent, passed}
 use Rattle.run_values.specs.declared.store.State.{State}
-use Rattle.run_values.specs.Sending.{message_in, coded}
+use Rattle.run_values.specs.Sending.{CodeMessage, message_in, coded}
 use Rattle.run_values.specs.Cells.{state_cells, with_cell, with_unset}
 
 -- a change of number i and mark i changes cell i alone
@@ -96,6 +97,10 @@ missing-unset m e q = sym (of-cell m) ∙ ap number_of (sym e ∙ q)
 pub message-back : (m : Message) → message_in (coded m) ≡ m
 message-back none = refl
 message-back (some x) = refl
+
+pub coded-back : (m : CodeMessage) → coded (message_in m) ≡ m
+coded-back None = refl
+coded-back (Some x) = refl
 
 -- a value follows from what stands at each place
 module _ (cs ds : List Message) (same : (i : ℕ) → get_or cs i none ≡ get_or ds i none) where
