@@ -1,14 +1,13 @@
 -- The change of a step, put together from what is noted.
-use mathlib.Core.Path.{◌≡◌, sym, ap, ◌∙◌}
+use mathlib.Core.Path.{◌≡◌}
 use mathlib.Core.List.{List, [], ◌∷◌}
-use Prim.Native.Nat.{ℕ, ◌+◌, ◌*◌, ◌%◌}
-use lib.IntN.{ℤ, pos}
-use lib.ListN.{get_or}
+use Prim.Native.Nat.{ℕ}
+use lib.IntN.{ℤ}
 use borrow.Author.Tests.{ne_eqb}
 use Rattle.run_code.specs.Prepared.{row_at, prepared, strip_at}
-use Rattle.run_changes.specs.declared.Data.TheVariants.{Nothing, Cell}
+use Rattle.run_changes.specs.declared.Data.TheVariants.{Nothing}
 use Rattle.run_changes.specs.declared.Change.{Change}
-use Rattle.run_changes.specs.Changes.{row_noted, row_becomes, what_at, mark_at, communicated, option_change_by, option_change, own_change_by, own_change, change_in}
+use Rattle.run_changes.specs.Changes.{row_noted, row_becomes, what_at, option_change, own_change, change_in}
 
 -- none of these numbers, the last one first
 abbrev pub NoneAmong : List ℕ → ℕ → Type 0
@@ -17,19 +16,11 @@ NoneAmong (n ∷ l) w = NoneAmong l w × (w ≡ n → ⊥)
 
 module _ (acts : List ℕ) (sent : List ℤ) (elements : List ℕ) (j : ℕ) (c : Change) where
   -- by what is noted of the row
-  pub own-made : (strip w : ℕ) → what_at acts j ≡ w → c ≡ own_change_by acts sent elements strip j w → c ≡ own_change acts sent elements strip j
-  unfolding own_change
-  own-made strip w e h = h ∙ ap (own_change_by acts sent elements strip j) (sym e)
-
   pub own-rest : (strip : ℕ) → NoneAmong (7 ∷ 6 ∷ 5 ∷ 4 ∷ 3 ∷ 2 ∷ 1 ∷ []) (what_at acts j) → c ≡ row_becomes j j 1 Nothing → c ≡ own_change acts sent elements strip j
   unfolding own_change
   own-rest strip f h =
       let w = what_at acts j in
       rw (ne_eqb w 1 f.0.0.0.0.0.0.1, ne_eqb w 2 f.0.0.0.0.0.1, ne_eqb w 3 f.0.0.0.0.1, ne_eqb w 4 f.0.0.0.1, ne_eqb w 5 f.0.0.1, ne_eqb w 6 f.0.1, ne_eqb w 7 f.1) h
-
-  pub option-made : (owner q w : ℕ) → what_at acts j ≡ w → c ≡ option_change_by acts sent elements owner q j w → c ≡ option_change acts sent elements owner q j
-  unfolding option_change
-  option-made owner q w e h = h ∙ ap (option_change_by acts sent elements owner q j) (sym e)
 
   pub option-rest : (owner q : ℕ) → NoneAmong (7 ∷ 5 ∷ 4 ∷ []) (what_at acts j) → c ≡ row_becomes owner j 0 Nothing → c ≡ option_change acts sent elements owner q j
   unfolding option_change
@@ -46,9 +37,3 @@ module _ (acts : List ℕ) (sent : List ℤ) (elements : List ℕ) (j : ℕ) (c 
   pub by_itself : (rows : List ℤ) (strip : ℕ) → ((row_at rows j).what ≡ 42 → ⊥) → strip ≡ strip_at (prepared rows) j → c ≡ own_change acts sent elements strip j → c ≡ change_in rows acts sent elements j
   unfolding change_in
   by_itself rows strip e f h = rw (ne_eqb _ 42 e, ← f) h
-
--- a communication, from the note of who waits and what is noted of that row
-pub passed-made : (acts : List ℕ) (sent : List ℤ) (elements : List ℕ) (owner row state e a n r : ℕ) (x : ℤ) (m : ℕ) → n ≡ get_or elements (2 * (e % 256) + 1) 0 → r ≡ row_noted n → x ≡ get_or sent r (pos 0) → m ≡ mark_at acts r
-    → ◌≡◌ {A = Change} (record { owner = owner; at = row; next = state; sender = n; written = Cell a x (m % 256) }) (communicated acts sent elements owner row state e a)
-unfolding communicated
-passed-made acts sent elements owner row state e a n r x m p q h g = rw (h, g, q, p)

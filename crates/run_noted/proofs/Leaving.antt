@@ -13,7 +13,8 @@ use Rattle.agreement.specs.RowsOfSteps.{rows_of_options}
 use Rattle.agreement.proofs.Options.{Rising}
 use Rattle.run_intents.specs.declared.Does.TheVariants.{Waits}
 use Rattle.run_notes.specs.declared.Note.{Note}
-use Rattle.run_notes.specs.Notes.{Lists, note_numbers, stored, what_of, where_of, receiving, sending, lowering, leave_element, leave_note, leave_options}
+use Rattle.run_notes.specs.declared.Notes.{Notes}
+use Rattle.run_notes.specs.Notes.{note_numbers, stored, what_of, where_of, receiving, sending, lowering, leave_element, leave_note, leave_options}
 use Rattle.run_notes.proofs.Changes.{test-yes, test-no}
 use Rattle.run_noted.specs.Noted.{no_note, lists_for}
 use Rattle.run_noted.proofs.Blocks.{swap-rows}
@@ -22,14 +23,14 @@ use Rattle.run_noted.proofs.Offers.{rising-member, any_same, waits_at}
 
 module _ (n : ℕ) (few : n ≤ 1024) where
   -- the rest of it, once the element is left
-  off_rest : (f : ℕ → Note) (g h : ℕ → ℕ) (b : ℕ → Bool) (j : ℕ) → j < n → {m : Lists} → m ≡ lists_for n f g h b → stored j (note_numbers Waits) (lowering j m) ≡ lists_for n (put f j no_note) g h (put b j false)
+  off_rest : (f : ℕ → Note) (g h : ℕ → ℕ) (b : ℕ → Bool) (j : ℕ) → j < n → {m : Notes} → m ≡ lists_for n f g h b → stored j (note_numbers Waits) (lowering j m) ≡ lists_for n (put f j no_note) g h (put b j false)
   off_rest f g h b j l e =
-      ap (λ (m : Lists). stored j no_note (lowering j m)) e
+      ap (λ (m : Notes). stored j no_note (lowering j m)) e
       ∙ ap (stored j no_note) (lowering-for n f g h b j (omega arith) l few)
       ∙ stored-for n f g h (put b j false) j (omega arith) no_note
 
   module _ (f : ℕ → Note) (g h : ℕ → ℕ) (b : ℕ → Bool) (j : ℕ) (l : j < n) where
-    abbrev M : Lists
+    abbrev M : Notes
     M = lists_for n f g h b
 
     what : what_of (lists_for n f g h b) j ≡ (f j).what

@@ -22,7 +22,8 @@ use Rattle.run_kept.specs.Noting.{output_noted, note_of, bit_in, noted, outputs_
 use Rattle.run_kept.proofs.Noting.{noted-itself}
 use Rattle.run_intents.specs.declared.Does.TheVariants.{Selects}
 use Rattle.run_notes.specs.declared.Note.{Note}
-use Rattle.run_notes.specs.Notes.{Lists, note, note_numbers, stored, raising, options_at, note_as, Noted, note_alt}
+use Rattle.run_notes.specs.declared.Notes.{Notes}
+use Rattle.run_notes.specs.Notes.{note, note_numbers, stored, raising, options_at, note_as, Noted, note_alt}
 use Rattle.run_notes.proofs.Changes.{test-no}
 use Rattle.run_noted.specs.Noted.{no_note, note_of_move, note_of_intent, note_of_offer, lists_for, note_in, receiver_in, sender_in, noted_by, NotesFit, Tells}
 use Rattle.run_noted.proofs.Blocks.{same_row, swap-rows}
@@ -51,7 +52,7 @@ module _ (rows : List ℤ) (ok : check rows ≡ none) (w : ℕ → Intent) (r : 
   abbrev js : List ℕ
   js = rows_of_options (options_at rows r)
 
-  abbrev M : Lists
+  abbrev M : Notes
   M = lists_for (row_count rows) (note_in rows w) (receiver_in rows w) (sender_in rows w) (bit_in (row_count rows) (alt_of (program rows)) w)
 
   -- a row that offers nothing and outputs nowhere

@@ -25,7 +25,8 @@ use Rattle.run_kept.specs.Kept.{is_input_from, offer_of, wanted_element, offer_w
 use Rattle.run_kept.specs.Noting.{input_noted, note_of, bit_in, noted, outputs_to_element}
 use Rattle.run_kept.proofs.Noting.{noted-itself, noted_other, woken-own, woken-option}
 use Rattle.run_notes.specs.declared.Note.{Note}
-use Rattle.run_notes.specs.Notes.{Lists, what_of, receiver_at, raising, options_at, wake_options, wake, wait_output, note_as}
+use Rattle.run_notes.specs.declared.Notes.{Notes}
+use Rattle.run_notes.specs.Notes.{what_of, receiver_at, raising, options_at, wake_options, wake, wait_output, note_as}
 use Rattle.run_notes.proofs.Changes.{test-yes, test-no}
 use Rattle.run_noted.specs.Noted.{no_note, note_of_intent, note_of_offer, lists_for, note_in, receiver_in, sender_in, noted_by, NotesFit}
 use Rattle.run_noted.proofs.Blocks.{same_row, swap-rows}
@@ -114,7 +115,7 @@ module _ (rows : List ℤ) (ok : check rows ≡ none) (w : ℕ → Intent) (r : 
   abbrev k : Note
   k = note_of_intent (outputs_to d m)
 
-  abbrev Sent : Lists
+  abbrev Sent : Notes
   Sent = lists_for (row_count rows) (put (note_in rows w) r (note_of_intent (outputs_to d m))) (receiver_in rows w) (put (sender_in rows w) d (r + 1)) (bit_in (row_count rows) (alt_of (program rows)) w)
 
   notes-are : (q : ℕ) → put (note_in rows w) r (note_of_intent (outputs_to d m)) q ≡ note_anew rows ok w r l plain bare (outputs_to d m) F q
@@ -241,6 +242,6 @@ module _ (rows : List ℤ) (ok : check rows ≡ none) (w : ℕ → Intent) (r : 
   unfolding noted_by note_as wait_output
   output_row =
       ap (wait_output rows r d) (stored-for n (note_in rows w) (receiver_in rows w) (sender_in rows w) b r (omega (arith, few)) k)
-      ∙ ap (λ (x : Lists). if_else (eqb (receiver_at x d) 0) x (wake rows d ((receiver_at x d - 1) % 1024) x)) (sending-for n (put (note_in rows w) r k) (receiver_in rows w) (sender_in rows w) b d small (r + 1))
+      ∙ ap (λ (x : Notes). if_else (eqb (receiver_at x d) 0) x (wake rows d ((receiver_at x d - 1) % 1024) x)) (sending-for n (put (note_in rows w) r k) (receiver_in rows w) (sender_in rows w) b d small (r + 1))
       ∙ ap (λ (c : ℕ). if_else (eqb c 0) Sent (wake rows d ((c - 1) % 1024) Sent)) (receiver-for n (put (note_in rows w) r k) (receiver_in rows w) (put (sender_in rows w) d (r + 1)) b d small)
       ∙ woken-lists (input_noted n alt w d) refl

@@ -20,7 +20,8 @@ use Rattle.run_parents.specs.Marks.{row_note}
 use Rattle.run_kept.specs.Kept.{offers_input, offer_ready}
 use Rattle.run_intents.specs.declared.Does.TheVariants.{Selects}
 use Rattle.run_notes.specs.declared.Note.{Note}
-use Rattle.run_notes.specs.Notes.{Lists, note, note_numbers, stored, sender_at, raising, wait_input, wake_option, wake_options, note_as, noted_of, note_options}
+use Rattle.run_notes.specs.declared.Notes.{Notes}
+use Rattle.run_notes.specs.Notes.{note, note_numbers, stored, sender_at, raising, wait_input, wake_option, wake_options, note_as, noted_of, note_options}
 use Rattle.run_notes.proofs.Changes.{test-no}
 use Rattle.run_noted.specs.Noted.{no_note, note_of_open, note_of_offer, lists_for, Offered, offers-none, passed, taken, Tells, tells_none, lacks-here, lacks-later, waits-here, offers-here}
 use Rattle.run_noted.proofs.Blocks.{same_row, other_row, swap-rows}
@@ -57,7 +58,7 @@ module _ (n : ℕ) (few : n ≤ 1024) where
   -- ---- one note
 
   module _ (rows : List ℤ) (r j : ℕ) (l : j < n) (f : ℕ → Note) (g h : ℕ → ℕ) (b : ℕ → Bool) where
-    abbrev L : Note → Lists
+    abbrev L : Note → Notes
     L k = lists_for n (put f j k) g h b
 
     at : (k : Note) → stored j k (lists_for n f g h b) ≡ lists_for n (put f j k) g h b
@@ -81,11 +82,11 @@ module _ (n : ℕ) (few : n ≤ 1024) where
   wait-for : (r j e : ℕ) → j < n → e < 256 → (f : ℕ → Note) (g h : ℕ → ℕ) (b : ℕ → Bool) → wait_input r j e (lists_for n f g h b) ≡ lists_for n f (put g e (r + 1)) h (λ q. if_else (eqb (h e) 0) (b q) (put b j true q))
   unfolding wait_input
   wait-for r j e l x f g h b =
-      ap (λ (m : Lists). if_else (eqb (sender_at m e) 0) m (raising j m)) (receiving-for n f g h b e x (r + 1))
+      ap (λ (m : Notes). if_else (eqb (sender_at m e) 0) m (raising j m)) (receiving-for n f g h b e x (r + 1))
       ∙ ap (λ (k : ℕ). if_else (eqb k 0) after (raising j after)) (sender-for n f (put g e (r + 1)) h b e x)
       ∙ go (eqb (h e) 0)
     where
-      after : Lists
+      after : Notes
       after = lists_for n f (put g e (r + 1)) h b
 
       go : (t : Bool) → if_else t after (raising j after) ≡ lists_for n f (put g e (r + 1)) h (λ q. if_else t (b q) (put b j true q))
@@ -123,7 +124,7 @@ module _ (n : ℕ) (few : n ≤ 1024) where
 
   module _ (rows : List ℤ) (F : AltOption → Note) (r : ℕ) where
     -- one lacks a value: none is noted
-    pub options-lack : (bs : List AltOption) (k : ℕ) → Tells F bs (fails k) → (m : Lists) → note_options rows F r bs m ≡ noted_of (note 1 k 0 (pos 0)) m
+    pub options-lack : (bs : List AltOption) (k : ℕ) → Tells F bs (fails k) → (m : Notes) → note_options rows F r bs m ≡ noted_of (note 1 k 0 (pos 0)) m
     unfolding note_options
     options-lack [] k x' m = elim x' [ ]
     options-lack (o ∷ bs) k (lacks-here e) m = rw e
@@ -146,7 +147,7 @@ module _ (n : ℕ) (few : n ≤ 1024) where
     offer-goes (input_offer j q e a) z = omega arith
 
     module _ (f : ℕ → Note) (g h : ℕ → ℕ) (b : ℕ → Bool) (S : ℕ → Option ℕ) (same : (e : ℕ) → h e ≡ row_note (S e)) where
-      abbrev Result : List Offer → Lists
+      abbrev Result : List Offer → Notes
       Result os = lists_for n (λ q. overlaid (offer_at q os) (f q)) (λ e. if_else (any_passes (offers_input e) os) (r + 1) (g e)) h (λ q. b q || offer_ready S (offer_at q os))
 
       -- all are noted
@@ -220,7 +221,7 @@ module _ (n : ℕ) (few : n ≤ 1024) where
       ∙ ap (λ (t : Bool). if_else (eqb (f j).what 7) (if_else t (raising j M) M) M) (swap-rows (f j).at e)
       ∙ go (eqb (f j).what 7) refl (eqb e (f j).at) refl
     where
-      M : Lists
+      M : Notes
       M = lists_for n f g h b
 
       bits : (t : Bool) → waits_at e (f j) ≡ t → (q : ℕ) → (b q || (eqb j q && t)) ≡ (b q || (eqb q j && waits_at e (f q)))

@@ -16,7 +16,8 @@ use Rattle.run_kept.specs.Kept.{is_input_from, offer_of}
 use Rattle.run_kept.specs.Noting.{output_noted, input_noted, bit_in}
 use Rattle.run_ready_bits.specs.Bits.{bits_of}
 use Rattle.run_notes.specs.declared.Note.{Note}
-use Rattle.run_notes.specs.Notes.{Lists, lists_of, note, options_at, leave_row}
+use Rattle.run_notes.specs.declared.Notes.{Notes}
+use Rattle.run_notes.specs.Notes.{lists_of, note, options_at, leave_row}
 
 -- the note of nothing
 abbrev pub no_note : Note
@@ -72,7 +73,7 @@ module _ {A : Type 0} where
 abbrev pub act_numbers : Note → List ℕ
 act_numbers k = k.what ∷ k.at ∷ k.third ∷ []
 
-unfoldable pub lists_for : ℕ → (ℕ → Note) → (ℕ → ℕ) → (ℕ → ℕ) → (ℕ → Bool) → Lists
+unfoldable pub lists_for : ℕ → (ℕ → Note) → (ℕ → ℕ) → (ℕ → ℕ) → (ℕ → Bool) → Notes
 lists_for n f g h b = lists_of (listed (λ j. act_numbers (f j)) 1024) (listed (λ j. (f j).number ∷ []) 1024) (listed (λ e. g e ∷ h e ∷ []) 256) (bits_of b n)
 
 module _ (rows : List ℤ) (w : ℕ → Intent) where
@@ -92,7 +93,7 @@ module _ (rows : List ℤ) (w : ℕ → Intent) where
   sender_in e = row_note (output_noted (row_count rows) (alt_of (program rows)) w e)
 
   -- the four lists
-  unfoldable pub noted_by : Lists
+  unfoldable pub noted_by : Notes
   noted_by = lists_for (row_count rows) note_in receiver_in sender_in (bit_in (row_count rows) (alt_of (program rows)) w)
 
 -- what an ALT offers is of its options, in order, of each option once
@@ -124,7 +125,7 @@ pub data Tells (f : AltOption → Note) : List AltOption → OptionsResult → T
   offers-here : {b : AltOption} {bs : List AltOption} {o : Offer} {os : List Offer} → f b ≡ note_of_offer (some o) → option_row o ≡ b.row → Tells f bs (offers os) → Tells f (b ∷ bs) (offers (o ∷ os))
 
 -- the notes of a step's rows are taken off: first of the row whose step it is, then of the sender
-abbrev pub step_left : List ℤ → Label → Lists → Lists
+abbrev pub step_left : List ℤ → Label → Notes → Notes
 step_left rows (own r) m = leave_row rows r m
 step_left rows (pass i o) m = leave_row rows o (leave_row rows i m)
 step_left rows (take_option r j) m = leave_row rows r m

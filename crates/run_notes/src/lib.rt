@@ -1,14 +1,14 @@
 // What the machine notes of rows at work: what each would do, who waits at each element, and which rows have a ready step. A note is stored, and taken off.
 #![tactic(auto)]
 
-ghost use Rattle.std.specs.Prelude.{◌≡◌, List, ℕ, ◌<◌, ◌≤◌, ℤ, set};
+ghost use Rattle.std.specs.Prelude.{◌≡◌, List, ℕ, ◌<◌, ◌≤◌, ℤ};
 ghost use Rattle.meaning.specs.Tree.{content_at};
 ghost use Rattle.run_code.specs.Prepared.{Prepared};
-ghost use Rattle.run_notes.specs.Notes.{lists_of, lent_notes, left_notes, note, short, note_numbers, acts_stored, options_at, leave_element, leave_note, leave_options, leave_offers, leave_row};
+ghost use Rattle.run_notes.specs.Notes.{note, short, note_numbers, options_at};
 
 use run_code::place;
 use run_intents::Does;
-use run_ready_bits::lower;
+use run_ready_bits::{clear, lower};
 
 // What a row would do, as numbers: what it is; a row, channel, element or reason; third a cell, or of an output the mark of
 // its message; and a number with its sign.
@@ -39,42 +39,24 @@ fn short(n: usize) -> u16
     (n % 65536) as u16
 }
 
-// The same number in a wider type.
-pub fn wide(n: u16) -> usize
-    ensures { result ≡ n }
-{
-    n as usize
-}
+impl From<Does> for Note {
+    ghost from_gives = { λ d n. n ≡ note_numbers d };
 
-// What a row would do, as numbers.
-pub fn note_of(d: Does) -> Note
-    ensures { result ≡ note_numbers d }
-{
-    match d {
-        Does::Waits => note_with(0, 0, 0, 0),
-        Does::Stops(k) => note_with(1, k as u16, 0, 0),
-        Does::Assigns(a, x) => note_with(2, 0, short(a), x),
-        Does::Ends => note_with(3, 0, 0, 0),
-        Does::Starts(q) => note_with(4, short(q), 0, 0),
-        Does::Reads(a, p) => note_with(5, short(p), short(a), 0),
-        Does::Writes(p, x, m) => note_with(6, short(p), m as u16, x),
-        Does::InputsFrom(e, a) => note_with(7, short(e), short(a), 0),
-        Does::OutputsTo(e, x, m) => note_with(8, short(e), m as u16, x),
-        Does::Selects => note_with(9, 0, 0, 0),
+    // What a row would do, as numbers.
+    fn from(d: Does) -> Note {
+        match d {
+            Does::Waits => note_with(0, 0, 0, 0),
+            Does::Stops(k) => note_with(1, k as u16, 0, 0),
+            Does::Assigns(a, x) => note_with(2, 0, short(a), x),
+            Does::Ends => note_with(3, 0, 0, 0),
+            Does::Starts(q) => note_with(4, short(q), 0, 0),
+            Does::Reads(a, p) => note_with(5, short(p), short(a), 0),
+            Does::Writes(p, x, m) => note_with(6, short(p), m as u16, x),
+            Does::InputsFrom(e, a) => note_with(7, short(e), short(a), 0),
+            Does::OutputsTo(e, x, m) => note_with(8, short(e), m as u16, x),
+            Does::Selects => note_with(9, 0, 0, 0),
+        }
     }
-}
-
-// The note of row r becomes n.
-pub fn store(acts: &mut [u16; 3072], sent: &mut [i32; 1024], r: usize, n: Note)
-    requires { r < 1024 }
-    ensures acts { acts.new ≡ acts_stored acts.old r n }
-    ensures sent { sent.new ≡ set sent.old r n.number }
-{
-    acts[3 * r] = n.what;
-    acts[3 * r + 1] = n.at;
-    acts[3 * r + 2] = n.third;
-    let number = n.number;
-    sent[r] = number;
 }
 
 // The link of the first option of row r; 1,024 where it is no ALT.
@@ -90,85 +72,96 @@ pub fn first_option(code: &[u16; 6150], r: usize) -> usize
     1024
 }
 
-// Row j no longer waits at an element.
-fn leave_element(acts: &[u16; 3072], elements: &mut [u16; 512], j: usize)
-    requires { j < 1024 }
-    ensures { (s : List ℤ) (b : List ℕ) → lists_of acts.now s elements.new b ≡ leave_element j (lists_of acts.now s elements.old b) }
-{
-    let p = 2 * (wide(acts[3 * j + 1]) % 256);
-    match acts[3 * j] {
-        7 => elements[p] = 0,
-        8 => elements[p + 1] = 0,
-        _ => {}
+// What is noted of rows at work: three numbers of each row's note, and the number that it hands over; of each channel element
+// who waits there to input and who to output (a row and 1, or 0); and the rows that have a ready step, as bits.
+// kept: numbers and no `[Note; 1024]`, as run_noted and run_told read them by `what_of` and `get_or`.
+#[derive(Drop)]
+pub struct Notes {
+    pub acts: [u16; 3072],
+    pub sent: [i32; 1024],
+    pub elements: [u16; 512],
+    pub bits: [u64; 33],
+}
+
+impl Notes {
+    ghost use Rattle.run_notes.specs.Notes.{no_notes, stored, leave_element, leave_note, leave_options, leave_offers, leave_row};
+
+    // Nothing is noted: every row waits nowhere.
+    pub fn new() -> Notes
+        ensures { result ≡ no_notes }
+    {
+        Notes {
+            acts: [0; 3072],
+            sent: [0; 1024],
+            elements: [0; 512],
+            bits: clear(),
+        }
     }
-}
 
-// The note of row j is taken off.
-fn leave_note(
-    acts: &mut [u16; 3072],
-    sent: &mut [i32; 1024],
-    elements: &mut [u16; 512],
-    bits: &mut [u64; 33],
-    j: usize,
-)
-    requires { j < 1024 }
-    ensures { left_notes acts sent elements bits ≡ leave_note j (lent_notes acts sent elements bits) }
-{
-    leave_element(acts, elements, j);
-    lower(bits, j);
-    store(acts, sent, j, note_of(Does::Waits));
-}
-
-// The same of the options from link m on.
-fn leave_options(
-    code: &[u16; 6150],
-    acts: &mut [u16; 3072],
-    sent: &mut [i32; 1024],
-    elements: &mut [u16; 512],
-    bits: &mut [u64; 33],
-    m: usize,
-)
-    requires table { (rows : List ℤ) × Prepared rows code.now }
-    requires inside { m ≤ 1024 }
-    ensures { (rows : List ℤ) → Prepared rows code.now → left_notes acts sent elements bits ≡ leave_options (content_at rows m).options (lent_notes acts sent elements bits) }
-{
-    if place(code, m, 0) == 42 {
-        leave_note(acts, sent, elements, bits, m);
-        leave_options(code, acts, sent, elements, bits, place(code, m, 2) as usize);
+    // The note of row r becomes n.
+    pub fn store(&mut self, r: usize, n: Note)
+        requires { r < 1024 }
+        ensures { self.new ≡ stored r n self.old }
+    {
+        self.acts[3 * r] = n.what;
+        self.acts[3 * r + 1] = n.at;
+        self.acts[3 * r + 2] = n.third;
+        self.sent[r] = n.number;
     }
-}
 
-// The same of the options of row r, if it looks at them.
-fn leave_offers(
-    code: &[u16; 6150],
-    acts: &mut [u16; 3072],
-    sent: &mut [i32; 1024],
-    elements: &mut [u16; 512],
-    bits: &mut [u64; 33],
-    r: usize,
-)
-    requires table { (rows : List ℤ) × Prepared rows code.now }
-    requires inside { r < 1024 }
-    ensures { (rows : List ℤ) → Prepared rows code.now → left_notes acts sent elements bits ≡ leave_offers rows r (lent_notes acts sent elements bits) }
-{
-    if acts[3 * r] == 9 {
-        leave_options(code, acts, sent, elements, bits, first_option(code, r));
+    // Row j no longer waits at an element.
+    fn leave_element(&mut self, j: usize)
+        requires { j < 1024 }
+        ensures { self.new ≡ leave_element j self.old }
+    {
+        let p = 2 * (self.acts[3 * j + 1] as usize % 256);
+        match self.acts[3 * j] {
+            7 => self.elements[p] = 0,
+            8 => self.elements[p + 1] = 0,
+            _ => {}
+        }
     }
-}
 
-// The notes of row r and of its options are taken off.
-pub fn leave(
-    code: &[u16; 6150],
-    acts: &mut [u16; 3072],
-    sent: &mut [i32; 1024],
-    elements: &mut [u16; 512],
-    bits: &mut [u64; 33],
-    r: usize,
-)
-    requires table { (rows : List ℤ) × Prepared rows code.now }
-    requires inside { r < 1024 }
-    ensures { (rows : List ℤ) → Prepared rows code.now → left_notes acts sent elements bits ≡ leave_row rows r (lent_notes acts sent elements bits) }
-{
-    leave_offers(code, acts, sent, elements, bits, r);
-    leave_note(acts, sent, elements, bits, r);
+    // The note of row j is taken off.
+    fn leave_note(&mut self, j: usize)
+        requires { j < 1024 }
+        ensures { self.new ≡ leave_note j self.old }
+    {
+        self.leave_element(j);
+        lower(&mut self.bits, j);
+        self.store(j, Note::from(Does::Waits));
+    }
+
+    // The same of the options from link m on.
+    fn leave_options(&mut self, code: &[u16; 6150], m: usize)
+        requires table { (rows : List ℤ) × Prepared rows code.now }
+        requires inside { m ≤ 1024 }
+        ensures { (rows : List ℤ) → Prepared rows code.now → self.new ≡ leave_options (content_at rows m).options self.old }
+    {
+        if place(code, m, 0) == 42 {
+            self.leave_note(m);
+            self.leave_options(code, place(code, m, 2) as usize);
+        }
+    }
+
+    // The same of the options of row r, if it looks at them.
+    fn leave_offers(&mut self, code: &[u16; 6150], r: usize)
+        requires table { (rows : List ℤ) × Prepared rows code.now }
+        requires inside { r < 1024 }
+        ensures { (rows : List ℤ) → Prepared rows code.now → self.new ≡ leave_offers rows r self.old }
+    {
+        if self.acts[3 * r] == 9 {
+            self.leave_options(code, first_option(code, r));
+        }
+    }
+
+    // The notes of row r and of its options are taken off.
+    pub fn leave(&mut self, code: &[u16; 6150], r: usize)
+        requires table { (rows : List ℤ) × Prepared rows code.now }
+        requires inside { r < 1024 }
+        ensures { (rows : List ℤ) → Prepared rows code.now → self.new ≡ leave_row rows r self.old }
+    {
+        self.leave_offers(code, r);
+        self.leave_note(r);
+    }
 }

@@ -5,7 +5,8 @@ use Rattle.meaning.specs.Tree.{AltOption, action_of}
 use Rattle.meaning.specs.State.{program, process_at}
 use Rattle.run_intents.specs.Does.{option_does, does_of}
 use Rattle.run_notes.specs.declared.Note.{Note}
-use Rattle.run_notes.specs.Notes.{Lists, Noted, note_numbers, note_options, note_alt, note_row}
+use Rattle.run_notes.specs.declared.Notes.{Notes}
+use Rattle.run_notes.specs.Notes.{Noted, note_numbers, note_options, note_alt, note_row}
 
 module _ (lines : ℕ) (cells : List Message) (places : List ℕ) where
   -- the note of an option
@@ -13,13 +14,13 @@ module _ (lines : ℕ) (cells : List Message) (places : List ℕ) where
   option_note b = note_numbers (option_does lines cells places b)
 
   -- the options of ALT r are noted, and what the ALT would do is its note
-  abbrev pub options_noted : List ℤ → ℕ → List AltOption → Lists → Noted
+  abbrev pub options_noted : List ℤ → ℕ → List AltOption → Notes → Noted
   options_noted rows r bs m = note_options rows option_note r bs m
 
   -- ALT r is noted
-  abbrev pub alt_noted : List ℤ → ℕ → Lists → Lists
+  abbrev pub alt_noted : List ℤ → ℕ → Notes → Notes
   alt_noted rows r m = note_alt rows option_note r m
 
   -- row r is noted
-  abbrev pub row_noted : List ℕ → List ℤ → ℕ → Lists → Lists
+  abbrev pub row_noted : List ℕ → List ℤ → ℕ → Notes → Notes
   row_noted counts rows r m = note_row rows option_note r (note_numbers (does_of lines cells places counts (action_of (process_at (program rows) r)))) m

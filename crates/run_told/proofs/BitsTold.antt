@@ -20,20 +20,20 @@ use Rattle.run_kept.specs.Noting.{bit_in}
 use Rattle.run_kept.proofs.Noting.{bits-of-notes}
 use Rattle.run_ready_bits.specs.Bits.{Shown, bits_of}
 use Rattle.run_ready_bits.proofs.Contents.{bits-shown}
-use Rattle.run_notes.specs.Notes.{Lists}
+use Rattle.run_notes.specs.declared.Notes.{Notes}
 use Rattle.run_noted.specs.Noted.{lists_for, noted_by}
 
 module _ (rows : List ℤ) (ok : check rows ≡ none) (sheet : Sheet) (l : List Label) (s : State) (o : OrderOf rows sheet l s) where
   -- the bits of the notes
-  bits_are : (m : Lists) → m ≡ noted_by rows (intent_at (program rows) sheet s) → m.bits ≡ bits_of (bit_in (row_count rows) (alt_of (program rows)) (intent_at (program rows) sheet s)) (row_count rows)
+  bits_are : (m : Notes) → m ≡ noted_by rows (intent_at (program rows) sheet s) → m.bits ≡ bits_of (bit_in (row_count rows) (alt_of (program rows)) (intent_at (program rows) sheet s)) (row_count rows)
   unfolding noted_by lists_for
-  bits_are m e = ap (λ (k : Lists). k.bits) e
+  bits_are m e = ap (λ (k : Notes). k.bits) e
 
   ready-same : bit_in (row_count rows) (alt_of (program rows)) (intent_at (program rows) sheet s) ≡ ready_row (program rows) sheet s
   ready-same =
       fun_ext (λ j. ap (λ (n : ℕ). bit_in n (alt_of (program rows)) (intent_at (program rows) sheet s) j) (sym (states-length rows ok sheet l s o)) ∙ sym (bits-of-notes (program rows) sheet s j))
 
-  pub bits-told : (m : Lists) → m ≡ noted_by rows (intent_at (program rows) sheet s) → Shown (ready_row (program rows) sheet s) (row_count rows) m.bits
+  pub bits-told : (m : Notes) → m ≡ noted_by rows (intent_at (program rows) sheet s) → Shown (ready_row (program rows) sheet s) (row_count rows) m.bits
   bits-told m e =
       subst (λ (ws : List ℕ). Shown (ready_row (program rows) sheet s) (row_count rows) ws)
       (ap (λ (f : ℕ → Bool). bits_of f (row_count rows)) (sym ready-same) ∙ sym (bits_are m e))

@@ -27,7 +27,8 @@ use Rattle.run_kept.specs.Kept.{offer_of}
 use Rattle.run_kept.specs.Noting.{output_noted}
 use Rattle.run_kept.proofs.Waiting.{one-sender, sender-is, waiter-waits}
 use Rattle.run_notes.specs.declared.Note.{Note}
-use Rattle.run_notes.specs.Notes.{Lists, note, options_at}
+use Rattle.run_notes.specs.declared.Notes.{Notes}
+use Rattle.run_notes.specs.Notes.{note, options_at}
 use Rattle.run_noted.specs.Noted.{note_of_intent, note_of_offer, listed, act_numbers, lists_for, note_in, receiver_in, sender_in, noted_by, NotesFit}
 use Rattle.run_noted.proofs.Blocks.{one, two, three, listed_at}
 use Rattle.run_noted.proofs.Offers.{rising-member, options-rising, alt-option}
@@ -39,12 +40,12 @@ use Rattle.run_changes.specs.Changes.{what_at, act_at}
 use Rattle.run_changes.proofs.Told.{Told}
 
 -- numbers of the note of a row, and of an element
-module _ (rows : List ℤ) (w : ℕ → Intent) (m : Lists) (is : m ≡ noted_by rows w) where
+module _ (rows : List ℤ) (w : ℕ → Intent) (m : Notes) (is : m ≡ noted_by rows w) where
   module _ (j : ℕ) (l : j < 1024) (k : Note) (e : note_in rows w j ≡ k) where
     act-is : (i : ℕ) → i < 3 → get_or m.acts (3 * j + i) 0 ≡ get_or (act_numbers k) i 0
     unfolding noted_by lists_for
     act-is i h =
-        ap (λ (y : Lists). get_or y.acts (3 * j + i) 0) is
+        ap (λ (y : Notes). get_or y.acts (3 * j + i) 0) is
         ∙ listed_at 3 three (λ j. act_numbers (note_in rows w j)) (λ j. refl) j i h 1024 0 l
         ∙ ap (λ (n : Note). get_or (act_numbers n) i 0) e
 
@@ -55,7 +56,7 @@ module _ (rows : List ℤ) (w : ℕ → Intent) (m : Lists) (is : m ≡ noted_by
     unfolding noted_by lists_for
     number_is =
         let z : j ≡ 1 * j + 0 = omega arith in
-        ap (λ (y : Lists). get_or y.sent j (pos 0)) is
+        ap (λ (y : Notes). get_or y.sent j (pos 0)) is
         ∙ ap (λ (p : ℕ). get_or (listed (λ j. (note_in rows w j).number ∷ []) 1024) p (pos 0)) z
         ∙ listed_at 1 one (λ j. (note_in rows w j).number ∷ []) (λ j. refl) j 0 (omega arith) 1024 (pos 0) l
         ∙ ap (λ (n : Note). n.number) e
@@ -63,10 +64,10 @@ module _ (rows : List ℤ) (w : ℕ → Intent) (m : Lists) (is : m ≡ noted_by
   sender-noted : (e : ℕ) → e < 256 → get_or m.elements (2 * e + 1) 0 ≡ sender_in rows w e
   unfolding noted_by lists_for
   sender-noted e l =
-      ap (λ (y : Lists). get_or y.elements (2 * e + 1) 0) is
+      ap (λ (y : Notes). get_or y.elements (2 * e + 1) 0) is
       ∙ listed_at 2 two (λ e. receiver_in rows w e ∷ sender_in rows w e ∷ []) (λ e. refl) e 1 (omega arith) 256 0 l
 
-module _ (rows : List ℤ) (ok : check rows ≡ none) (sheet : Sheet) (l : List Label) (s : State) (o : OrderOf rows sheet l s) (m : Lists) (is : m ≡ noted_by rows (intent_at (program rows) sheet s)) where
+module _ (rows : List ℤ) (ok : check rows ≡ none) (sheet : Sheet) (l : List Label) (s : State) (o : OrderOf rows sheet l s) (m : Notes) (is : m ≡ noted_by rows (intent_at (program rows) sheet s)) where
   abbrev W : ℕ → Intent
   W = intent_at (program rows) sheet s
 

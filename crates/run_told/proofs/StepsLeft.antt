@@ -20,7 +20,8 @@ use Rattle.meaning.specs.Order.{OrderOf}
 use Rattle.meaning.specs.Answers.{check}
 use Rattle.agreement.proofs.Active.{Active, acts-alone, passes_on, takes-open, takes-input}
 use Rattle.run_kept.specs.Noting.{off}
-use Rattle.run_notes.specs.Notes.{Lists, leave_row}
+use Rattle.run_notes.specs.declared.Notes.{Notes}
+use Rattle.run_notes.specs.Notes.{leave_row}
 use Rattle.run_noted.specs.Noted.{noted_by, NotesFit}
 use Rattle.run_noted.proofs.NotesFit.{notes-fit}
 use Rattle.run_noted.proofs.StepLeft as noted
@@ -57,7 +58,7 @@ module _ (c : Change) where
 -- ---- a step
 
 -- the lists after the rows of a change are off: one row, or two
-pub data StepLeft (rows : List ℤ) (m k : Lists) (c : Change) : Type 0 where
+pub data StepLeft (rows : List ℤ) (m k : Notes) (c : Change) : Type 0 where
   left_one : c.sender ≡ 0 → leave_row rows c.owner m ≡ k → StepLeft rows m k c
   left_both : (p : ℕ) → c.sender ≡ suc p → leave_row rows p (leave_row rows c.owner m) ≡ k → StepLeft rows m k c
 

@@ -7,7 +7,7 @@ use lib.IntN.{ℤ}
 use Rattle.meaning.specs.Readings.{Sheet}
 use Rattle.meaning.specs.Answers.{check}
 use Rattle.machine.specs.Held.{KeptReadings}
-use Rattle.run_notes.specs.Notes.{Lists}
+use Rattle.run_notes.specs.declared.Notes.{Notes}
 use Rattle.run_noted.proofs.Start.{start-noted}
 use Rattle.run_changes.specs.declared.Change.{Change}
 use Rattle.run_told.proofs.BitsTold.{bits-told}
@@ -18,7 +18,7 @@ use Rattle.run_turns.specs.Turns.{leave_step}
 use Rattle.run_turns.proofs.Stands.{NoteLaws}
 
 -- a step's rows are taken off, one or two
-step-is-left : (rows : List ℤ) (m k : Lists) (c : Change) → StepLeft rows m k c → leave_step rows c.owner c.sender m ≡ k
+step-is-left : (rows : List ℤ) (m k : Notes) (c : Change) → StepLeft rows m k c → leave_step rows c.owner c.sender m ≡ k
 step-is-left rows m k c (left_one z h) = rw z h
 step-is-left rows m k c (left_both p z h) = rw z h
 

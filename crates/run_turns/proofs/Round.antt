@@ -31,17 +31,18 @@ use Rattle.run_kept.proofs.Mending.{decides-row}
 use Rattle.run_kept.proofs.Noting.{off-or-moved}
 use Rattle.run_values.specs.Cells.{cells_in}
 use Rattle.run_intents.specs.Does.{option_does, does_of}
-use Rattle.run_notes.specs.Notes.{Lists, note_numbers, note_row}
+use Rattle.run_notes.specs.declared.Notes.{Notes}
+use Rattle.run_notes.specs.Notes.{note_numbers, note_row}
 use Rattle.run_noted.specs.Noted.{noted_by, Under}
 use Rattle.run_turns.specs.Turns.{note_listed}
 use Rattle.run_turns.proofs.NotedInTurn.{all_are, step_all, all_shown}
 
 module _ (rows : List ℤ) (cells : List Message) (places counts : List ℕ) (lines : ℕ) where
   -- row r is noted
-  abbrev note_one : ℕ → Lists → Lists
+  abbrev note_one : ℕ → Notes → Notes
   note_one r m = note_row rows (λ b. note_numbers (option_does lines cells places b)) r (note_numbers (does_of lines cells places counts (action_of (process_at (program rows) r)))) m
 
-  listed-each : (v : ℕ → Intent) (l : List ℕ) (m : Lists) → note_listed rows cells places counts lines l m ≡ step_all v (noted_by rows) note_one l m
+  listed-each : (v : ℕ → Intent) (l : List ℕ) (m : Notes) → note_listed rows cells places counts lines l m ≡ step_all v (noted_by rows) note_one l m
   listed-each v [] m = refl
   listed-each v (r ∷ l) m = listed-each v l (note_one r m)
 

@@ -44,7 +44,8 @@ use Rattle.run_kept.specs.Kept.{ready_row}
 use Rattle.run_kept.specs.Noting.{off}
 use Rattle.run_values.specs.declared.store.State as store
 use Rattle.run_values.specs.Cells.{cells_in, unset_state}
-use Rattle.run_notes.specs.Notes.{Lists, lists_of}
+use Rattle.run_notes.specs.declared.Notes.{Notes}
+use Rattle.run_notes.specs.Notes.{lists_of}
 use Rattle.run_noted.specs.Noted.{noted_by}
 use Rattle.run_changes.specs.declared.Change.{Change}
 use Rattle.run_changes.specs.Changes.{change_in, changes_of, put_data, with_states, DataFits}
@@ -66,8 +67,8 @@ use Rattle.run_turns.proofs.Round.{NotesRight, start-noted-all, turn-noted-all}
 
 -- what is used of the notes of states of orders
 pub record NoteLaws (rows : List ℤ) (sheet : Sheet) (lines : ℕ) : Type 0 where
-  pub tells : (l : List Label) (s : State) → OrderOf rows sheet l s → (m : Lists) → m ≡ noted_by rows (intent_at (program rows) sheet s) → Told (program rows) sheet s m.acts m.sent m.elements
-  pub shows : (l : List Label) (s : State) → OrderOf rows sheet l s → (m : Lists) → m ≡ noted_by rows (intent_at (program rows) sheet s) → Shown (ready_row (program rows) sheet s) (row_count rows) m.bits
+  pub tells : (l : List Label) (s : State) → OrderOf rows sheet l s → (m : Notes) → m ≡ noted_by rows (intent_at (program rows) sheet s) → Told (program rows) sheet s m.acts m.sent m.elements
+  pub shows : (l : List Label) (s : State) → OrderOf rows sheet l s → (m : Notes) → m ≡ noted_by rows (intent_at (program rows) sheet s) → Shown (ready_row (program rows) sheet s) (row_count rows) m.bits
   pub leaves : (l : List Label) (s : State) → OrderOf rows sheet l s → {x : Label} {e : Effect} → Active (intent_at (program rows) sheet s) x e → (c : Change) → e.changes ≡ changes_of c
       → leave_step rows c.owner c.sender (noted_by rows (intent_at (program rows) sheet s)) ≡ noted_by rows (off x (intent_at (program rows) sheet s))
   pub notes : (l : List Label) (t : State) → OrderOf rows sheet l t → (b : Buffers) → HoldsState rows t b → NotesRight rows sheet lines t b
@@ -83,7 +84,7 @@ rows-listed rows ok sheet Those t came W =
 
 module _ (rows : List ℤ) (ok : check rows ≡ none) (sheet : Sheet) (readings : List ℤ) (given : List ℕ) (lines : ℕ) (K : KeptReadings rows sheet readings given lines) (few : lines ≤ 128) (N : NoteLaws rows sheet lines)
     (choices : List ℕ) (budget : ℕ) (first : TraceLists) where
-  module _ (n : ℕ) (lists : TraceLists) (b : Buffers) (left came : List ℕ) (m : Lists) (S : Stands rows sheet choices budget first n lists (machine_of b left came m)) where
+  module _ (n : ℕ) (lists : TraceLists) (b : Buffers) (left came : List ℕ) (m : Notes) (S : Stands rows sheet choices budget first n lists (machine_of b left came m)) where
     abbrev s : State
     s = S.state
 
@@ -166,8 +167,8 @@ module _ (rows : List ℤ) (ok : check rows ≡ none) (sheet : Sheet) (readings 
               }
 
           -- after the turn
-          pub stands-further : (d : Buffers) → d ≡ put_unset (local_at (program rows) (listed_blocks cames)) (with_states states (put_data readings given c.written b)) → (h : Lists) → h ≡ leave_step rows c.owner c.sender m
-              → (k : Lists) → k ≡ note_listed rows (cells_in d.cells d.marks) d.places d.counts lines (listed_rows cames) h
+          pub stands-further : (d : Buffers) → d ≡ put_unset (local_at (program rows) (listed_blocks cames)) (with_states states (put_data readings given c.written b)) → (h : Notes) → h ≡ leave_step rows c.owner c.sender m
+              → (k : Notes) → k ≡ note_listed rows (cells_in d.cells d.marks) d.places d.counts lines (listed_rows cames) h
               → (next : TraceLists) → next ≡ record { ready_counts = set lists.ready_counts n count; taken_rows = set lists.taken_rows n j }
               → Stands rows sheet choices budget first (n + 1) next (machine_of d lefts cames k)
           stands-further d d-is h h-is k k-is next next-is =
@@ -183,7 +184,7 @@ module _ (rows : List ℤ) (ok : check rows ≡ none) (sheet : Sheet) (readings 
                 noted =
                     k-is
                     ∙ ap (note_listed rows (cells_in d.cells d.marks) d.places d.counts lines (listed_rows cames)) h-is
-                    ∙ ap (λ (z : Lists). note_listed rows (cells_in d.cells d.marks) d.places d.counts lines (listed_rows cames) (leave_step rows c.owner c.sender z)) S.noted
+                    ∙ ap (λ (z : Notes). note_listed rows (cells_in d.cells d.marks) d.places d.counts lines (listed_rows cames) (leave_step rows c.owner c.sender z)) S.noted
                     ∙ ap (note_listed rows (cells_in d.cells d.marks) d.places d.counts lines (listed_rows cames))
                     (N.leaves S.under.labels s S.under.order a c (changes-are rows ok sheet S.under.labels s S.under.order b S.held.holds readings given lines K few m.acts m.sent m.elements T j picked-below x step_is c c-change e (active-effect (intent_at (program rows) sheet s) a)))
                     ∙ turn-noted-all rows ok sheet lines S.under.labels s S.under.order a cames listed d (N.notes U.labels (after (program rows) sheet x s) U.order d H.holds);
@@ -205,7 +206,7 @@ module _ (rows : List ℤ) (ok : check rows ≡ none) (sheet : Sheet) (readings 
     began-below = rows-listed rows ok sheet (λ q. Unit {0}) (start (program rows)) came started
 
     pub stands-start : (d : Buffers) → d ≡ record { cells = replicate 256 (pos 0); marks = replicate 256 0; states = states; places = replicate 8 0; numbers = replicate 1024 (pos 0); counts = replicate 8 0; output_marks = replicate 1024 0 }
-        → (k : Lists) → k ≡ note_listed rows (cells_in d.cells d.marks) d.places d.counts lines (listed_rows came) (lists_of (replicate 3072 0) (replicate 1024 (pos 0)) (replicate 512 0) no_rows)
+        → (k : Notes) → k ≡ note_listed rows (cells_in d.cells d.marks) d.places d.counts lines (listed_rows came) (lists_of (replicate 3072 0) (replicate 1024 (pos 0)) (replicate 512 0) no_rows)
         → Stands rows sheet choices budget first 0 first (machine_of d left came k)
     unfolding blank
     stands-start d d-is k k-is =
@@ -230,7 +231,7 @@ module _ (rows : List ℤ) (ok : check rows ≡ none) (sheet : Sheet) (readings 
         }
 
     -- the same by the state that a run begins with
-    pub stands-first : (x : store.State) → x ≡ unset_state → (bits : List ℕ) → bits ≡ no_rows → (k : Lists)
+    pub stands-first : (x : store.State) → x ≡ unset_state → (bits : List ℕ) → bits ≡ no_rows → (k : Notes)
         → k ≡ note_listed rows (cells_in x.values x.marks) x.places (replicate 8 0) lines (listed_rows came) (lists_of (replicate 3072 0) (replicate 1024 (pos 0)) (replicate 512 0) bits)
         → Stands rows sheet choices budget first 0 first (machine_of (arrays_of x states (replicate 1024 (pos 0)) (replicate 8 0) (replicate 1024 0)) left came k)
     stands-first x e bits f k g =

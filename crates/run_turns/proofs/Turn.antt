@@ -29,11 +29,12 @@ use Rattle.run_ready_bits.specs.Bits.{Shown, no_rows}
 use Rattle.run_code.specs.Prepared.{Prepared}
 use Rattle.run_values.specs.declared.store.State as store
 use Rattle.run_values.specs.Cells.{cells_in, unset_state}
-use Rattle.run_notes.specs.Notes.{Lists, lists_of}
+use Rattle.run_notes.specs.declared.Notes.{Notes}
+use Rattle.run_notes.specs.Notes.{lists_of}
 use Rattle.run_changes.specs.declared.Change.{Change}
 use Rattle.run_changes.specs.Changes.{change_in, DataFits}
 use Rattle.run_starting.specs.Parts.{IsProcess}
-use Rattle.run_turns.specs.declared.Put.{Put}
+use Rattle.std.specs.Prelude.{Option}
 use Rattle.run_turns.specs.Results.{ResultReached, arrays_of}
 use Rattle.run_turns.specs.Ending.{is_last, outcome_with}
 use Rattle.run_turns.specs.Showing.{shown_from_place, lists_lent}
@@ -79,7 +80,7 @@ pub record Standing : Type 0 where
   pub arrays : Buffers
   pub left : List ℕ
   pub came : List ℕ
-  pub notes : Lists
+  pub notes : Notes
   pub stands : Stands setting.rows setting.sheet setting.choices setting.budget setting.first n lists (machine_of arrays left came notes)
 
 -- so many steps are ready there, and whether the run ends
@@ -126,7 +127,7 @@ began-below b =
     stands.began-below _ g.accepted _ _ _ _ g.kept g.few (laws g) g.choices g.budget g.first _ b.root_is _ _ _ b.up
 
 -- once they are noted, the run stands where it starts
-pub stands-first : (b : Begun) → let g = b.setting in (s : store.State) → s ≡ unset_state → (bits : List ℕ) → bits ≡ no_rows → (m : Lists)
+pub stands-first : (b : Begun) → let g = b.setting in (s : store.State) → s ≡ unset_state → (bits : List ℕ) → bits ≡ no_rows → (m : Notes)
     → m ≡ note_listed g.rows (cells_in s.values s.marks) s.places (replicate 8 0) g.lines (listed_rows b.came) (lists_of (replicate 3072 0) (replicate 1024 (pos 0)) (replicate 512 0) bits)
     → Stands g.rows g.sheet g.choices g.budget g.first 0 g.first (machine_of (arrays_of s b.states (replicate 1024 (pos 0)) (replicate 8 0) (replicate 1024 0)) b.left b.came m)
 stands-first b =
@@ -240,9 +241,9 @@ blocks-below y =
 
 -- after the turn: the host and a cell have what the change puts there, the cells of the blocks that started are unset, the rows of the step are left, and those that came to work are noted
 pub stands-further : (y : Settling) → let x = y.changing in let p = x.picking in let t = p.counting.standing in let g = t.setting in let b = t.arrays in
-    (h : Host) → h ≡ host_put x.change.written (host_of b.places b.numbers b.counts b.output_marks) → (w : Put) → w ≡ written g.readings g.given b.places x.change.written
-    → (s : store.State) → s ≡ with_put w (record { values = b.cells; marks = b.marks; places = h.places }) → (z : store.State) → z ≡ blocks_unset g.rows (listed_blocks y.came) s → (l : Lists) → l ≡ leave_step g.rows x.change.owner x.change.sender t.notes
-    → (m : Lists) → m ≡ note_listed g.rows (cells_in z.values z.marks) z.places h.counts g.lines (listed_rows y.came) l
+    (h : Host) → h ≡ host_put x.change.written (host_of b.places b.numbers b.counts b.output_marks) → (w : Option (ℕ × Option ℤ)) → w ≡ written g.readings g.given b.places x.change.written
+    → (s : store.State) → s ≡ with_put w (record { values = b.cells; marks = b.marks; places = h.places }) → (z : store.State) → z ≡ blocks_unset g.rows (listed_blocks y.came) s → (l : Notes) → l ≡ leave_step g.rows x.change.owner x.change.sender t.notes
+    → (m : Notes) → m ≡ note_listed g.rows (cells_in z.values z.marks) z.places h.counts g.lines (listed_rows y.came) l
     → (readied taken : List ℕ) → readied ≡ set t.lists.ready_counts t.n p.counting.count → taken ≡ set t.lists.taken_rows t.n p.row
     → Stands g.rows g.sheet g.choices g.budget g.first (t.n + 1) (lists_lent readied taken) (machine_of (arrays_of z y.states h.numbers h.counts h.output_marks) y.left y.came m)
 stands-further y h host-is w w-is s s-is z z-is l left_is m m-is readied taken readied-is taken_is =

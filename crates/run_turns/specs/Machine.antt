@@ -10,7 +10,7 @@ use Rattle.meaning.specs.Trace.{TraceLists, trace, shown_from}
 use Rattle.meaning.specs.Buffers.{Buffers}
 use Rattle.machine.specs.Held.{HoldsState}
 use Rattle.machine.specs.Counts.{kept_of, Counted}
-use Rattle.run_notes.specs.Notes.{Lists}
+use Rattle.run_notes.specs.declared.Notes.{Notes}
 use Rattle.run_noted.specs.Noted.{noted_by}
 use Rattle.run_turns.specs.Showing.{shown_from_place}
 
@@ -19,9 +19,9 @@ pub record Machine : Type 0 where
   pub arrays : Buffers
   pub left : List ℕ
   pub came : List ℕ
-  pub notes : Lists
+  pub notes : Notes
 
-abbrev pub machine_of : Buffers → List ℕ → List ℕ → Lists → Machine
+abbrev pub machine_of : Buffers → List ℕ → List ℕ → Notes → Machine
 machine_of b l c m = record { arrays = b; left = l; came = c; notes = m }
 
 -- the arrays hold state s, the counts of members left are right, and there is room for the rows that come to work and the blocks that start

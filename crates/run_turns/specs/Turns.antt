@@ -1,48 +1,47 @@
 -- What a turn of the run does to what the machine holds: the notes of the step's rows are taken off, the data changes, the cells of the blocks that start become unset,
 -- and the rows that came to work are noted.
 use Rattle.std.proofs.Math.Option.{none, some}
-use Rattle.std.specs.Prelude.{List, [], ◌∷◌, ℕ, zero, suc, ◌+◌, ◌*◌, ℤ, pos, get_or, set, eqb}
+use Rattle.std.specs.Prelude.{List, [], ◌∷◌, ℕ, zero, suc, ◌+◌, ◌*◌, ℤ, pos, get_or, set, eqb, Option, Some, None}
 use Rattle.meaning.specs.Basics.{if_else}
 use Rattle.meaning.specs.Declarations.{Variable}
 use Rattle.meaning.specs.State.{program}
 use Rattle.meaning.specs.Values.{Message}
-use Rattle.machine.specs.Lending.{Lent}
 use Rattle.machine.specs.Came.{local_at}
 use Rattle.run_values.specs.declared.store.State.{State}
 use Rattle.run_values.specs.Cells.{with_cell, with_unset}
-use Rattle.run_notes.specs.Notes.{Lists, leave_row}
+use Rattle.run_notes.specs.declared.Notes.{Notes}
+use Rattle.run_notes.specs.Notes.{leave_row}
 use Rattle.run_noting.specs.Noting.{row_noted}
 use Rattle.run_changes.specs.declared.Data.{Data}
+use Rattle.run_changes.specs.declared.Outputs.{Outputs}
 use Rattle.run_changes.specs.declared.Data.TheVariants.{Nothing, Cell, Reading, Output}
-use Rattle.run_turns.specs.declared.Put.{Put}
-use Rattle.run_turns.specs.declared.Put.TheVariants.{Nowhere, Set, Unset}
 
 -- the row of a note, one more than its number, is taken off; 0 is none
-abbrev pub leave_noted : List ℤ → ℕ → Lists → Lists
+abbrev pub leave_noted : List ℤ → ℕ → Notes → Notes
 leave_noted rows zero m = m
 leave_noted rows (suc r) m = leave_row rows r m
 
 -- the rows of a step are taken off: its owner, and the row that outputs, if there is one
-abbrev pub leave_step : List ℤ → ℕ → ℕ → Lists → Lists
+abbrev pub leave_step : List ℤ → ℕ → ℕ → Notes → Notes
 leave_step rows owner sender m = leave_noted rows sender (leave_row rows owner m)
 
 -- each of these rows is noted, one after another
-abbrev pub note_listed : List ℤ → List Message → List ℕ → List ℕ → ℕ → List ℕ → Lists → Lists
+abbrev pub note_listed : List ℤ → List Message → List ℕ → List ℕ → ℕ → List ℕ → Notes → Notes
 note_listed rows cells places counts lines [] m = m
 note_listed rows cells places counts lines (r ∷ l) m = note_listed rows cells places counts lines l (row_noted lines cells places counts rows r m)
 
--- what a change of data puts into a cell, where the readings are kept as numbers and marks
-abbrev pub written : List ℤ → List ℕ → List ℕ → Data → Put
-written readings given places Nothing = Nowhere
-written readings given places (Cell a x m) = if_else (eqb m 0) (Unset a) (Set a x)
-written readings given places (Reading a p) = let i = p * 128 + get_or places p 0 in if_else (eqb (get_or given i 0) 0) (Unset a) (Set a (get_or readings i (pos 0)))
-written readings given places (Output p strip x m) = Nowhere
+-- the cell that a change of data writes, and what it puts there, where the readings are kept as numbers and marks
+abbrev pub written : List ℤ → List ℕ → List ℕ → Data → Option (ℕ × Option ℤ)
+written readings given places Nothing = None
+written readings given places (Cell a x m) = if_else (eqb m 0) (Some (a, None)) (Some (a, Some x))
+written readings given places (Reading a p) = let i = p * 128 + get_or places p 0 in if_else (eqb (get_or given i 0) 0) (Some (a, None)) (Some (a, Some (get_or readings i (pos 0))))
+written readings given places (Output p strip x m) = None
 
 -- the state with that put into its cell
-abbrev pub with_put : Put → State → State
-with_put Nowhere s = s
-with_put (Set a x) s = with_cell s a (some x)
-with_put (Unset a) s = with_cell s a none
+abbrev pub with_put : Option (ℕ × Option ℤ) → State → State
+with_put None s = s
+with_put (Some (a, None)) s = with_cell s a none
+with_put (Some (a, Some x)) s = with_cell s a (some x)
 
 -- the state with all cells of variables unset
 abbrev pub variables_unset : List Variable → State → State
@@ -63,14 +62,9 @@ pub record Host : Type 0 where
 abbrev pub host_of : List ℕ → List ℤ → List ℕ → List ℕ → Host
 host_of p n c m = record { places = p; numbers = n; counts = c; output_marks = m }
 
-module _ (places : Lent ℕ) (numbers : Lent ℤ) (counts output_marks : Lent ℕ) where
-  -- the same of the four lists that are lent, when the call begins
-  abbrev pub lent_host : Host
-  lent_host = host_of places.entry.now numbers.entry.now counts.entry.now output_marks.entry.now
-
-  -- when it ends
-  abbrev pub left_host : Host
-  left_host = host_of places.exit.now numbers.exit.now counts.exit.now output_marks.exit.now
+-- the same of places and what the run has given
+abbrev pub host_with : List ℕ → Outputs → Host
+host_with p o = host_of p o.numbers o.counts o.marks
 
 -- a change of data at the host: a reading is taken, a number is given with its mark
 abbrev pub host_put : Data → Host → Host

@@ -5,41 +5,24 @@ ghost use Rattle.std.specs.Prelude.{◌≡◌, List, ◌<◌, ◌≤◌, ℤ};
 ghost use Rattle.run_values.specs.Cells.{lent_cells};
 ghost use Rattle.machine.specs.Came.{listed_rows, listed_blocks};
 ghost use Rattle.run_code.specs.Prepared.{Prepared};
-ghost use Rattle.run_notes.specs.Notes.{lent_notes, left_notes};
-ghost use Rattle.run_turns.specs.Turns.{leave_step, note_listed, written, blocks_unset, lent_host, left_host, host_put};
+ghost use Rattle.run_turns.specs.Turns.{leave_step, note_listed, written, blocks_unset, host_with, host_put};
 ghost use Rattle.run_turns.specs.Fits.{RowsBelow, BlocksBelow, HostFits, ReadingFits};
 
-use run_changes::{Data, put_output};
+use run_changes::{Data, Outputs};
 use run_code::place;
-use run_notes::leave;
+use run_notes::Notes;
 use run_noting::note_row;
 use run_values::store::State;
 
-// What goes into a cell: nothing; a number; none, which makes it unset.
-#[derive(Drop)]
-pub enum Put {
-    Nowhere,
-    Set(usize, i32),
-    Unset(usize),
-}
-
 // The rows of a step are taken off: its owner, and the row of the note `sender`, if there is one.
-pub fn leave_step(
-    code: &[u16; 6150],
-    owner: usize,
-    sender: u16,
-    acts: &mut [u16; 3072],
-    sent: &mut [i32; 1024],
-    elements: &mut [u16; 512],
-    bits: &mut [u64; 33],
-)
+pub fn leave_step(code: &[u16; 6150], notes: &mut Notes, owner: usize, sender: u16)
     requires table { (rows : List ℤ) × Prepared rows code.now }
     requires inside { (owner < 1024) × (sender ≤ 1024) }
-    ensures { (rows : List ℤ) → Prepared rows code.now → left_notes acts sent elements bits ≡ leave_step rows owner sender (lent_notes acts sent elements bits) }
+    ensures { (rows : List ℤ) → Prepared rows code.now → notes.new ≡ leave_step rows owner sender notes.old }
 {
-    leave(code, acts, sent, elements, bits, owner);
+    notes.leave(code, owner);
     if sender != 0 {
-        leave(code, acts, sent, elements, bits, sender as usize - 1);
+        notes.leave(code, sender as usize - 1);
     }
 }
 
@@ -50,11 +33,9 @@ pub fn unset_blocks(code: &[u16; 6150], came: &[u16; 4098], mut state: State) ->
     ensures { (rows : List ℤ) → Prepared rows code.now → result ≡ blocks_unset rows (listed_blocks came.now) state }
 {
     let n = came[2049] as usize;
-    let mut i: usize = 0;
-    while i < n {
+    for i in 0..n {
         let v = place(code, came[2050 + i] as usize, 1) as usize;
         state = state.unset_range(place(code, v, 1) as usize, place(code, v, 2) as usize);
-        i += 1;
     }
     state
 }
@@ -68,60 +49,52 @@ pub fn note_all<'a>(
     counts: &'a [u32; 8],
     lines: usize,
     came: &'a [u16; 4098],
-    acts: &mut [u16; 3072],
-    sent: &mut [i32; 1024],
-    elements: &mut [u16; 512],
-    bits: &mut [u64; 33],
+    notes: &mut Notes,
 )
     requires table { (rows : List ℤ) × Prepared rows code.now }
     requires listed { RowsBelow came.now }
-    ensures { (rows : List ℤ) → Prepared rows code.now → left_notes acts sent elements bits ≡ note_listed rows (lent_cells values marks) places.now counts.now lines (listed_rows came.now) (lent_notes acts sent elements bits) }
+    ensures { (rows : List ℤ) → Prepared rows code.now → notes.new ≡ note_listed rows (lent_cells values marks) places.now counts.now lines (listed_rows came.now) notes.old }
 {
     let n = came[0] as usize;
-    let mut i: usize = 0;
-    while i < n {
+    for i in 0..n {
         let r = came[i + 1] as usize;
-        note_row(
-            code, values, marks, places, counts, lines, r, acts, sent, elements, bits,
-        );
-        i += 1;
+        note_row(code, values, marks, places, counts, lines, notes, r);
     }
 }
 
-// What a change of data puts into a cell.
-pub fn written_by<'a>(d: Data, places: &'a [u32; 8], readings: &'a [i32], given: &'a [u8]) -> Put
+// The cell that a change of data writes, and what it puts there: a number, or none, which makes it unset.
+pub fn written_by<'a>(
+    d: Data,
+    places: &'a [u32; 8],
+    readings: &'a [i32],
+    given: &'a [u8],
+) -> Option<(usize, Option<i32>)>
     requires { ReadingFits d places.now readings.now given.now }
     ensures { result ≡ written readings.now given.now places.now d }
 {
     match d {
-        Data::Nothing => Put::Nowhere,
+        Data::Nothing => None,
         Data::Cell(cell, x, mark) => {
             if mark == 0 {
-                return Put::Unset(cell);
+                return Some((cell, None));
             }
-            Put::Set(cell, x)
+            Some((cell, Some(x)))
         }
         Data::Reading(cell, p) => {
             let i = p * 128 + places[p] as usize;
             if given[i] == 0 {
-                return Put::Unset(cell);
+                return Some((cell, None));
             }
-            Put::Set(cell, readings[i])
+            Some((cell, Some(readings[i])))
         }
-        Data::Output(_, _, _, _) => Put::Nowhere,
+        Data::Output(_, _, _, _) => None,
     }
 }
 
 // A change of data at the host: a reading is taken, a number is given with its mark.
-pub fn put_host(
-    d: Data,
-    places: &mut [u32; 8],
-    numbers: &mut [i32; 1024],
-    counts: &mut [u32; 8],
-    output_marks: &mut [u8; 1024],
-)
-    requires { HostFits d places.old counts.old }
-    ensures { left_host places numbers counts output_marks ≡ host_put d (lent_host places numbers counts output_marks) }
+pub fn put_host(d: Data, places: &mut [u32; 8], outputs: &mut Outputs)
+    requires { HostFits d places.old outputs.old.counts }
+    ensures { host_with places.new outputs.new ≡ host_put d (host_with places.old outputs.old) }
 {
     match d {
         Data::Nothing => {}
@@ -130,7 +103,7 @@ pub fn put_host(
             places[p] += 1;
         }
         Data::Output(p, strip, x, mark) => {
-            put_output(numbers, counts, output_marks, p, strip, x, mark)
+            outputs.put(p, strip, x, mark);
         }
     }
 }

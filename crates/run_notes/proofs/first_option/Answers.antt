@@ -2,10 +2,6 @@
 use native.Mathlib.Omega.{arith}
 use Rattle.run_code.proofs.Inside.{first-inside}
 use Rattle.run_notes.proofs.Links.{first-options, no-alt}
-use borrow.Author.Rules.{rules}
-use Rattle.run_notes.proofs.first_option.Reads as reads
-use Rattle.run_notes.proofs.first_option.Lts as lts
-use Rattle.run_code.proofs.place.Reads as place-reads
 use Rattle.run_notes.proofs.first_option.Goals as goal
 
 pub returns-then-place-eq34 : goal.returns-then-place-eq34

@@ -3,8 +3,6 @@ use native.Mathlib.Omega.{arith}
 use mathlib.Core.Path.{refl}
 use Rattle.run_noting.proofs.Changes.{none-woken, next-woken}
 use Rattle.run_notes.proofs.Links.{option-row, next-link, option-here, no-option}
-use borrow.Author.Rules.{rules}
-use Prim.Native.Nat.{ℕ, ◌-◌, ◌<◌}
 use Rattle.run_noting.proofs.+wake_options.Goals as goal
 
 pub wake_option-requires : goal.wake_option-requires
@@ -16,9 +14,9 @@ wake_options-requires t c =
     (omega (arith, c.decreases, l), (c.requires.table, l.1))
 
 pub returns-then-place-eq42 : goal.returns-then-place-eq42
-returns-then-place-eq42 t c = λ rows p s l.
+returns-then-place-eq42 t c = λ rows p.
     let o = option-here p c.args.m c.requires.inside c.place.ensures c.if-place-eq42.true c.place-then-place-eq42.ensures in
-    next-woken _ _ _ o refl (c.wake_option.ensures s l) (c.wake_options.ensures rows p s l)
+    next-woken _ _ _ o refl c.wake_option.ensures (c.wake_options.ensures rows p)
 
 pub returns-else-place-eq42 : goal.returns-else-place-eq42
-returns-else-place-eq42 t c = λ rows p s l. none-woken _ _ (no-option p c.args.m c.requires.inside c.place.ensures c.if-place-eq42.false)
+returns-else-place-eq42 t c = λ rows p. none-woken _ _ (no-option p c.args.m c.requires.inside c.place.ensures c.if-place-eq42.false)

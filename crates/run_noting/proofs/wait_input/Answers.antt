@@ -1,13 +1,12 @@
 -- `wait_input` meets its contract.
-use Rattle.run_noting.proofs.Changes.{input-met, input-alone}
-use borrow.Author.Rules.{rules}
-use Rattle.run_noting.proofs.wait_input.Reads as reads
-use Rattle.run_noting.proofs.wait_input.Lts as lts
-use Rattle.run_ready_bits.proofs.raise.Reads as raise-reads
+use Rattle.run_notes.specs.Notes.{wait_input}
+use Rattle.run_notes.proofs.Changes.{test-yes, test-no}
 use Rattle.run_noting.proofs.wait_input.Goals as goal
 
-pub returns-then-elements-p-ne0 : goal.returns-then-elements-p-ne0
-returns-then-elements-p-ne0 c = λ a s. input-met a s _ _ _ _ _ c.if-elements-p-ne0.true c.raise.ensures
+pub returns-then-notes-p-ne0 : goal.returns-then-notes-p-ne0
+unfolding wait_input
+returns-then-notes-p-ne0 c = rw (test-no c.if-notes-p-ne0.true, c.raise.ensures)
 
-pub returns-else-elements-p-ne0 : goal.returns-else-elements-p-ne0
-returns-else-elements-p-ne0 c = λ a s. input-alone a s _ _ _ _ _ c.if-elements-p-ne0.false
+pub returns-else-notes-p-ne0 : goal.returns-else-notes-p-ne0
+unfolding wait_input
+returns-else-notes-p-ne0 c = rw (test-yes c.if-notes-p-ne0.false)

@@ -15,7 +15,8 @@ use Rattle.meaning.specs.Answers.{check}
 use Rattle.machine.specs.Held.{KeptReadings}
 use Rattle.machine.specs.Came.{first_rows, listed_blocks}
 use Rattle.run_code.specs.Prepared.{Prepared}
-use Rattle.run_notes.specs.Notes.{Lists, lists_of}
+use Rattle.run_notes.specs.declared.Notes.{Notes}
+use Rattle.run_notes.specs.Notes.{lists_of}
 use Rattle.run_turns.specs.Showing.{lists_lent}
 use Rattle.run_turns.specs.Results.{arrays_of}
 use Rattle.run_turns.specs.Machine.{machine_of}

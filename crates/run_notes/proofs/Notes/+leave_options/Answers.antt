@@ -1,11 +1,8 @@
 -- `leave_options` meets its contract. A next link is a higher row, so the distance to row 1,025 falls.
-use native.Mathlib.Omega.{arith}
-use mathlib.Core.Path.{refl}
+use Rattle.std.proofs.Common.{refl, arith}
 use Rattle.run_notes.proofs.Changes.{none_left, next-left}
 use Rattle.run_notes.proofs.Links.{option-row, next-link, option-here, no-option}
-use borrow.Author.Rules.{rules}
-use Prim.Native.Nat.{ℕ, ◌-◌, ◌<◌}
-use Rattle.run_notes.proofs.+leave_options.Goals as goal
+use Rattle.run_notes.proofs.Notes.+leave_options.Goals as goal
 
 pub leave_note-requires : goal.leave_note-requires
 leave_note-requires t c = option-row c.requires.table.1 c.args.m c.requires.inside c.place.ensures c.if-place-eq42.true
