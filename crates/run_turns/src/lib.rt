@@ -2,7 +2,7 @@
 #![tactic(auto)]
 
 ghost use Rattle.std.specs.Prelude.{◌≡◌, List, ◌<◌, ◌≤◌, ℤ};
-ghost use Rattle.run_values.specs.Cells.{lent_cells};
+ghost use Rattle.run_values.specs.Cells.{state_cells};
 ghost use Rattle.machine.specs.Came.{listed_rows, listed_blocks};
 ghost use Rattle.run_code.specs.Prepared.{Prepared};
 ghost use Rattle.run_turns.specs.Turns.{leave_step, note_listed, written, blocks_unset, host_with, host_put};
@@ -41,24 +41,22 @@ pub fn unset_blocks(code: &[u16; 6150], came: &[u16; 4098], mut state: State) ->
 }
 
 // The rows that came to work are noted.
-pub fn note_all<'a>(
-    code: &'a [u16; 6150],
-    values: &'a [i32; 256],
-    marks: &'a [u8; 256],
-    places: &'a [u32; 8],
-    counts: &'a [u32; 8],
+pub fn note_all(
+    code: &[u16; 6150],
+    state: &State,
+    counts: &[u32; 8],
     lines: usize,
-    came: &'a [u16; 4098],
+    came: &[u16; 4098],
     notes: &mut Notes,
 )
     requires table { (rows : List ℤ) × Prepared rows code.now }
     requires listed { RowsBelow came.now }
-    ensures { (rows : List ℤ) → Prepared rows code.now → notes.new ≡ note_listed rows (lent_cells values marks) places.now counts.now lines (listed_rows came.now) notes.old }
+    ensures { (rows : List ℤ) → Prepared rows code.now → notes.new ≡ note_listed rows (state_cells state.now) state.now.places counts.now lines (listed_rows came.now) notes.old }
 {
     let n = came[0] as usize;
     for i in 0..n {
         let r = came[i + 1] as usize;
-        note_row(code, values, marks, places, counts, lines, notes, r);
+        note_row(code, state, counts, lines, notes, r);
     }
 }
 

@@ -58,9 +58,12 @@ module _ (xs : List ℤ) (ms : List ℕ) (i : ℕ) (l : i < 256) where
   set-cell e = rw (cell_in, ne_eqb _ _ e)
 
 -- the cells of a state, whose two arrays are of 256
+pub state-array : (s : State) → length s.values ≡ 256 → length s.marks ≡ 256 → state_cells s ≡ cells_in s.values s.marks
+state-array s v m = sym (cells-decoded s.values s.marks v m)
+
 module _ (s : State) (v : length s.values ≡ 256) (m : length s.marks ≡ 256) (i : ℕ) where
   as-array : cell_value (get_or (state_cells s) i none) ≡ cell_value (get_or (cells_in s.values s.marks) i none)
-  as-array = ap (λ (l : List Message). cell_value (get_or l i none)) (sym (cells-decoded s.values s.marks v m))
+  as-array = ap (λ (l : List Message). cell_value (get_or l i none)) (state-array s v m)
 
   pub past-state : 256 ≤ i → Missing 1 ≡ cell_value (get_or (state_cells s) i none)
   past-state l = sym (as-array ∙ ap cell_value (past-cells s.values s.marks i l))

@@ -43,4 +43,4 @@ loop-i-preserved c =
     let b : c.place-in-loop-i.result ≡ size_of code r = c.place-in-loop-i.ensures ∙ ap (λ (q : ℕ). place_at code q 2) v in
     let l = c.loop-i in
     λ rows p. one-more-unset rows code c.args.came.now p c.requires.listed l.i c.loop-i-test.true c.args.state (l.invariant rows p)
-        (c.unset_range-state.ensures ∙ ap₂ (λ (i n : ℕ). with_unset i n l.state) a b)
+    (c.unset_range-state.ensures ∙ ap₂ (λ (i n : ℕ). with_unset i n l.state) a b)
