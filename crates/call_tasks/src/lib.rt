@@ -47,13 +47,13 @@ fn ran(r: Run) -> Done
     ensures { reply_in result ≡ record { answer = Ran r.outcome r.steps r.ready; buffers = arrays_in r } }
 {
     let outcome = r.outcome;
-    let cells = r.values;
-    let marks = r.marks;
+    let cells = r.state.values;
+    let marks = r.state.marks;
     let states = r.states;
-    let places = r.places;
-    let numbers = r.numbers;
-    let counts = r.counts;
-    let output_marks = r.output_marks;
+    let places = r.state.places;
+    let numbers = r.outputs.numbers;
+    let counts = r.outputs.counts;
+    let output_marks = r.outputs.marks;
     Done {
         answer: Answer::Ran(outcome, r.steps, r.ready),
         cells,

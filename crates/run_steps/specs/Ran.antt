@@ -6,11 +6,12 @@ use Rattle.meaning.specs.Trace.{TraceLists, trace}
 use Rattle.meaning.specs.Buffers.{Buffers, encode}
 use Rattle.machine.specs.Held.{blank}
 use Rattle.run_steps.specs.declared.result.Run.{Run}
+use Rattle.run_turns.specs.Results.{arrays_with}
 use Rattle.run_turns.specs.Showing.{shown_from_place}
 
 -- the arrays of a run
 abbrev pub arrays_in : Run → Buffers
-arrays_in r = record { cells = r.values; marks = r.marks; states = r.states; places = r.places; numbers = r.numbers; counts = r.counts; output_marks = r.output_marks }
+arrays_in r = arrays_with r.state r.states r.outputs
 
 -- a run has the outcome, the steps, the total and the state of a result
 pub record RunHeld (rows : List ℤ) (q : meaning.RunResult) (r : Run) : Type 0 where

@@ -1,6 +1,6 @@
 // The outcome of a run: at rest, ended if the root has ended, broken if a row is stopped, else stuck; before rest, spent.
 ghost use Rattle.std.specs.Prelude.{◌≡◌, ◌≤◌, length, get_or, take};
-ghost use Rattle.meaning.specs.State.{any_of};
+ghost use Rattle.std.specs.List.{list_any};
 ghost use Rattle.meaning.specs.Order.{is_stopped};
 ghost use Rattle.run_turns.specs.Results.{rest_outcome};
 ghost use Rattle.run_turns.specs.Ending.{outcome_with};
@@ -11,22 +11,14 @@ use meaning::Outcome;
 fn state_at(states: &[u8], r: usize) -> u8
     ensures { result ≡ get_or states.now r 0 }
 {
-    if r < states.len() { states[r] } else { 0 }
+    states.get(r).copied().unwrap_or(0)
 }
 
-// Whether one of the first n rows is stopped.
-fn any_stopped(states: &[u8], n: usize) -> bool
-    requires { n ≤ length states.now }
-    ensures { result ≡ any_of is_stopped (take n states.now) }
+// Whether a row is stopped.
+fn any_stopped(states: &[u8]) -> bool
+    ensures { result ≡ list_any is_stopped states.now }
 {
-    let mut r = 0;
-    while r < n {
-        if 10 <= states[r] {
-            return true;
-        }
-        r += 1;
-    }
-    false
+    states.iter().any(|&state| 10 <= state)
 }
 
 // The outcome at rest of a table of n rows.
@@ -37,7 +29,7 @@ fn rest_outcome(states: &[u8], root: usize, n: usize) -> Outcome
     if state_at(states, root) == 2 {
         return Outcome::Ended;
     }
-    if any_stopped(states, n) {
+    if any_stopped(&states[..n]) {
         return Outcome::Broken;
     }
     Outcome::Stuck

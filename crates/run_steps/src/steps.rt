@@ -5,41 +5,51 @@ ghost use Rattle.run_code.specs.Prepared.{Prepared};
 ghost use Rattle.machine.specs.Held.{KeptReadings};
 ghost use Rattle.machine.specs.Lending.{lent_lists, left_lists};
 ghost use Rattle.run_turns.specs.Ending.{is_last};
+ghost use Rattle.run_turns.specs.Turns.{with_put};
 ghost use Rattle.run_steps.specs.Ran.{RunShown};
 
 use crate::outcome::outcome_with;
 use crate::result::Run;
-use run_changes::change_of;
+use run_changes::{Outputs, change_of};
+use run_notes::Notes;
 use run_ready_bits::{choose, total};
 use run_settling::{begin, change_states};
-use run_turns::{Put, leave_step, note_all, put_host, unset_blocks, written_by};
-use run_values::store::fresh;
+use run_turns::{leave_step, note_all, put_host, unset_blocks, written_by};
+use run_values::store::{State, fresh};
 
 // The choice for a step after n steps; 0 when the list is used up.
 fn choice_at(choices: &[u16], n: u32) -> u16
     ensures { result ≡ get_or choices.now n 0 }
 {
-    let i = n as usize;
-    if i < choices.len() { choices[i] } else { 0 }
+    choices.get(n as usize).copied().unwrap_or(0)
 }
 
 // Whether a run ends after n steps, with `count` steps ready: at rest, or with its budget used.
 fn is_last(count: u64, n: u32, budget: u32) -> bool
     ensures { result ≡ is_last count n budget }
 {
-    if count == 0 {
-        return true;
-    }
-    n == budget
+    count == 0 || n == budget
 }
 
 // A number is stored in a list of a traced run, at the place of step n, if there is one.
 fn show(list: &mut [u16], n: u32, x: u16)
     ensures { list.new ≡ set list.old n x }
 {
+    // kept: `if let Some(place) = list.get_mut(..)` left two goals about the loan open, and is no plainer
     let i = n as usize;
     if i < list.len() {
         list[i] = x;
+    }
+}
+
+// The state with what a change of data puts into its cell, if it writes one.
+fn with_put(state: State, put: Option<(usize, Option<i32>)>) -> State
+    ensures { result ≡ with_put put state }
+{
+    match put {
+        None => state,
+        Some((cell, Some(x))) => state.set(cell, x),
+        Some((cell, None)) => state.unset(cell),
     }
 }
 
@@ -63,82 +73,36 @@ pub fn take_steps<'a>(
 {
     let root = base_rows::declarations(rows);
     let mut states = [0u8; 1024];
-    let mut numbers = [0i32; 1024];
-    let mut counts = [0u32; 8];
-    let mut output_marks = [0u8; 1024];
     let mut left = [0u16; 1024];
     let mut came = [0u16; 4098];
-    let mut acts = [0u16; 3072];
-    let mut sent = [0i32; 1024];
-    let mut elements = [0u16; 512];
-    let mut bits = run_ready_bits::clear();
+    let mut outputs = Outputs::new();
+    let mut notes = Notes::new();
     let mut state = fresh();
     begin(code, root, &mut states, &mut left, &mut came);
-    note_all(
-        code,
-        &state.values,
-        &state.marks,
-        &state.places,
-        &counts,
-        lines,
-        &came,
-        &mut acts,
-        &mut sent,
-        &mut elements,
-        &mut bits,
-    );
+    note_all(code, &state, &outputs.counts, lines, &came, &mut notes);
     let mut n: u32 = 0;
     loop {
-        let ready = total(&bits);
+        let ready = total(&notes.bits);
         if is_last(ready, n, budget) {
             let outcome = outcome_with(ready as usize, &states, root, rows.len() / 4);
-            let values = state.values;
-            let marks = state.marks;
-            let places = state.places;
             return Run {
                 outcome,
                 steps: n,
                 ready: ready as u32,
-                values,
-                marks,
+                state,
                 states,
-                places,
-                numbers,
-                counts,
-                output_marks,
+                outputs,
             };
         }
-        let j = choose(&bits, choice_at(choices, n));
+        let j = choose(&notes.bits, choice_at(choices, n));
         show(readied, n, ready as u16);
         show(taken, n, j as u16);
-        let c = change_of(code, &acts, &sent, &elements, j);
-        leave_step(
-            code,
-            c.owner,
-            c.sender,
-            &mut acts,
-            &mut sent,
-            &mut elements,
-            &mut bits,
-        );
+        let c = change_of(code, &notes, j);
+        leave_step(code, &mut notes, c.owner, c.sender);
         let d = c.written;
         let w = written_by(d, &state.places, readings, given);
-        put_host(
-            d,
-            &mut state.places,
-            &mut numbers,
-            &mut counts,
-            &mut output_marks,
-        );
-        match w {
-            Put::Nowhere => {}
-            Put::Set(cell, x) => {
-                state = state.set(cell, x);
-            }
-            Put::Unset(cell) => {
-                state = state.unset(cell);
-            }
-        }
+        put_host(d, &mut state.places, &mut outputs);
+        state = with_put(state, w);
         change_states(
             code,
             c.at,
@@ -151,19 +115,7 @@ pub fn take_steps<'a>(
         if came[2049] != 0 {
             state = unset_blocks(code, &came, state);
         }
-        note_all(
-            code,
-            &state.values,
-            &state.marks,
-            &state.places,
-            &counts,
-            lines,
-            &came,
-            &mut acts,
-            &mut sent,
-            &mut elements,
-            &mut bits,
-        );
+        note_all(code, &state, &outputs.counts, lines, &came, &mut notes);
         n += 1;
     }
 }

@@ -1,11 +1,11 @@
 -- A list in a lent buffer: with nothing in it, with one number more, and with numbers stored one after another.
-use mathlib.Core.Path.{◌≡◌, refl, sym, ap, ◌∙◌}
+use mathlib.Core.Path.{◌≡◌, sym, ap, ◌∙◌}
 use mathlib.Core.List.{List, [], ◌∷◌, ◌++◌, append-nil}
-use Prim.Native.Nat.{ℕ, zero, suc, ◌+◌, ◌<◌, ◌≤◌}
+use Prim.Native.Nat.{ℕ, suc, ◌+◌, ◌<◌, ◌≤◌}
 use native.Mathlib.Numerals.{add-one}
 use native.Mathlib.Omega.{arith}
-use lib.ListN.{length, get_or, set, drop, replicate, length-append, length-replicate}
-use lib.Seq.{take_all, drop-cons, append_snoc, set_at, set-append_left}
+use lib.ListN.{length, set, drop, replicate, length-append, length-replicate}
+use lib.Seq.{take_all, append_snoc, set-append_left}
 use Rattle.meaning.specs.Buffers.{sized, lent}
 use Rattle.meaning.proofs.LentLaws.{sized-length, sized-more}
 use Rattle.run_turns.specs.Showing.{stored_from}
@@ -34,16 +34,3 @@ stored-after n (x ∷ xs) done old h =
 
 pub stored-lent : (n : ℕ) (xs old : List ℕ) → length xs ≤ n → stored_from 0 xs (lent n 0 [] old) ≡ lent n 0 xs old
 stored-lent n xs old h = stored-after n xs [] old (omega arith)
-
--- zeros, one after another
-zeros-more : (n : ℕ) → replicate {A = ℕ} (suc n) 0 ≡ replicate n 0 ++ (0 ∷ [])
-zeros-more zero = refl
-zeros-more (suc n) = ap (λ (l : List ℕ). 0 ∷ l) (zeros-more n)
-
-pub cleared_more : (i : ℕ) (old : List ℕ) → i < length old → set (replicate i 0 ++ drop i old) i 0 ≡ replicate (i + 1) 0 ++ drop (i + 1) old
-cleared_more i old h =
-    ap (λ (l : List ℕ). set (replicate i 0 ++ l) i 0) (drop-cons old i 0 h)
-    ∙ set_at (replicate i 0) (get_or old i 0) (drop (suc i) old) 0 i (length-replicate i 0)
-    ∙ sym (append_snoc (replicate i 0) 0 (drop (suc i) old))
-    ∙ ap (λ (l : List ℕ). l ++ drop (suc i) old) (sym (zeros-more i))
-    ∙ ap (λ (j : ℕ). replicate j 0 ++ drop j old) (sym (add-one i))

@@ -12,19 +12,12 @@ pub fn clear(list: &mut [u16])
     if list.len() < 65536 {
         return;
     }
-    let mut i: usize = 0;
-    while i < 65536 {
-        list[i] = 0;
-        i += 1;
-    }
+    list[..65536].fill(0);
 }
 
 // Whether one of two lists of these lengths is too short for a trace.
 pub fn lists_short(ready: usize, taken: usize) -> bool
     ensures { result ≡ (ltb ready max_budget || ltb taken max_budget) }
 {
-    if ready < 65536 {
-        return true;
-    }
-    taken < 65536
+    ready < 65536 || taken < 65536
 }

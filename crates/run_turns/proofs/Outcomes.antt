@@ -28,30 +28,6 @@ use Rattle.machine.proofs.HeldLaws.{states-are, read-state}
 use Rattle.machine.proofs.StateSizes.{lengths}
 use Rattle.run_turns.specs.Results.{rest_outcome}
 
-or-true : (t : Bool) → (t || true) ≡ true
-or-true true = refl
-or-true false = refl
-
-module _ (p : ℕ → Bool) where
-  any_append : (l m : List ℕ) → any_of p (l ++ m) ≡ (any_of p l || any_of p m)
-  any_append [] m = refl
-  any_append (x ∷ l) m = rw (any_append l m) (go (p x))
-    where
-      go : (t : Bool) → (t || (any_of p l || any_of p m)) ≡ ((t || any_of p l) || any_of p m)
-      go true = refl
-      go false = refl
-
-  -- one more element that fails the test
-  pub none_yet : (l : List ℕ) (r : ℕ) → r < length l → any_of p (take r l) ≡ false → p (get_or l r 0) ≡ false → any_of p (take (r + 1) l) ≡ false
-  none_yet l r h e f = rw (add-one r, take-suc l r 0 h, any_append (take r l) (get_or l r 0 ∷ []), e, f)
-
-  -- an element that passes it
-  pub one_passes : (l : List ℕ) (n r : ℕ) → r < n → n ≤ length l → p (get_or l r 0) ≡ true → any_of p (take n l) ≡ true
-  one_passes [] n r h k e = absurd (omega arith)
-  one_passes (x ∷ l) zero r h k e = absurd (omega arith)
-  one_passes (x ∷ l) (suc n) zero h k e = rw e
-  one_passes (x ∷ l) (suc n) (suc r) h k e = rw (one_passes l n r (omega arith) (omega arith) e) (or-true (p x))
-
 -- the array of row states tells the outcome at rest
 pub rest-is : (rows : List ℤ) → check rows ≡ none → (sheet : Sheet) (l : List Label) (s : State) → OrderOf rows sheet l s → (b : Buffers) → HoldsState rows s b
     → rest_outcome (root rows) (row_count rows) b.states ≡ outcome_at_rest (program rows) s

@@ -1,6 +1,6 @@
 -- A turn of a run, in records that grow with it: what the run is given, how it begins, where it stands, how many steps are ready, the row that it picks, the step's change, and the row states after it.
 -- What the laws of `Stands` say of them.
-use mathlib.Core.Path.{◌≡◌, sym, ap, ap₂, ◌∙◌}
+use mathlib.Core.Path.{◌≡◌, refl, sym, ap, ap₂, ◌∙◌}
 use mathlib.Core.Bool.{Bool, true, false}
 use mathlib.Core.Option.{none}
 use mathlib.Core.List.{List}
@@ -32,12 +32,14 @@ use Rattle.run_values.specs.declared.store.State as store
 use Rattle.run_values.specs.Cells.{state_cells, unset_state}
 use Rattle.run_values.proofs.ArrayCells.{state-array}
 use Rattle.run_notes.specs.declared.Notes.{Notes}
-use Rattle.run_notes.specs.Notes.{lists_of}
+use Rattle.run_notes.specs.Notes.{no_notes}
 use Rattle.run_changes.specs.declared.Change.{Change}
+use Rattle.run_changes.specs.declared.Outputs.{Outputs}
+use Rattle.run_changes.specs.Outputs.{no_outputs}
 use Rattle.run_changes.specs.Changes.{change_in, DataFits}
 use Rattle.run_starting.specs.Parts.{IsProcess}
 use Rattle.std.specs.Prelude.{Option}
-use Rattle.run_turns.specs.Results.{ResultReached, arrays_of}
+use Rattle.run_turns.specs.Results.{ResultReached, arrays_of, arrays_with}
 use Rattle.run_turns.specs.Ending.{is_last, outcome_with}
 use Rattle.run_turns.specs.Showing.{shown_from_place, lists_lent}
 use Rattle.run_turns.specs.Turns.{leave_step, note_listed, written, with_put, blocks_unset, Host, host_of, host_put}
@@ -129,12 +131,12 @@ began-below b =
     stands.began-below _ g.accepted _ _ _ _ g.kept g.few (laws g) g.choices g.budget g.first _ b.root_is _ _ _ b.up
 
 -- once they are noted, the run stands where it starts
-pub stands-first : (b : Begun) → let g = b.setting in (s : store.State) → s ≡ unset_state → (bits : List ℕ) → bits ≡ no_rows → (m : Notes)
-    → m ≡ note_listed g.rows (state_cells s) s.places (replicate 8 0) g.lines (listed_rows b.came) (lists_of (replicate 3072 0) (replicate 1024 (pos 0)) (replicate 512 0) bits)
-    → Stands g.rows g.sheet g.choices g.budget g.first 0 g.first (machine_of (arrays_of s b.states (replicate 1024 (pos 0)) (replicate 8 0) (replicate 1024 0)) b.left b.came m)
-stands-first b =
+pub stands-first : (b : Begun) → let g = b.setting in (s : store.State) → s ≡ unset_state → (o : Outputs) → o ≡ no_outputs → (l : Notes) → l ≡ no_notes → (m : Notes)
+    → m ≡ note_listed g.rows (state_cells s) s.places o.counts g.lines (listed_rows b.came) l
+    → Stands g.rows g.sheet g.choices g.budget g.first 0 g.first (machine_of (arrays_with s b.states o) b.left b.came m)
+stands-first b s s-is o o-is l l-is m m-is =
     let g = b.setting in
-    stands.stands-first _ g.accepted _ _ _ _ g.kept g.few (laws g) g.choices g.budget g.first _ b.root_is _ _ _ b.up
+    rw o-is (stands.stands-first _ g.accepted _ _ _ _ g.kept g.few (laws g) g.choices g.budget g.first _ b.root_is _ _ _ b.up s s-is no_rows refl m (rw (o-is, l-is) at m-is))
 
 -- the arrays have a state for each row of the table
 pub states-room : (t : Standing) → length t.arrays.states ≡ 1024

@@ -9,6 +9,7 @@ use Rattle.meaning.specs.Run as meaning
 use Rattle.meaning.specs.Buffers.{Buffers, encode}
 use Rattle.machine.specs.Held.{blank}
 use Rattle.run_values.specs.declared.store.State.{State}
+use Rattle.run_changes.specs.declared.Outputs.{Outputs}
 
 -- the outcome at rest of n rows, by their states
 abbrev pub rest_outcome : ℕ → ℕ → List ℕ → Outcome
@@ -25,3 +26,7 @@ pub record ResultReached (rows : List ℤ) (q : meaning.RunResult) (o : Outcome)
 abbrev pub arrays_of : State → List ℕ → List ℤ → List ℕ → List ℕ → Buffers
 arrays_of x states numbers counts output_marks =
     record { cells = x.values; marks = x.marks; states = states; places = x.places; numbers = numbers; counts = counts; output_marks = output_marks }
+
+-- the same where the strips are what the run has given
+abbrev pub arrays_with : State → List ℕ → Outputs → Buffers
+arrays_with x states o = arrays_of x states o.numbers o.counts o.marks

@@ -1,34 +1,27 @@
--- A short list is left; else the loop has put 0 into the first places. Assumes nothing.
-use mathlib.Core.Path.{◌≡◌, refl, sym, ◌∙◌}
-use mathlib.Core.List.{◌++◌}
-use Prim.Native.Nat.{◌-◌, ◌≤◌, ◌<◌}
-use native.Mathlib.Omega.{arith}
+-- A short list is left; else 0 is put into the first places. Assumes nothing.
+use mathlib.Core.Path.{◌≡◌, sym, ap, ◌∙◌}
+use mathlib.Core.Bool.{Bool}
+use mathlib.Core.List.{List, [], ◌++◌}
+use Prim.Native.Nat.{ℕ}
 use borrow.Author.Tests.{lt-ltb, le-ltb}
-use lib.ListN.{length, drop, replicate, length-set}
-use borrow.Author.Rules.{rules}
+use lib.ListN.{length, take, drop, replicate}
+use Rattle.std.proofs.Common.{length-take-le}
+use Rattle.meaning.specs.Basics.{if_else}
 use Rattle.meaning.specs.Limits.{max_budget}
+use Rattle.meaning.specs.Buffers.{lent}
 use Rattle.run_trace.specs.Cleared.{cleared}
-use Rattle.run_trace.proofs.Lists.{cleared_more, lent_nothing}
+use Rattle.run_trace.proofs.Lists.{lent_nothing}
 use Rattle.run_trace.proofs.clear.Goals as goal
 
 pub returns-then-list-lt65536 : goal.returns-then-list-lt65536
 unfolding cleared
 returns-then-list-lt65536 c = rw (lt-ltb _ 65536 c.if-list-lt65536.true)
 
-pub loop-i-init : goal.loop-i-init
-loop-i-init c = (search rules, refl, refl)
-
-pub loop-i-preserved : goal.loop-i-preserved
-loop-i-preserved c =
-    let inv = c.loop-i.invariant in
-    let old = c.args.list.now in
-    let i = c.loop-i.i in
-    let g : i < length old = search rules in
-    (search rules, simp length-set inv.1, rw inv.2 (cleared_more i old g))
-
 pub returns : goal.returns
 unfolding cleared
 returns c =
     let old = c.args.list.now in
-    let all : c.loop-i.i ≡ max_budget = omega (arith, c.loop-i-test.false) in
-    rw (le-ltb (length old) 65536 c.if-list-lt65536.false) ((rw all at c.loop-i.invariant.2) ∙ sym (lent_nothing 0 max_budget old))
+    let full : length (take 65536 old) ≡ 65536 = length-take-le 65536 old c.if-list-lt65536.false in
+    ap (λ (l : List ℕ). l ++ drop 65536 old) (c.fill.ensures.after (λ y e. e) ∙ ap (λ (n : ℕ). replicate n 0) full)
+    ∙ sym (lent_nothing 0 max_budget old)
+    ∙ sym (ap (λ (t : Bool). if_else t old (lent max_budget 0 [] old)) (le-ltb (length old) 65536 c.if-list-lt65536.false))

@@ -1,7 +1,6 @@
 -- `show` meets its contract: past the slice nothing is stored.
 use mathlib.Core.Path.{sym}
 use lib.Seq.{set_out}
-use borrow.Author.Rules.{rules}
 use Rattle.run_steps.proofs.steps.show.Goals as goal
 
 pub returns-else-i-list : goal.returns-else-i-list

@@ -2,30 +2,24 @@
 use mathlib.Core.Path.{◌≡◌, refl, sym, ap, ◌∙◌}
 use mathlib.Core.Option.{none}
 use mathlib.Core.List.{List}
+use lib.ListN.{length}
 use Prim.Native.Nat.{ℕ, ◌≤◌}
 use lib.IntN.{ℤ}
-use native.Mathlib.Omega.{arith}
 use borrow.Author.Rules.{rules}
-use mir.ValLaws.{to_z-of_z}
-use mir.Val.{SFits}
-use mir.Syntax.{w32}
+use native.Mathlib.Omega.{arith}
 use Rattle.meaning.specs.Readings.{Sheet}
 use Rattle.meaning.specs.Trace.{TraceLists}
 use Rattle.meaning.specs.Answers.{check}
 use Rattle.machine.specs.Held.{KeptReadings}
 use Rattle.machine.specs.Came.{first_rows, listed_blocks}
-use Rattle.run_code.specs.Prepared.{Prepared}
-use Rattle.run_notes.specs.declared.Notes.{Notes}
-use Rattle.run_notes.specs.Notes.{lists_of}
 use Rattle.run_turns.specs.Showing.{lists_lent}
-use Rattle.run_turns.specs.Results.{arrays_of}
-use Rattle.run_turns.specs.Machine.{machine_of}
-use Rattle.run_turns.specs.Turns.{Host, host_of, with_put, blocks_unset}
+use Rattle.run_turns.specs.Results.{arrays_with}
+use Rattle.run_turns.specs.Turns.{host_with, blocks_unset}
 use Rattle.run_turns.proofs.ChangedRows.{root_is, root_below, root-is-process}
 use Rattle.run_turns.proofs.Turn as turn
 use Rattle.run_turns.proofs.Turn.{Setting, Begun, Standing, Counting, Picking, Changing, Settling}
 use Rattle.run_steps.proofs.steps.take_steps.Goals as goal
-use Rattle.run_steps.proofs.steps.take_steps.Goals.{After-begin, After-is_last, After-choose-j, After-change_of-c, After-change_states, in-Nowhere, in-Set, in-Unset, then-came-ne0, else-came-ne0}
+use Rattle.run_steps.proofs.steps.take_steps.Goals.{After-begin, After-is_last, After-choose-j, After-change_of-c, After-change_states, then-came-ne0, else-came-ne0}
 
 -- a sheet whose readings are kept
 abbrev Kept : List ℤ → List ℤ → List ℕ → ℕ → Type 0
@@ -68,10 +62,10 @@ counting c k =
       setting = setting c.args.rows.now c.args.readings.now c.args.given.now c.args.lines c.args.choices.now c.args.budget (lists_lent c.args.readied.now c.args.taken.now) c.requires.table.accepted c.requires.few k;
       n = l.n;
       lists = lists_lent l.readied l.taken;
-      arrays = arrays_of l.state l.states l.numbers l.counts l.output_marks;
+      arrays = arrays_with l.state l.states l.outputs;
       left = l.left;
       came = l.came;
-      notes = lists_of l.acts l.sent l.elements l.bits;
+      notes = l.notes;
       stands = l.invariant.3 k.0 k.1;
     } in
     record { standing = t; count = c.total-ready.result; last = c.is_last.result; count-is = c.total-ready.ensures; last-is = c.is_last.ensures }
@@ -83,10 +77,10 @@ picking c k =
       setting = setting c.args.rows.now c.args.readings.now c.args.given.now c.args.lines c.args.choices.now c.args.budget (lists_lent c.args.readied.now c.args.taken.now) c.requires.table.accepted c.requires.few k;
       n = l.n;
       lists = lists_lent l.readied l.taken;
-      arrays = arrays_of l.state l.states l.numbers l.counts l.output_marks;
+      arrays = arrays_with l.state l.states l.outputs;
       left = l.left;
       came = l.came;
-      notes = lists_of l.acts l.sent l.elements l.bits;
+      notes = l.notes;
       stands = l.invariant.3 k.0 k.1;
     } in
     let n : Counting = record { standing = t; count = c.total-ready.result; last = c.is_last.result; count-is = c.total-ready.ensures; last-is = c.is_last.ensures } in
@@ -99,10 +93,10 @@ changing c k =
       setting = setting c.args.rows.now c.args.readings.now c.args.given.now c.args.lines c.args.choices.now c.args.budget (lists_lent c.args.readied.now c.args.taken.now) c.requires.table.accepted c.requires.few k;
       n = l.n;
       lists = lists_lent l.readied l.taken;
-      arrays = arrays_of l.state l.states l.numbers l.counts l.output_marks;
+      arrays = arrays_with l.state l.states l.outputs;
       left = l.left;
       came = l.came;
-      notes = lists_of l.acts l.sent l.elements l.bits;
+      notes = l.notes;
       stands = l.invariant.3 k.0 k.1;
     } in
     let n : Counting = record { standing = t; count = c.total-ready.result; last = c.is_last.result; count-is = c.total-ready.ensures; last-is = c.is_last.ensures } in
@@ -116,10 +110,10 @@ settling c k =
       setting = setting c.args.rows.now c.args.readings.now c.args.given.now c.args.lines c.args.choices.now c.args.budget (lists_lent c.args.readied.now c.args.taken.now) c.requires.table.accepted c.requires.few k;
       n = l.n;
       lists = lists_lent l.readied l.taken;
-      arrays = arrays_of l.state l.states l.numbers l.counts l.output_marks;
+      arrays = arrays_with l.state l.states l.outputs;
       left = l.left;
       came = l.came;
-      notes = lists_of l.acts l.sent l.elements l.bits;
+      notes = l.notes;
       stands = l.invariant.3 k.0 k.1;
     } in
     let n : Counting = record { standing = t; count = c.total-ready.result; last = c.is_last.result; count-is = c.total-ready.ensures; last-is = c.is_last.ensures } in
@@ -137,7 +131,7 @@ note_all-requires-clause-listed c =
 
 pub loop-left-init : goal.loop-left-init
 loop-left-init c =
-    (omega arith, refl, refl, λ z K. turn.stands-first (begun (goal.at.loop-left-init c).After-begin (z, K)) _ c.fresh-state.ensures.stored _ c.clear-bits.ensures _ (c.note_all.ensures c.args.rows.now c.requires.table))
+    (omega arith, refl, refl, λ z K. turn.stands-first (begun (goal.at.loop-left-init c).After-begin (z, K)) _ c.fresh-state.ensures.stored _ c.new-outputs.ensures _ c.new-notes.ensures _ (c.note_all.ensures c.args.rows.now c.requires.table))
 
 pub outcome_with-outcome-requires : goal.outcome_with-outcome-requires
 outcome_with-outcome-requires c =
@@ -207,23 +201,19 @@ loop-left-preserved c =
     let l = c.loop-left in
     let rows = c.args.rows.now in
     let P = c.requires.table in
-    let made : c.match-w.state ≡ with_put c.written_by-w.result (record { values = l.state.values; marks = l.state.marks; places = c.put_host.new.places }) =
-    elim c.match-w.branch [
-      | in-Nowhere w ↦ rw w.in-Nowhere.is w.state-is
-      | in-Set w ↦ let f : SFits w32 w.in-Set.x = search rules in rw w.in-Set.is (w.state-is ∙ rw (to_z-of_z w32 w.in-Set.x f) at w.set-state.ensures.stored)
-      | in-Unset w ↦ rw w.in-Unset.is (w.state-is ∙ w.unset-state.ensures.stored)
-    ] in
-    let cleared : c.if-came-ne0.state ≡ blocks_unset rows (listed_blocks c.change_states.new.came) c.match-w.state =
+    let cleared : c.if-came-ne0.state ≡ blocks_unset rows (listed_blocks c.change_states.new.came) c.with_put-state.result =
     elim c.if-came-ne0.branch [
       | then-came-ne0 w ↦ w.state-is ∙ w.unset_blocks-state.ensures rows P
-      | else-came-ne0 w ↦ w.state-is ∙ ap (λ (n : ℕ). blocks_unset rows (first_rows 2049 n c.change_states.new.came) c.match-w.state) (sym w.if-came-ne0.false)
+      | else-came-ne0 w ↦ w.state-is ∙ ap (λ (n : ℕ). blocks_unset rows (first_rows 2049 n c.change_states.new.came) c.with_put-state.result) (sym w.if-came-ne0.false)
     ] in
+    let v : length c.if-came-ne0.state.values ≡ 256 = search rules in
+    let w : length c.if-came-ne0.state.marks ≡ 256 = search rules in
     let h = c.put_host.new in
     let k = c.leave_step.new in
     let m = c.note_all-in-loop-left.new in (
       (turn.budget-left (changing (goal.at.loop-left-preserved c).After-change_of-c c.requires.kept).picking).0,
       c.show.auto.list ∙ l.invariant.1,
       c.show-in-loop-left.auto.list ∙ l.invariant.2,
-      λ z K. turn.stands-further (settling (goal.at.loop-left-preserved c).After-change_states (z, K)) (host_of h.places h.numbers h.counts h.output_marks) c.put_host.ensures _ c.written_by-w.ensures _ made _ cleared
-          (lists_of k.acts k.sent k.elements k.bits) (c.leave_step.ensures rows P) (lists_of m.acts m.sent m.elements m.bits) (c.note_all-in-loop-left.ensures rows P) _ _ c.show.ensures c.show-in-loop-left.ensures,
+      λ z K. turn.stands-further (settling (goal.at.loop-left-preserved c).After-change_states (z, K)) (host_with h.places h.outputs) c.put_host.ensures _ c.written_by-w.ensures _ c.with_put-state.ensures _ cleared
+          k.notes (c.leave_step.ensures rows P) v w m.notes (c.note_all-in-loop-left.ensures rows P) _ _ c.show.ensures c.show-in-loop-left.ensures,
     )

@@ -1,9 +1,0 @@
--- `is_last` meets its contract: each arm is its case of the definition.
-use borrow.Author.Tests.{eq-eqb, ne_eqb}
-use Rattle.run_steps.proofs.steps.is_last.Goals as goal
-
-pub returns-then-count-eq0 : goal.returns-then-count-eq0
-returns-then-count-eq0 c = rw (eq-eqb _ 0 c.if-count-eq0.true)
-
-pub returns : goal.returns
-returns c = rw (ne_eqb _ 0 c.if-count-eq0.false)
