@@ -6,21 +6,17 @@ use mathlib.Core.Path.{refl}
 use native.Mathlib.Omega.{arith}
 use Rattle.run_intents.proofs.does_at.Goals as goal
 
-pub eval-requires : goal.eval-requires
-eval-requires c =
-    record { table = c.requires.table; inside = rw c.place-in-46.ensures (third-inside c.requires.table.1 c.args.r c.requires.inside (omega (arith, c.place.ensures, c.in-46.is))) }
+pub eval-requires-clause-inside : goal.eval-requires-clause-inside
+eval-requires-clause-inside c = rw c.place-in-46.ensures (third-inside c.requires.table.1 c.args.r c.requires.inside (omega (arith, c.place.ensures, c.in-46.is)))
 
-pub eval-requires-in-48 : goal.eval-requires-in-48
-eval-requires-in-48 c =
-    record { table = c.requires.table; inside = rw c.place-in-48.ensures (third-inside c.requires.table.1 c.args.r c.requires.inside (omega (arith, c.place.ensures, c.in-48.is))) }
+pub eval-requires-in-48-clause-inside : goal.eval-requires-in-48-clause-inside
+eval-requires-in-48-clause-inside c = rw c.place-in-48.ensures (third-inside c.requires.table.1 c.args.r c.requires.inside (omega (arith, c.place.ensures, c.in-48.is)))
 
-pub choices_do-requires : goal.choices_do-requires
-choices_do-requires c =
-    record { table = c.requires.table; inside = rw c.place-in-32.ensures (first-inside c.requires.table.1 c.args.r c.requires.inside) }
+pub choices_do-requires-clause-inside : goal.choices_do-requires-clause-inside
+choices_do-requires-clause-inside c = rw c.place-in-32.ensures (first-inside c.requires.table.1 c.args.r c.requires.inside)
 
-pub eval-requires-in-33 : goal.eval-requires-in-33
-eval-requires-in-33 c =
-    record { table = c.requires.table; inside = rw c.place-in-33-2.ensures (first-inside c.requires.table.1 c.args.r c.requires.inside) }
+pub eval-requires-in-33-clause-inside : goal.eval-requires-in-33-clause-inside
+eval-requires-in-33-clause-inside c = rw c.place-in-33-2.ensures (first-inside c.requires.table.1 c.args.r c.requires.inside)
 
 pub returns-in-46 : goal.returns-in-46
 returns-in-46 c =

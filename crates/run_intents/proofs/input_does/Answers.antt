@@ -6,12 +6,11 @@ use Rattle.run_values.specs.Cells.{state_cells}
 use native.Mathlib.Omega.{arith}
 use Rattle.run_intents.proofs.input_does.Goals as goal
 
-pub index-e-requires : goal.index-e-requires
-index-e-requires c = record { table = c.requires.table; inside = (c.requires.row.0, omega (arith, c.requires.row.1)) }
+pub index-e-requires-clause-inside : goal.index-e-requires-clause-inside
+index-e-requires-clause-inside c = (c.requires.row.0, omega (arith, c.requires.row.1))
 
-pub target-t-requires : goal.target-t-requires
-target-t-requires c =
-    record { table = c.requires.table; inside = rw c.place.ensures (third-inside c.requires.table.1 c.args.r c.requires.row.0 (omega (arith, c.requires.row.1))) }
+pub target-t-requires-clause-inside : goal.target-t-requires-clause-inside
+target-t-requires-clause-inside c = rw c.place.ensures (third-inside c.requires.table.1 c.args.r c.requires.row.0 (omega (arith, c.requires.row.1)))
 
 pub place-requires-2 : goal.place-requires-2
 place-requires-2 c =

@@ -14,9 +14,8 @@ pub place-requires : goal.place-requires
 place-requires c =
     record { inside = (guard-inside c.requires.table.1 c.args.j c.requires.row.0 c.requires.row.1 c.place-g.ensures, omega arith) }
 
-pub guarded-requires : goal.guarded-requires
-guarded-requires c =
-    record { table = c.requires.table; bare = (guard-inside c.requires.table.1 c.args.j c.requires.row.0 c.requires.row.1 c.place-g.ensures, λ e. c.if-place-ne43.true (c.place.ensures ∙ e)) }
+pub guarded-requires-clause-bare : goal.guarded-requires-clause-bare
+guarded-requires-clause-bare c = (guard-inside c.requires.table.1 c.args.j c.requires.row.0 c.requires.row.1 c.place-g.ensures, λ e. c.if-place-ne43.true (c.place.ensures ∙ e))
 
 pub returns-then-place-ne43 : goal.returns-then-place-ne43
 returns-then-place-ne43 c =
@@ -26,17 +25,15 @@ pub place-requires-2 : goal.place-requires-2
 place-requires-2 c =
     record { inside = (guard-inside c.requires.table.1 c.args.j c.requires.row.0 c.requires.row.1 c.place-g.ensures, omega arith) }
 
-pub eval-v-requires : goal.eval-v-requires
-eval-v-requires c =
-    record { table = c.requires.table; inside = rw c.place-2.ensures (first-inside c.requires.table.1 _ (guard-inside c.requires.table.1 c.args.j c.requires.row.0 c.requires.row.1 c.place-g.ensures)) }
+pub eval-v-requires-clause-inside : goal.eval-v-requires-clause-inside
+eval-v-requires-clause-inside c = rw c.place-2.ensures (first-inside c.requires.table.1 _ (guard-inside c.requires.table.1 c.args.j c.requires.row.0 c.requires.row.1 c.place-g.ensures))
 
 pub place-requires-then-is_true : goal.place-requires-then-is_true
 place-requires-then-is_true c =
     record { inside = (guard-inside c.requires.table.1 c.args.j c.requires.row.0 c.requires.row.1 c.place-g.ensures, omega arith) }
 
-pub guarded-requires-then-is_true : goal.guarded-requires-then-is_true
-guarded-requires-then-is_true c =
-    record { table = c.requires.table; bare = guarded-bare c.requires.table.1 _ (guard-inside c.requires.table.1 c.args.j c.requires.row.0 c.requires.row.1 c.place-g.ensures) c.place.ensures c.if-place-ne43.false c.place-then-is_true.ensures }
+pub guarded-requires-then-is_true-clause-bare : goal.guarded-requires-then-is_true-clause-bare
+guarded-requires-then-is_true-clause-bare c = guarded-bare c.requires.table.1 _ (guard-inside c.requires.table.1 c.args.j c.requires.row.0 c.requires.row.1 c.place-g.ensures) c.place.ensures c.if-place-ne43.false c.place-then-is_true.ensures
 
 pub returns-then-is_true : goal.returns-then-is_true
 returns-then-is_true c =

@@ -6,12 +6,11 @@ use Rattle.run_values.specs.Cells.{state_cells}
 use native.Mathlib.Omega.{arith}
 use Rattle.run_intents.proofs.output_does.Goals as goal
 
-pub index-e-requires : goal.index-e-requires
-index-e-requires c = record { table = c.requires.table; inside = (c.requires.row.0, omega (arith, c.requires.row.1)) }
+pub index-e-requires-clause-inside : goal.index-e-requires-clause-inside
+index-e-requires-clause-inside c = (c.requires.row.0, omega (arith, c.requires.row.1))
 
-pub passed-v-requires : goal.passed-v-requires
-passed-v-requires c =
-    record { table = c.requires.table; inside = rw c.place.ensures (third-inside c.requires.table.1 c.args.r c.requires.row.0 (omega (arith, c.requires.row.1))) }
+pub passed-v-requires-clause-inside : goal.passed-v-requires-clause-inside
+passed-v-requires-clause-inside c = rw c.place.ensures (third-inside c.requires.table.1 c.args.r c.requires.row.0 (omega (arith, c.requires.row.1)))
 
 pub place-requires-2 : goal.place-requires-2
 place-requires-2 c =
