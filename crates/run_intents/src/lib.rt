@@ -177,15 +177,11 @@ pub fn does_at(code: &[u16; 6150], state: &State, counts: &[u32; 8], lines: usiz
     ensures { (rows : List ℤ) → Prepared rows code.now → result ≡ does_of lines (state_cells state.now) state.now.places counts.now (action_of (process_at (program rows) r)) }
 {
     match place(code, r, 0) {
-        46 => assignment(
+        46 | 48 => assignment(
             assigned(code, state, r),
             eval(code, state, place(code, r, 3) as usize),
         ),
         47 => Does::Stops(2),
-        48 => assignment(
-            assigned(code, state, r),
-            eval(code, state, place(code, r, 3) as usize),
-        ),
         23 => input_does(code, state, lines, r),
         24 => output_does(code, state, counts, r),
         32 => choices_do(code, state, place(code, r, 1) as usize),
