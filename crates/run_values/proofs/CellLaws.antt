@@ -12,7 +12,6 @@ use Rattle.std.proofs.lemmas.Slice.{put_mid-paste}
 use borrow.Rule.Slice.PartMut.{put_mid}
 use Rattle.std.specs.Prelude.{Some, None}
 use Rattle.meaning.specs.declared.Value.{Value}
-use Rattle.meaning.specs.declared.Value.TheVariants.{Number, Missing}
 use Rattle.meaning.specs.declared.Index.{Index}
 use Rattle.meaning.specs.declared.Index.TheVariants.{At, Fails}
 use Rattle.meaning.specs.Buffers.{mark, number_in, cell_of, decoded}
@@ -77,21 +76,6 @@ written-unset a n k s xs ms q v m e f =
     (put_mid-paste a k s.values xs (replicate n (pos 0)) n e q (sym (length-replicate n (pos 0))))
     (put_mid-paste a k s.marks ms (replicate n 0) n f q (sym (length-replicate {A = ℕ} n 0)))
     ∙ filled-unset a n s v m
-
--- a cell that gives a number is set to it, and one that gives none is unset
-abbrev number_of : Value → Message
-number_of (Number x) = some x
-number_of (Missing k) = none
-
-of-cell : (m : Message) → number_of (cell_value m) ≡ m
-of-cell none = refl
-of-cell (some x) = refl
-
-pub number-set : (m : Message) {v : Value} {x : ℤ} → v ≡ cell_value m → v ≡ Number x → m ≡ some x
-number-set m e q = sym (of-cell m) ∙ ap number_of (sym e ∙ q)
-
-pub missing-unset : (m : Message) {v : Value} {k : ℕ} → v ≡ cell_value m → v ≡ Missing k → m ≡ none
-missing-unset m e q = sym (of-cell m) ∙ ap number_of (sym e ∙ q)
 
 -- the code's form of a message is of that message
 pub message-back : (m : Message) → message_in (coded m) ≡ m
