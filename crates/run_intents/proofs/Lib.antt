@@ -1,4 +1,3 @@
-pub mod HostNotes
 pub mod RowFacts
 pub mod Choices
 pub mod Inputs

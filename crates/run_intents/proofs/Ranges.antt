@@ -24,7 +24,6 @@ use Rattle.meaning.specs.Kinds.{Shape, processes, reference}
 use Rattle.meaning.specs.References.{Column, of-a, of-b, field_of, number_of}
 use Rattle.meaning.specs.Nodes.{node_at}
 use Rattle.meaning.specs.Tree.{Expr, ChannelInput, IfChoice, AltOption, Action, stop, skip, sequence, parallel, assign, input, output, conditional, loop, alternation, block, Process, Content, no_content, content_of, content_at, or_stop, action_of}
-use Rattle.meaning.specs.Buffers.{number_in, mark}
 use Rattle.meaning.specs.Values.{Message, is_true, in_array, value, index, Sent, gives, lacking, passed}
 use Rattle.meaning.specs.State.{program, process_at}
 use Rattle.meaning.specs.Answers.{check}
@@ -37,14 +36,11 @@ use Rattle.machine.proofs.Declared.{CellsIn, cell_below, room}
 use Rattle.machine.proofs.NamesInRange.{SinkIn, ReceiveIn, GuardIn, OptionsIn, ActionIn, names_in}
 use Rattle.machine.proofs.Numbered.{sum_past, sum_bound}
 use Rattle.run_code.specs.Prepared.{host_note}
+use Rattle.run_values.specs.Sending.{coded}
 use Rattle.run_intents.specs.declared.Does.{Does}
 use Rattle.run_intents.specs.declared.Does.TheVariants.{Waits, Stops, Assigns, Ends, Starts, Reads, Writes, InputsFrom, OutputsTo, Selects}
 use Rattle.run_intents.specs.Does.{on_host, assignment, tested, when_true, host_read, host_write, received, sent, choices_do, input_does, output_does, guard_does, guarded_does, does_of}
 use Rattle.run_intents.specs.Stands.{OptionNote, options_of, option_notes}
-
--- a number and a mark are those of a message
-abbrev pub IsMessage : ℤ → ℕ → Type 0
-IsMessage v k = (m : Message) × (v ≡ number_in m) × (k ≡ mark m)
 
 abbrev pub InRange : Does → Type 0
 InRange Waits = Unit {0}
@@ -53,9 +49,9 @@ InRange (Assigns a v) = a < 256
 InRange Ends = Unit {0}
 InRange (Starts q) = q < 1024
 InRange (Reads a p) = (a < 256) × (p < 8)
-InRange (Writes p v m) = (p < 8) × IsMessage v m
+InRange (Writes p m) = p < 8
 InRange (InputsFrom e a) = (e < 256) × (a < 256)
-InRange (OutputsTo e v m) = (e < 256) × IsMessage v m
+InRange (OutputsTo e m) = e < 256
 InRange Selects = Unit {0}
 
 -- the same of each option's note, and the rows of its process
@@ -257,13 +253,13 @@ module _ (rows : List ℤ) (ok : check rows ≡ none) where
         go (At a) q (lacking n) = tt
         go (At a) q (gives w) = by c.host (λ h. (k h).0)
           where
-            left : (t : Bool) → c.number < 8 → InRange (if_else t (Writes c.number (number_in w) (mark w)) Waits)
-            left true l = (l, (w, refl, refl))
+            left : (t : Bool) → c.number < 8 → InRange (if_else t (Writes c.number (coded w)) Waits)
+            left true l = l
             left false l = tt
 
-            by : (t : Bool) → (t ≡ true → c.number < host_channels 2 rows) → InRange (on_host (if_else t (suc c.number) 0) (host_write counts c.capacity (number_in w) (mark w)) (OutputsTo a (number_in w) (mark w)))
+            by : (t : Bool) → (t ≡ true → c.number < host_channels 2 rows) → InRange (on_host (if_else t (suc c.number) 0) (host_write counts c.capacity (coded w)) (OutputsTo a (coded w)))
             by true s = let m = s refl in let R = (room rows ok).outputs in left (ltb (get_or counts c.number 0) c.capacity) (omega arith)
-            by false s = (element-in cells c e a g q, (w, refl, refl))
+            by false s = element-in cells c e a g q
 
     guard-in : (q : ℕ) (i : Option ChannelInput) → q < 1024 → GuardIn rows i → GuardFits i → InRange (guard_does lines cells places q i)
     guard-in q none l k f = l

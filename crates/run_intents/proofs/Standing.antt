@@ -15,17 +15,16 @@ use Rattle.meaning.specs.declared.Index.TheVariants.{At, Fails}
 use Rattle.meaning.specs.Basics.{if_else, is_some}
 use Rattle.meaning.specs.Declarations.{Channel, host_channels}
 use Rattle.meaning.specs.Tree.{Expr, ChannelInput, IfChoice, AltOption, Action, stop, skip, sequence, parallel, assign, input, output, conditional, loop, alternation, block, action_of}
-use Rattle.meaning.specs.Buffers.{number_in, mark, cell_of}
 use Rattle.meaning.specs.Values.{Message, is_true, in_array, value, index, Sent, gives, lacking, passed}
-use Rattle.meaning.proofs.LentLaws.{cell-back}
 use Rattle.meaning.specs.State.{Store, write_output, program, process_at}
 use Rattle.meaning.specs.Readings.{Sheet}
+use Rattle.run_values.specs.Sending.{message_in, coded}
 use Rattle.run_values.specs.Cells.{cells_in}
 use Rattle.meaning.specs.Intent.{Offer, open_offer, input_offer, Intent, waits, moves, outputs_to, assigning, testing, choosing, outputting, tests, InputResult, lacks, not_yet, reads, from_element, input_result_of, input_result, input_result_if, inputting, OptionsResult, fails, offers, admitting, opening, guarding, options_result, selecting, intent}
 use Rattle.meaning.specs.Intent as meaning
 use Rattle.machine.specs.Held.{KeptReadings}
 use Rattle.machine.proofs.NamesInRange.{SourceIn, GuardIn, OptionsIn, ActionIn, names_in}
-use Rattle.run_values.proofs.CellLaws.{same-value, same-passed}
+use Rattle.run_values.proofs.CellLaws.{message-back, same-value, same-passed}
 use Rattle.run_code.specs.Prepared.{host_note}
 use Rattle.run_intents.specs.declared.Does.{Does}
 use Rattle.run_intents.specs.declared.Does.TheVariants.{Waits, Stops, Ends, Starts, Reads, Writes, InputsFrom, OutputsTo}
@@ -171,17 +170,17 @@ module _ (rows : List ℤ) (sheet : Sheet) (x : Store) (readings : List ℤ) (gi
     sent_is : (c : Channel) (i : Index) (v : Sent) → outputting r c x.outputs i v ≡ stand (sent counts (host_note c) c.capacity i v)
     sent_is c (Fails k) v = refl
     sent_is c (At e) (lacking k) = refl
-    sent_is c (At e) (gives m) = subst (λ (w : Message). outputting r c x.outputs (At e) (gives w) ≡ stand (handed_on counts (host_note c) c.capacity e (number_in m) (mark m))) (cell-back m) (go c.host)
+    sent_is c (At e) (gives m) = subst (λ (w : Message). outputting r c x.outputs (At e) (gives w) ≡ stand (handed_on counts (host_note c) c.capacity e (coded m))) (message-back m) (go c.host)
       where
         w : Message
-        w = cell_of (number_in m) (mark m)
+        w = message_in (coded m)
 
-        left : (u : Bool) → if_else u (moves r 2 (write_output c.number (get_or x.outputs c.number [] ++ (w ∷ [])) ∷ [])) waits ≡ stand (if_else u (Writes c.number (number_in m) (mark m)) Waits)
+        left : (u : Bool) → if_else u (moves r 2 (write_output c.number (get_or x.outputs c.number [] ++ (w ∷ [])) ∷ [])) waits ≡ stand (if_else u (Writes c.number (coded m)) Waits)
         left true = refl
         left false = refl
 
         go : (t : Bool) → if_else t (if_else (ltb (length (get_or x.outputs c.number [])) c.capacity) (moves r 2 (write_output c.number (get_or x.outputs c.number [] ++ (w ∷ [])) ∷ [])) waits) (outputs_to e w)
-            ≡ stand (on_host (if_else t (suc c.number) 0) (host_write counts c.capacity (number_in m) (mark m)) (OutputsTo e (number_in m) (mark m)))
+            ≡ stand (on_host (if_else t (suc c.number) 0) (host_write counts c.capacity (coded m)) (OutputsTo e (coded m)))
         go true = rw (held.counts c.number) (left (ltb (get_or counts c.number 0) c.capacity))
         go false = refl
 

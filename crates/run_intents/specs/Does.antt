@@ -1,6 +1,6 @@
 -- What a running row and an option would do, in the forms of the code: from the cells, the places in the readings and how many lines these have, and the counts of the output lists.
 use Rattle.std.proofs.Math.Option.{Option, none, some}
-use Rattle.std.specs.Prelude.{List, [], ◌∷◌, ℕ, zero, suc, ℤ, get_or, ltb}
+use Rattle.std.specs.Prelude.{List, [], ◌∷◌, ℕ, zero, suc, get_or, ltb}
 use Rattle.meaning.specs.declared.Value.{Value}
 use Rattle.meaning.specs.declared.Value.TheVariants.{Number, Missing}
 use Rattle.meaning.specs.declared.Index.{Index}
@@ -8,10 +8,10 @@ use Rattle.meaning.specs.declared.Index.TheVariants.{At, Fails}
 use Rattle.meaning.specs.Basics.{if_else}
 use Rattle.meaning.specs.Declarations.{Channel}
 use Rattle.meaning.specs.Tree.{Expr, ChannelInput, IfChoice, AltGuard, AltOption, Action, stop, skip, sequence, parallel, assign, input, output, conditional, loop, alternation, block}
-use Rattle.meaning.specs.Buffers.{number_in, mark}
 use Rattle.meaning.specs.Values.{Message, is_true, value, index, Sent, gives, lacking, passed}
 use Rattle.run_code.specs.Prepared.{host_note}
 use Rattle.run_values.specs.Targets.{target_index}
+use Rattle.run_values.specs.Sending.{CodeMessage, coded}
 use Rattle.run_intents.specs.declared.Does.{Does}
 use Rattle.run_intents.specs.declared.Does.TheVariants.{Waits, Stops, Assigns, Ends, Starts, Reads, Writes, InputsFrom, OutputsTo, Selects}
 
@@ -46,19 +46,19 @@ received places lines channel (Fails k) t = Stops k
 received places lines channel (At e) (Fails k) = Stops k
 received places lines channel (At e) (At a) = on_host channel (host_read places lines a) (InputsFrom e a)
 
--- "a host write, if capacity is left", of a message's number and mark
-abbrev pub host_write : List ℕ → ℕ → ℤ → ℕ → ℕ → Does
-host_write counts capacity v m p = if_else (ltb (get_or counts p 0) capacity) (Writes p v m) Waits
+-- "a host write, if capacity is left", of a message
+abbrev pub host_write : List ℕ → ℕ → CodeMessage → ℕ → Does
+host_write counts capacity m p = if_else (ltb (get_or counts p 0) capacity) (Writes p m) Waits
 
--- the output of a message's number and mark to element e
-abbrev pub handed_on : List ℕ → ℕ → ℕ → ℕ → ℤ → ℕ → Does
-handed_on counts channel capacity e v m = on_host channel (host_write counts capacity v m) (OutputsTo e v m)
+-- the output of a message to element e
+abbrev pub handed_on : List ℕ → ℕ → ℕ → ℕ → CodeMessage → Does
+handed_on counts channel capacity e m = on_host channel (host_write counts capacity m) (OutputsTo e m)
 
 -- "output takes channel subscript, then expression"
 abbrev pub sent : List ℕ → ℕ → ℕ → Index → Sent → Does
 sent counts channel capacity (Fails k) v = Stops k
 sent counts channel capacity (At e) (lacking k) = Stops k
-sent counts channel capacity (At e) (gives m) = handed_on counts channel capacity e (number_in m) (mark m)
+sent counts channel capacity (At e) (gives m) = handed_on counts channel capacity e (coded m)
 
 -- an output, from the cells
 unfoldable pub output_does : List Message → List ℕ → Channel → Expr → Expr → Does

@@ -6,8 +6,8 @@ use Rattle.meaning.specs.Tree.{AltOption, Action, stop, skip, sequence, parallel
 use Rattle.meaning.specs.Values.{Message}
 use Rattle.meaning.specs.State.{Store, Write, write_cell, write_place, write_output}
 use Rattle.meaning.specs.Readings.{Sheet}
-use Rattle.meaning.specs.Buffers.{cell_of}
 use Rattle.meaning.specs.Intent.{Offer, open_offer, input_offer, Intent, waits, moves, halts, inputs_from, outputs_to, selects}
+use Rattle.run_values.specs.Sending.{message_in}
 use Rattle.run_intents.specs.declared.Does.{Does}
 use Rattle.run_intents.specs.declared.Does.TheVariants.{Waits, Stops, Assigns, Ends, Starts, Reads, Writes, InputsFrom, OutputsTo, Selects}
 use Rattle.run_intents.specs.Does.{option_does}
@@ -48,9 +48,9 @@ stop_of (Assigns a v) = none
 stop_of Ends = none
 stop_of (Starts q) = none
 stop_of (Reads a p) = none
-stop_of (Writes p v m) = none
+stop_of (Writes p m) = none
 stop_of (InputsFrom e a) = none
-stop_of (OutputsTo e v m) = none
+stop_of (OutputsTo e m) = none
 stop_of Selects = none
 
 -- the first of two reasons
@@ -81,9 +81,9 @@ module _ (sheet : Sheet) (x : Store) where
   offers_for j q Ends = []
   offers_for j q (Starts b) = open_offer j q [] ∷ []
   offers_for j q (Reads a p) = open_offer j q (read_writes a p) ∷ []
-  offers_for j q (Writes p v m) = []
+  offers_for j q (Writes p m) = []
   offers_for j q (InputsFrom e a) = input_offer j q e a ∷ []
-  offers_for j q (OutputsTo e v m) = []
+  offers_for j q (OutputsTo e m) = []
   offers_for j q Selects = []
 
   abbrev pub offers_of : OptionNote → List Offer
@@ -100,7 +100,7 @@ module _ (sheet : Sheet) (x : Store) where
   stands_for r ns Ends = moves r 2 []
   stands_for r ns (Starts q) = moves q 1 []
   stands_for r ns (Reads a p) = moves r 2 (read_writes a p)
-  stands_for r ns (Writes p v m) = moves r 2 (write_output p (get_or x.outputs p [] ++ (cell_of v m ∷ [])) ∷ [])
+  stands_for r ns (Writes p m) = moves r 2 (write_output p (get_or x.outputs p [] ++ (message_in m ∷ [])) ∷ [])
   stands_for r ns (InputsFrom e a) = inputs_from e a
-  stands_for r ns (OutputsTo e v m) = outputs_to e (cell_of v m)
+  stands_for r ns (OutputsTo e m) = outputs_to e (message_in m)
   stands_for r ns Selects = alt_intent r ns

@@ -17,12 +17,12 @@ use Rattle.meaning.specs.Basics.{if_else}
 use Rattle.meaning.specs.Tree.{ChannelInput, AltOption}
 use Rattle.meaning.specs.Values.{Message, is_true, value, index}
 use Rattle.meaning.specs.State.{Store}
-use Rattle.meaning.specs.Buffers.{mark, number_in, cell_of}
-use Rattle.meaning.proofs.LentLaws.{cell-back}
+use Rattle.meaning.specs.Buffers.{mark, number_in}
 use Rattle.meaning.specs.Readings.{Sheet}
 use Rattle.meaning.specs.Intent.{Offer, OptionsResult, fails, offers}
 use Rattle.run_code.specs.Prepared.{host_note}
 use Rattle.run_values.specs.Targets.{target_index}
+use Rattle.run_values.specs.Sending.{message_in}
 use Rattle.run_intents.specs.declared.Does.{Does}
 use Rattle.run_intents.specs.declared.Does.TheVariants.{Waits, Stops, Assigns, Ends, Starts, Reads, Writes, InputsFrom, OutputsTo, Selects}
 use Rattle.run_intents.specs.Does.{when_true, received, input_does, guard_does, guarded_does, option_does}
@@ -51,15 +51,14 @@ module _ (sheet : Sheet) (x : Store) (r : ℕ) (ns : List OptionNote) where
   does-note Ends h z = refl
   does-note (Starts q) h z = ap (λ (c : ℕ). note 4 c 0 (pos 0)) (kept q h)
   does-note (Reads a p) h z = ap₂ (λ (b c : ℕ). note 5 b c (pos 0)) (kept p (omega (arith, h.1))) (kept a (omega (arith, h.0)))
-  does-note (Writes p v m) h z =
-      let (w, i, k) = h.1 in
-      ap₂ (λ (b c : ℕ). note 6 b c v) (kept p (omega (arith, h.0))) k ∙ ap (note 6 p (mark w)) i
-      ∙ sym (ap (λ (c : Message). note 6 p (mark c) (number_in c)) (last-is (get_or x.outputs p []) (cell_of v m) ∙ ap₂ cell_of i k ∙ cell-back w))
+  does-note (Writes p m) h z =
+      let w = message_in m in
+      ap (λ (b : ℕ). note 6 b (mark w) (number_in w)) (kept p (omega (arith, h)))
+      ∙ sym (ap (λ (c : Message). note 6 p (mark c) (number_in c)) (last-is (get_or x.outputs p []) w))
   does-note (InputsFrom e a) h z = ap₂ (λ (b c : ℕ). note 7 b c (pos 0)) (kept e (omega (arith, h.0))) (kept a (omega (arith, h.1)))
-  does-note (OutputsTo e v m) h z =
-      let (w, i, k) = h.1 in
-      ap₂ (λ (b c : ℕ). note 8 b c v) (kept e (omega (arith, h.0))) k ∙ ap (note 8 e (mark w)) i
-      ∙ sym (ap (λ (c : Message). note 8 e (mark c) (number_in c)) (ap₂ cell_of i k ∙ cell-back w))
+  does-note (OutputsTo e m) h z =
+      let w = message_in m in
+      ap (λ (b : ℕ). note 8 b (mark w) (number_in w)) (kept e (omega (arith, h)))
   does-note Selects h z = absurd (z refl)
 
 -- ---- options

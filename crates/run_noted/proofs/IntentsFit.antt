@@ -16,13 +16,13 @@ use Rattle.meaning.specs.Declarations.{Channel}
 use Rattle.meaning.specs.Tree.{ChannelInput, IfChoice, AltOption, Action, stop, skip, sequence, parallel, assign, input, output, conditional, loop, alternation, block, action_of}
 use Rattle.meaning.specs.Values.{Message, is_true, value, index, Sent, gives, lacking}
 use Rattle.meaning.specs.Values as values
-use Rattle.meaning.specs.Buffers.{number_in, mark}
 use Rattle.meaning.specs.State.{Store, State, program, process_at, write_output}
 use Rattle.meaning.specs.Readings.{Sheet}
 use Rattle.meaning.specs.Intent.{Offer, open_offer, input_offer, Intent, waits, moves, inputs_from, outputs_to, selects, assigning, testing, choosing, host_write, outputting, InputResult, lacks, not_yet, reads, from_element, host_read, input_result_of, inputting, OptionsResult, fails, offers, adding, opening, guarding, selecting, input_result, input_result_if, tests, options_result, intent}
 use Rattle.meaning.specs.Ready.{option_row, is_live, intent_at}
 use Rattle.meaning.specs.Answers.{check}
 use Rattle.run_code.specs.Prepared.{host_note}
+use Rattle.run_values.specs.Sending.{coded}
 use Rattle.run_intents.specs.declared.Does.TheVariants.{Waits, InputsFrom, OutputsTo}
 use Rattle.run_intents.specs.Does as does
 use Rattle.run_intents.specs.Does.{on_host, received, sent, input_does, output_does, when_true, guard_does, guarded_does, does_of}
@@ -70,9 +70,9 @@ send-fits r c outputs (Fails k) v h = tt
 send-fits r c outputs (At e) (lacking k) h = tt
 send-fits r c outputs (At e) (gives m) h = go c.host h
   where
-    go : (t : Bool) → InRange (on_host (if_else t (suc c.number) 0) (does.host_write [] c.capacity (number_in m) (mark m)) (OutputsTo e (number_in m) (mark m))) → Fits [] (if_else t (host_write r c (get_or outputs c.number []) m) (outputs_to e m))
+    go : (t : Bool) → InRange (on_host (if_else t (suc c.number) 0) (does.host_write [] c.capacity (coded m)) (OutputsTo e (coded m))) → Fits [] (if_else t (host_write r c (get_or outputs c.number []) m) (outputs_to e m))
     go true h = either [] (ltb (length (get_or outputs c.number [])) c.capacity) (moves r 2 (write_output c.number (get_or outputs c.number [] ++ (m ∷ [])) ∷ [])) waits tt tt
-    go false h = h.0
+    go false h = h
 
 -- what an input comes to
 abbrev ResultBelow : InputResult → Type 0

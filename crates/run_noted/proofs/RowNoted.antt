@@ -90,9 +90,9 @@ module _ (rows : List ℤ) (ok : check rows ≡ none) (w : ℕ → Intent) (r : 
           selected Ends z = let y : ◌≡◌ {A = ℕ} 3 9 = z in absurd (omega arith)
           selected (Starts q) z = let y : ◌≡◌ {A = ℕ} 4 9 = z in absurd (omega arith)
           selected (Reads a p) z = let y : ◌≡◌ {A = ℕ} 5 9 = z in absurd (omega arith)
-          selected (Writes p v m) z = let y : ◌≡◌ {A = ℕ} 6 9 = z in absurd (omega arith)
+          selected (Writes p m) z = let y : ◌≡◌ {A = ℕ} 6 9 = z in absurd (omega arith)
           selected (InputsFrom e a) z = let y : ◌≡◌ {A = ℕ} 7 9 = z in absurd (omega arith)
-          selected (OutputsTo e v m) z = let y : ◌≡◌ {A = ℕ} 8 9 = z in absurd (omega arith)
+          selected (OutputsTo e m) z = let y : ◌≡◌ {A = ℕ} 8 9 = z in absurd (omega arith)
           selected Selects z = alt-selects sheet x r notes ∙ selecting-is (first_stop notes) (flatten (map (offers_of sheet x) notes))
 
   pub note-row : NotesFit rows (noted r found_intent w)

@@ -6,6 +6,8 @@ use Rattle.meaning.specs.Basics.{if_else}
 use Rattle.meaning.specs.Tree.{AltOption, action_of}
 use Rattle.meaning.specs.State.{program, process_at}
 use Rattle.run_ready_bits.specs.Bits.{no_rows, raised, lowered}
+use Rattle.meaning.specs.Buffers.{mark, number_in}
+use Rattle.run_values.specs.Sending.{CodeMessage, message_in}
 use Rattle.run_intents.specs.declared.Does.{Does}
 use Rattle.run_intents.specs.declared.Does.TheVariants.{Waits, Stops, Assigns, Ends, Starts, Reads, Writes, InputsFrom, OutputsTo, Selects}
 use Rattle.run_intents.specs.Stands.{options_of}
@@ -27,6 +29,10 @@ note w p c x = record { what = w; at = p; third = c; number = x }
 abbrev pub short : ℕ → ℕ
 short n = n % 65536
 
+-- an output: its message's mark and number
+abbrev pub output_note : ℕ → ℕ → CodeMessage → Note
+output_note w p m = note w (short p) (mark (message_in m)) (number_in (message_in m))
+
 abbrev pub note_numbers : Does → Note
 note_numbers Waits = note 0 0 0 (pos 0)
 note_numbers (Stops k) = note 1 k 0 (pos 0)
@@ -34,9 +40,9 @@ note_numbers (Assigns a x) = note 2 0 (short a) x
 note_numbers Ends = note 3 0 0 (pos 0)
 note_numbers (Starts q) = note 4 (short q) 0 (pos 0)
 note_numbers (Reads a p) = note 5 (short p) (short a) (pos 0)
-note_numbers (Writes p x k) = note 6 (short p) k x
+note_numbers (Writes p m) = output_note 6 p m
 note_numbers (InputsFrom e a) = note 7 (short e) (short a) (pos 0)
-note_numbers (OutputsTo e x k) = note 8 (short e) k x
+note_numbers (OutputsTo e m) = output_note 8 e m
 note_numbers Selects = note 9 0 0 (pos 0)
 
 -- the note of row r becomes n

@@ -4,7 +4,7 @@
 ghost use Rattle.std.specs.Prelude.{◌≡◌, List, ℕ, ◌<◌, ◌≤◌, ℤ};
 ghost use Rattle.meaning.specs.Tree.{content_at};
 ghost use Rattle.run_code.specs.Prepared.{Prepared};
-ghost use Rattle.run_notes.specs.Notes.{note, short, note_numbers, options_at};
+ghost use Rattle.run_notes.specs.Notes.{note, short, output_note, note_numbers, options_at};
 
 use run_code::place;
 use run_intents::Does;
@@ -41,6 +41,16 @@ fn short(n: usize) -> u16
     (n % 65536) as u16
 }
 
+// The note of an output of message m: its mark and its number.
+fn output_note(what: u16, at: usize, m: Option<i32>) -> Note
+    ensures { result ≡ output_note what at m }
+{
+    match m {
+        Some(x) => note_with(what, short(at), 1, x),
+        None => note_with(what, short(at), 0, 0),
+    }
+}
+
 impl From<Does> for Note {
     ghost from_gives = { λ d n. n ≡ note_numbers d };
 
@@ -53,9 +63,9 @@ impl From<Does> for Note {
             Does::Ends => note_with(3, 0, 0, 0),
             Does::Starts(q) => note_with(4, short(q), 0, 0),
             Does::Reads(a, p) => note_with(5, short(p), short(a), 0),
-            Does::Writes(p, x, m) => note_with(6, short(p), m as u16, x),
+            Does::Writes(p, m) => output_note(6, p, m),
             Does::InputsFrom(e, a) => note_with(7, short(e), short(a), 0),
-            Does::OutputsTo(e, x, m) => note_with(8, short(e), m as u16, x),
+            Does::OutputsTo(e, m) => output_note(8, e, m),
             Does::Selects => note_with(9, 0, 0, 0),
         }
     }

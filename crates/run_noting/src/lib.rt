@@ -3,7 +3,7 @@
 
 ghost use Rattle.std.specs.Prelude.{◌≡◌, List, ◌<◌, ◌≤◌, ℤ};
 ghost use Rattle.meaning.specs.Tree.{content_at};
-ghost use Rattle.run_values.specs.Cells.{lent_cells};
+ghost use Rattle.run_values.specs.Cells.{state_cells};
 ghost use Rattle.run_code.specs.Prepared.{Prepared};
 ghost use Rattle.run_notes.specs.Notes.{wait_input, wake_option, wake_options, wake, wait_output, note_as, noted_of};
 ghost use Rattle.run_noting.specs.Noting.{options_noted, alt_noted, row_noted};
@@ -12,6 +12,7 @@ use run_code::place;
 use run_intents::{Does, does_at, option_does};
 use run_notes::{Note, Notes, first_option};
 use run_ready_bits::raise;
+use run_values::store::State;
 
 // Row r, by itself or for its option j, waits to input at element e.
 fn wait_input(notes: &mut Notes, r: usize, j: usize, e: u16)
@@ -90,11 +91,9 @@ fn note_as(code: &[u16; 6150], notes: &mut Notes, r: usize, j: usize, n: Note)
 }
 
 // The options of ALT r from link m on are noted, and what the ALT would do is handed back; where one lacks a value, none is noted.
-fn note_options<'a>(
-    code: &'a [u16; 6150],
-    values: &'a [i32; 256],
-    marks: &'a [u8; 256],
-    places: &'a [u32; 8],
+fn note_options(
+    code: &[u16; 6150],
+    state: &State,
     lines: usize,
     notes: &mut Notes,
     r: usize,
@@ -102,17 +101,17 @@ fn note_options<'a>(
 ) -> Note
     requires table { (rows : List ℤ) × Prepared rows code.now }
     requires inside { (r < 1024) × (m ≤ 1024) }
-    ensures { (rows : List ℤ) → Prepared rows code.now → noted_of result notes.new ≡ options_noted lines (lent_cells values marks) places.now rows r (content_at rows m).options notes.old }
+    ensures { (rows : List ℤ) → Prepared rows code.now → noted_of result notes.new ≡ options_noted lines (state_cells state.now) state.now.places rows r (content_at rows m).options notes.old }
 {
     if place(code, m, 0) != 42 {
         return Note::from(Does::Selects);
     }
-    let n = Note::from(option_does(code, values, marks, places, lines, m));
+    let n = Note::from(option_does(code, state, lines, m));
     if n.what == 1 {
         return n;
     }
     let link = place(code, m, 2) as usize;
-    let z = note_options(code, values, marks, places, lines, notes, r, link);
+    let z = note_options(code, state, lines, notes, r, link);
     if z.what == 1 {
         return z;
     }
@@ -121,21 +120,13 @@ fn note_options<'a>(
 }
 
 // ALT r is noted.
-fn note_alt<'a>(
-    code: &'a [u16; 6150],
-    values: &'a [i32; 256],
-    marks: &'a [u8; 256],
-    places: &'a [u32; 8],
-    lines: usize,
-    notes: &mut Notes,
-    r: usize,
-)
+fn note_alt(code: &[u16; 6150], state: &State, lines: usize, notes: &mut Notes, r: usize)
     requires table { (rows : List ℤ) × Prepared rows code.now }
     requires inside { r < 1024 }
-    ensures { (rows : List ℤ) → Prepared rows code.now → notes.new ≡ alt_noted lines (lent_cells values marks) places.now rows r notes.old }
+    ensures { (rows : List ℤ) → Prepared rows code.now → notes.new ≡ alt_noted lines (state_cells state.now) state.now.places rows r notes.old }
 {
     let m = first_option(code, r);
-    let n = note_options(code, values, marks, places, lines, notes, r, m);
+    let n = note_options(code, state, lines, notes, r, m);
     notes.store(r, n);
     if n.what == 1 {
         raise(&mut notes.bits, r);
@@ -143,23 +134,21 @@ fn note_alt<'a>(
 }
 
 // Row r, which came to work, is noted.
-pub fn note_row<'a>(
-    code: &'a [u16; 6150],
-    values: &'a [i32; 256],
-    marks: &'a [u8; 256],
-    places: &'a [u32; 8],
-    counts: &'a [u32; 8],
+pub fn note_row(
+    code: &[u16; 6150],
+    state: &State,
+    counts: &[u32; 8],
     lines: usize,
     notes: &mut Notes,
     r: usize,
 )
     requires table { (rows : List ℤ) × Prepared rows code.now }
     requires inside { r < 1024 }
-    ensures { (rows : List ℤ) → Prepared rows code.now → notes.new ≡ row_noted lines (lent_cells values marks) places.now counts.now rows r notes.old }
+    ensures { (rows : List ℤ) → Prepared rows code.now → notes.new ≡ row_noted lines (state_cells state.now) state.now.places counts.now rows r notes.old }
 {
-    let n = Note::from(does_at(code, values, marks, places, counts, lines, r));
+    let n = Note::from(does_at(code, state, counts, lines, r));
     if n.what == 9 {
-        note_alt(code, values, marks, places, lines, notes, r);
+        note_alt(code, state, lines, notes, r);
     } else {
         note_as(code, notes, r, r, n);
     }

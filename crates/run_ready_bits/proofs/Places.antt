@@ -2,7 +2,7 @@
 use Rattle.std.proofs.Common.{◌≡◌, ℕ, zero, suc, ◌+◌, ◌-◌, ◌*◌, ◌/◌, ◌%◌, ◌^◌, ◌<◌, ◌≤◌, min, Bool, eqb, List, [], ◌∷◌, ◌++◌, map, get_or, drop, sym, refl, ap, ◌∙◌, ap₂, arith, get_or-drop}
 use native.Mathlib.Nat.{pow-succ', div-div-eq-div-mul}
 use lib.ListN.{get_or-map}
-use lib.Bits.{bit_and, and_step, and_self, and_zero_l}
+use lib.Bits.{bit_and, and_step, and_self}
 use lib.Count.{count_trailing_zeros, under}
 use Rattle.meaning.specs.Basics.{if_else, all_below}
 use Rattle.run_ready_bits.proofs.Agreeing.{below_none, below_next, below-same}
@@ -68,11 +68,6 @@ rest-even : (w : ℕ) → w % 2 ≡ 0 → without_lowest w ≡ without_lowest (w
 rest-even w e =
     let a : (w - 1) / 2 ≡ w / 2 - 1 = omega arith in
     and_step w (w - 1) ∙ ap₂ (λ (x y : ℕ). bit_and (w / 2) x * 2 + y) a (ap (λ (d : ℕ). min d ((w - 1) % 2)) e ∙ min-none ((w - 1) % 2)) ∙ omega arith
-
--- as the code finds it
-pub rest-is : {v : ℕ} (w : ℕ) → w < 2 ^ 64 → v ≡ (w + 18446744073709551615) % 2 ^ 64 → bit_and w v ≡ without_lowest w
-rest-is {v} zero h e = and_zero_l v ∙ sym (and_zero_l (0 - 1))
-rest-is {v} (suc n) h e = let m : v ≡ suc n - 1 = omega arith in ap (bit_and (suc n)) m
 
 pub others : (n w : ℕ) → all_below (on (without_lowest w)) n ≡ drop 1 (all_below (on w) n)
 others zero w = below_none (on (without_lowest w)) ∙ ap (drop 1) (sym (below_none (on w)))

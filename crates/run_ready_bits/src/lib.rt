@@ -24,22 +24,18 @@ fn turn(bits: &mut [u64; 33], r: usize, d: u64)
     ensures { bits.new ≡ turned bits.old r d }
 {
     let i = r / 64 % 16;
-    let word = bits[i];
-    let some = bits[i + 16];
-    let all = bits[32];
-    bits[i] = word ^ (1 << (r % 64));
-    bits[i + 16] = std::num::wrapping_add_u64(some, d);
-    bits[32] = std::num::wrapping_add_u64(all, d);
+    bits[i] ^= 1 << (r % 64);
+    bits[i + 16] = bits[i + 16].wrapping_add(d);
+    bits[32] = bits[32].wrapping_add(d);
 }
 
 // Row r comes in.
 pub fn raise(bits: &mut [u64; 33], r: usize)
     ensures { bits.new ≡ raised bits.old r }
 {
-    if has(bits, r) {
-        return;
+    if !has(bits, r) {
+        turn(bits, r, 1);
     }
-    turn(bits, r, 1);
 }
 
 // Row r goes out.
@@ -62,7 +58,7 @@ pub fn total(bits: &[u64; 33]) -> u64
 fn rest(w: u64) -> u64
     ensures { result ≡ without_lowest w }
 {
-    w & std::num::wrapping_add_u64(w, u64::MAX)
+    w & w.wrapping_sub(1)
 }
 
 // The place of the k-th bit of a word, from 0 on; 64 if there are not so many.
@@ -70,12 +66,10 @@ fn place(word: u64, k: u64) -> usize
     ensures { result ≡ slice_index_or (all_below (on word) 64) k 64 }
 {
     let mut w = word;
-    let mut left = k;
-    while 0 < left {
+    for _ in 0..k {
         w = rest(w);
-        left -= 1;
     }
-    u64::trailing_zeros(w) as usize
+    w.trailing_zeros() as usize
 }
 
 // The k-th row, from 0 on, in order; 1,024 if there are not so many.
@@ -84,14 +78,12 @@ pub fn pick(bits: &[u64; 33], k: u64) -> usize
     ensures meaning { BitsCounted bits.now → result ≡ slice_index_or (all_below (has bits.now) 1024) k 1024 }
 {
     let mut left = k;
-    let mut i = 0;
-    while i < 16 {
+    for i in 0..16 {
         let n = bits[i + 16];
         if left < n {
             return 64 * i + place(bits[i], left);
         }
         left -= n;
-        i += 1;
     }
     1024
 }

@@ -9,6 +9,7 @@ use Prim.Native.Nat.{ℕ, zero, suc, ◌+◌, ◌-◌, ◌%◌, ◌<◌, ◌≤�
 use native.Mathlib.Omega.{arith}
 use lib.IntN.{ℤ, pos}
 use lib.ListN.{length, get_or, set, replicate, length-replicate}
+use Rattle.meaning.specs.Values.{Message}
 use Rattle.meaning.specs.declared.Outcome.{Outcome}
 use Rattle.meaning.specs.Basics.{all_below}
 use Rattle.meaning.specs.Rows.{row_count}
@@ -43,7 +44,8 @@ use Rattle.run_code.specs.Prepared.{Prepared, place_at}
 use Rattle.run_kept.specs.Kept.{ready_row}
 use Rattle.run_kept.specs.Noting.{off}
 use Rattle.run_values.specs.declared.store.State as store
-use Rattle.run_values.specs.Cells.{cells_in, unset_state}
+use Rattle.run_values.specs.Cells.{cells_in, state_cells, unset_state}
+use Rattle.run_values.proofs.ArrayCells.{state-array}
 use Rattle.run_notes.specs.declared.Notes.{Notes}
 use Rattle.run_notes.specs.Notes.{lists_of}
 use Rattle.run_noted.specs.Noted.{noted_by}
@@ -228,10 +230,10 @@ module _ (rows : List ℤ) (ok : check rows ≡ none) (sheet : Sheet) (readings 
 
     -- the same by the state that a run begins with
     pub stands-first : (x : store.State) → x ≡ unset_state → (bits : List ℕ) → bits ≡ no_rows → (k : Notes)
-        → k ≡ note_listed rows (cells_in x.values x.marks) x.places (replicate 8 0) lines (listed_rows came) (lists_of (replicate 3072 0) (replicate 1024 (pos 0)) (replicate 512 0) bits)
+        → k ≡ note_listed rows (state_cells x) x.places (replicate 8 0) lines (listed_rows came) (lists_of (replicate 3072 0) (replicate 1024 (pos 0)) (replicate 512 0) bits)
         → Stands rows sheet choices budget first 0 first (machine_of (arrays_of x states (replicate 1024 (pos 0)) (replicate 8 0) (replicate 1024 0)) left came k)
     stands-first x e bits f k g =
         let d = arrays_of x states (replicate 1024 (pos 0)) (replicate 8 0) (replicate 1024 0) in
         let z : d ≡ record { cells = replicate 256 (pos 0); marks = replicate 256 0; states = states; places = replicate 8 0; numbers = replicate 1024 (pos 0); counts = replicate 8 0; output_marks = replicate 1024 0 }
         = ap (λ (y : store.State). arrays_of y states (replicate 1024 (pos 0)) (replicate 8 0) (replicate 1024 0)) e in
-        stands-start d z k (g ∙ ap (λ (y : List ℕ). note_listed rows (cells_in x.values x.marks) x.places (replicate 8 0) lines (listed_rows came) (lists_of (replicate 3072 0) (replicate 1024 (pos 0)) (replicate 512 0) y)) f)
+        stands-start d z k (g ∙ ap (λ (c : List Message). note_listed rows c x.places (replicate 8 0) lines (listed_rows came) (lists_of (replicate 3072 0) (replicate 1024 (pos 0)) (replicate 512 0) bits)) (state-array x (ap (λ (y : store.State). length y.values) e ∙ length-replicate 256 (pos 0)) (ap (λ (y : store.State). length y.marks) e ∙ length-replicate {A = ℕ} 256 0)) ∙ ap (λ (y : List ℕ). note_listed rows (cells_in x.values x.marks) x.places (replicate 8 0) lines (listed_rows came) (lists_of (replicate 3072 0) (replicate 1024 (pos 0)) (replicate 512 0) y)) f)

@@ -10,6 +10,7 @@ use lib.IntN.{ℤ, pos}
 use lib.ListN.{length, get_or, set, replicate}
 use mir.Syntax.{w16, w32}
 use mir.Val.{Fits}
+use Rattle.meaning.specs.Values.{Message}
 use Rattle.meaning.specs.declared.Outcome.{Outcome}
 use Rattle.meaning.specs.Basics.{all_below}
 use Rattle.meaning.specs.Rows.{row_count}
@@ -28,7 +29,8 @@ use Rattle.machine.proofs.HeldLaws.{states-long}
 use Rattle.run_ready_bits.specs.Bits.{Shown, no_rows}
 use Rattle.run_code.specs.Prepared.{Prepared}
 use Rattle.run_values.specs.declared.store.State as store
-use Rattle.run_values.specs.Cells.{cells_in, unset_state}
+use Rattle.run_values.specs.Cells.{state_cells, unset_state}
+use Rattle.run_values.proofs.ArrayCells.{state-array}
 use Rattle.run_notes.specs.declared.Notes.{Notes}
 use Rattle.run_notes.specs.Notes.{no_notes}
 use Rattle.run_changes.specs.declared.Change.{Change}
@@ -130,7 +132,7 @@ began-below b =
 
 -- once they are noted, the run stands where it starts
 pub stands-first : (b : Begun) → let g = b.setting in (s : store.State) → s ≡ unset_state → (o : Outputs) → o ≡ no_outputs → (l : Notes) → l ≡ no_notes → (m : Notes)
-    → m ≡ note_listed g.rows (cells_in s.values s.marks) s.places o.counts g.lines (listed_rows b.came) l
+    → m ≡ note_listed g.rows (state_cells s) s.places o.counts g.lines (listed_rows b.came) l
     → Stands g.rows g.sheet g.choices g.budget g.first 0 g.first (machine_of (arrays_with s b.states o) b.left b.came m)
 stands-first b s s-is o o-is l l-is m m-is =
     let g = b.setting in
@@ -245,10 +247,10 @@ blocks-below y =
 pub stands-further : (y : Settling) → let x = y.changing in let p = x.picking in let t = p.counting.standing in let g = t.setting in let b = t.arrays in
     (h : Host) → h ≡ host_put x.change.written (host_of b.places b.numbers b.counts b.output_marks) → (w : Option (ℕ × Option ℤ)) → w ≡ written g.readings g.given b.places x.change.written
     → (s : store.State) → s ≡ with_put w (record { values = b.cells; marks = b.marks; places = h.places }) → (z : store.State) → z ≡ blocks_unset g.rows (listed_blocks y.came) s → (l : Notes) → l ≡ leave_step g.rows x.change.owner x.change.sender t.notes
-    → (m : Notes) → m ≡ note_listed g.rows (cells_in z.values z.marks) z.places h.counts g.lines (listed_rows y.came) l
+    → length z.values ≡ 256 → length z.marks ≡ 256 → (m : Notes) → m ≡ note_listed g.rows (state_cells z) z.places h.counts g.lines (listed_rows y.came) l
     → (readied taken : List ℕ) → readied ≡ set t.lists.ready_counts t.n p.counting.count → taken ≡ set t.lists.taken_rows t.n p.row
     → Stands g.rows g.sheet g.choices g.budget g.first (t.n + 1) (lists_lent readied taken) (machine_of (arrays_of z y.states h.numbers h.counts h.output_marks) y.left y.came m)
-stands-further y h host-is w w-is s s-is z z-is l left_is m m-is readied taken readied-is taken_is =
+stands-further y h host-is w w-is s s-is z z-is l left_is v-is k-is m m-is readied taken readied-is taken_is =
     let x = y.changing in
     let p = x.picking in
     let k = p.counting in
@@ -258,4 +260,4 @@ stands-further y h host-is w w-is s s-is z z-is l left_is m m-is readied taken r
     stands.stands-further _ g.accepted _ _ _ _ g.kept g.few (laws g) _ _ _ _ _ _ _ _ _ t.stands _ k.count-is (more p).0 (more p).1 _ _ p.choice-is p.row_is x.change x.change-is _ _ _ y.up
     _ (ap (λ (v : store.State). arrays_of v y.states h.numbers h.counts h.output_marks) z-is
     ∙ arrays-unset y.states h.numbers h.counts h.output_marks (local_at (program g.rows) (listed_blocks y.came)) s ∙ ap (put_unset (local_at (program g.rows) (listed_blocks y.came))) (changes.turned-arrays g.readings g.given (record { values = b.cells; marks = b.marks; places = b.places }) b.states b.numbers b.counts b.output_marks y.states x.change.written h host-is w w-is s s-is))
-    l left_is m m-is _ (ap₂ lists_lent readied-is taken_is)
+    l left_is m (m-is ∙ ap (λ (c : List Message). note_listed g.rows c z.places h.counts g.lines (listed_rows y.came) l) (state-array z v-is k-is)) _ (ap₂ lists_lent readied-is taken_is)

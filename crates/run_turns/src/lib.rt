@@ -2,7 +2,7 @@
 #![tactic(auto)]
 
 ghost use Rattle.std.specs.Prelude.{◌≡◌, List, ◌<◌, ◌≤◌, ℤ};
-ghost use Rattle.run_values.specs.Cells.{lent_cells};
+ghost use Rattle.run_values.specs.Cells.{state_cells};
 ghost use Rattle.run_code.specs.Prepared.{Prepared};
 ghost use Rattle.run_turns.specs.Turns.{leave_step, note_listed, written, blocks_unset, host_with, host_put};
 ghost use Rattle.run_turns.specs.Fits.{RowsBelow, BlocksBelow, HostFits, ReadingFits};
@@ -39,24 +39,20 @@ pub fn unset_blocks(code: &[u16; 6150], blocks: &[u16], mut state: State) -> Sta
 }
 
 // The rows that came to work are noted.
-pub fn note_all<'a>(
-    code: &'a [u16; 6150],
-    values: &'a [i32; 256],
-    marks: &'a [u8; 256],
-    places: &'a [u32; 8],
-    counts: &'a [u32; 8],
+pub fn note_all(
+    code: &[u16; 6150],
+    state: &State,
+    counts: &[u32; 8],
     lines: usize,
-    came: &'a [u16],
+    came: &[u16],
     notes: &mut Notes,
 )
     requires table { (rows : List ℤ) × Prepared rows code.now }
     requires listed { RowsBelow came.now }
-    ensures { (rows : List ℤ) → Prepared rows code.now → notes.new ≡ note_listed rows (lent_cells values marks) places.now counts.now lines came.now notes.old }
+    ensures { (rows : List ℤ) → Prepared rows code.now → notes.new ≡ note_listed rows (state_cells state.now) state.now.places counts.now lines came.now notes.old }
 {
     for &r in came {
-        note_row(
-            code, values, marks, places, counts, lines, notes, r as usize,
-        );
+        note_row(code, state, counts, lines, notes, r as usize);
     }
 }
 

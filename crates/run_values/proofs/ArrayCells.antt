@@ -1,5 +1,5 @@
 -- The cells of two arrays: what stands at a place, and that they are those decoded from arrays of 256.
-use mathlib.Core.Path.{◌≡◌, refl, ap, ◌∙◌}
+use mathlib.Core.Path.{◌≡◌, refl, sym, ap, ◌∙◌}
 use mathlib.Core.Option.{none}
 use mathlib.Core.List.{List, [], ◌∷◌}
 use Prim.Native.Nat.{ℕ, zero, suc, ◌<◌, ◌≤◌}
@@ -10,7 +10,8 @@ use borrow.Author.Tests.{eq-eqb, ne_eqb}
 use Rattle.meaning.specs.declared.Value.TheVariants.{Number, Missing}
 use Rattle.meaning.specs.Buffers.{cell_of, decoded}
 use Rattle.meaning.specs.Values.{Message, cell_value}
-use Rattle.run_values.specs.Cells.{cells_to, cells_in}
+use Rattle.run_values.specs.declared.store.State.{State}
+use Rattle.run_values.specs.Cells.{cells_to, cells_in, state_cells}
 
 after_first : {A : Type 0} (l : List A) (i : ℕ) (d : A) → get_or (drop 1 l) i d ≡ get_or l (suc i) d
 after_first [] i d = refl
@@ -55,3 +56,20 @@ module _ (xs : List ℤ) (ms : List ℕ) (i : ℕ) (l : i < 256) where
 
   pub set-cell : (get_or ms i 0 ≡ 0 → ⊥) → cell_value (get_or (cells_in xs ms) i none) ≡ Number (get_or xs i (pos 0))
   set-cell e = rw (cell_in, ne_eqb _ _ e)
+
+-- the cells of a state, whose two arrays are of 256
+pub state-array : (s : State) → length s.values ≡ 256 → length s.marks ≡ 256 → state_cells s ≡ cells_in s.values s.marks
+state-array s v m = sym (cells-decoded s.values s.marks v m)
+
+module _ (s : State) (v : length s.values ≡ 256) (m : length s.marks ≡ 256) (i : ℕ) where
+  as-array : cell_value (get_or (state_cells s) i none) ≡ cell_value (get_or (cells_in s.values s.marks) i none)
+  as-array = ap (λ (l : List Message). cell_value (get_or l i none)) (state-array s v m)
+
+  pub past-state : 256 ≤ i → Missing 1 ≡ cell_value (get_or (state_cells s) i none)
+  past-state l = sym (as-array ∙ ap cell_value (past-cells s.values s.marks i l))
+
+  pub unset-state : i < 256 → get_or s.marks i 0 ≡ 0 → Missing 1 ≡ cell_value (get_or (state_cells s) i none)
+  unset-state l e = sym (as-array ∙ unset-cell s.values s.marks i l e)
+
+  pub set-state : i < 256 → (get_or s.marks i 0 ≡ 0 → ⊥) → Number (get_or s.values i (pos 0)) ≡ cell_value (get_or (state_cells s) i none)
+  set-state l e = sym (as-array ∙ set-cell s.values s.marks i l e)

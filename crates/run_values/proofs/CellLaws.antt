@@ -2,13 +2,16 @@
 use mathlib.Core.Path.{◌≡◌, refl, sym, ap, ap₂, ◌∙◌}
 use mathlib.Core.Option.{none, some}
 use mathlib.Core.List.{List, [], ◌∷◌}
-use Prim.Native.Nat.{ℕ, zero, suc, ◌+◌, ◌≤◌}
+use Prim.Native.Nat.{ℕ, zero, suc, ◌+◌, ◌<◌, ◌≤◌}
 use native.Mathlib.Omega.{arith}
-use lib.IntN.{ℤ}
-use lib.ListN.{length, get_or, set}
-use lib.Seq.{set_out}
+use lib.IntN.{ℤ, pos}
+use lib.ListN.{length, get_or, set, replicate, length-replicate}
+use lib.Seq.{set_out, paste}
+use Rattle.std.proofs.lemmas.List.Edits.{paste_none, fill_from_more}
+use Rattle.std.proofs.lemmas.Slice.{put_mid-paste}
+use borrow.Rule.Slice.PartMut.{put_mid}
+use Rattle.std.specs.Prelude.{Some, None}
 use Rattle.meaning.specs.declared.Value.{Value}
-use Rattle.meaning.specs.declared.Value.TheVariants.{Number, Missing}
 use Rattle.meaning.specs.declared.Index.{Index}
 use Rattle.meaning.specs.declared.Index.TheVariants.{At, Fails}
 use Rattle.meaning.specs.Buffers.{mark, number_in, cell_of, decoded}
@@ -17,6 +20,7 @@ use Rattle.meaning.specs.Tree.{Expr, literal, element, monadic, given, dyadic, n
 use Rattle.meaning.specs.Basics.{is_some}
 use Rattle.meaning.specs.Values.{Message, truth, monadic_of, when_number, dyadic_of, in_array, cell_value, read_cell, given_value, value, index, gives, cell_sent, value_sent, passed}
 use Rattle.run_values.specs.declared.store.State.{State}
+use Rattle.run_values.specs.Sending.{CodeMessage, message_in, coded}
 use Rattle.run_values.specs.Cells.{state_cells, with_cell, with_unset}
 
 -- a change of number i and mark i changes cell i alone
@@ -46,23 +50,41 @@ unset-next a (suc n) s =
     let e : suc a + n ≡ a + suc n = omega arith in
     unset-next (suc a) n (with_cell s a none) ∙ ap (λ (i : ℕ). with_cell (with_unset (suc a) n (with_cell s a none)) i none) e
 
-pub unset-more : (a n : ℕ) (s : State) {t : State} → t ≡ with_unset a n s → with_cell t (a + n) none ≡ with_unset a (n + 1) s
-unset-more a n s e = let q : n + 1 ≡ suc n = omega arith in ap (λ (u : State). with_cell u (a + n) none) e ∙ sym (unset-next a n s) ∙ ap (λ (i : ℕ). with_unset a i s) (sym q)
+-- the state whose arrays are filled with 0, n places from a on
+abbrev filled : ℕ → ℕ → State → State
+filled a n s = record { values = paste s.values a (replicate n (pos 0)) n; marks = paste s.marks a (replicate n 0) n; places = s.places }
 
--- a cell that gives a number is set to it, and one that gives none is unset
-abbrev number_of : Value → Message
-number_of (Number x) = some x
-number_of (Missing k) = none
+filled-next : (a n : ℕ) (s : State) → a + n < length s.values → a + n < length s.marks → with_cell (filled a n s) (a + n) none ≡ filled a (n + 1) s
+filled-next a n s v m =
+    ap₂ (λ (x : List ℤ) (y : List ℕ). let t : State = record { values = x; marks = y; places = s.places } in t) (fill_from_more s.values a n (pos 0) v) (fill_from_more s.marks a n 0 m)
 
-of-cell : (m : Message) → number_of (cell_value m) ≡ m
-of-cell none = refl
-of-cell (some x) = refl
+filled-unset : (a n : ℕ) (s : State) → a + n ≤ length s.values → a + n ≤ length s.marks → filled a n s ≡ with_unset a n s
+filled-unset a zero s v m =
+    ap₂ (λ (x : List ℤ) (y : List ℕ). let t : State = record { values = x; marks = y; places = s.places } in t) (sym (paste_none s.values a (replicate 0 (pos 0)))) (sym (paste_none s.marks a (replicate 0 0)))
+filled-unset a (suc n) s v m =
+    let q : suc n ≡ n + 1 = omega arith in
+    ap (λ (k : ℕ). filled a k s) q
+    ∙ sym (filled-next a n s (omega arith) (omega arith))
+    ∙ ap (λ (t : State). with_cell t (a + n) none) (filled-unset a n s (omega arith) (omega arith))
+    ∙ sym (unset-next a n s)
 
-pub number-set : (m : Message) {v : Value} {x : ℤ} → v ≡ cell_value m → v ≡ Number x → m ≡ some x
-number-set m e q = sym (of-cell m) ∙ ap number_of (sym e ∙ q)
+-- so a state's cells are unset by a write of n zeros into each array
+pub written-unset : (a n k : ℕ) (s : State) (xs : List ℤ) (ms : List ℕ) → n ≡ k → a + n ≤ length s.values → a + n ≤ length s.marks → xs ≡ replicate n (pos 0) → ms ≡ replicate n 0
+    → record { values = put_mid a k s.values xs; marks = put_mid a k s.marks ms; places = s.places } ≡ with_unset a n s
+written-unset a n k s xs ms q v m e f =
+    ap₂ (λ (x : List ℤ) (y : List ℕ). let t : State = record { values = x; marks = y; places = s.places } in t)
+    (put_mid-paste a k s.values xs (replicate n (pos 0)) n e q (sym (length-replicate n (pos 0))))
+    (put_mid-paste a k s.marks ms (replicate n 0) n f q (sym (length-replicate {A = ℕ} n 0)))
+    ∙ filled-unset a n s v m
 
-pub missing-unset : (m : Message) {v : Value} {k : ℕ} → v ≡ cell_value m → v ≡ Missing k → m ≡ none
-missing-unset m e q = sym (of-cell m) ∙ ap number_of (sym e ∙ q)
+-- the code's form of a message is of that message
+pub message-back : (m : Message) → message_in (coded m) ≡ m
+message-back none = refl
+message-back (some x) = refl
+
+pub coded-back : (m : CodeMessage) → coded (message_in m) ≡ m
+coded-back None = refl
+coded-back (Some x) = refl
 
 -- a value follows from what stands at each place
 module _ (cs ds : List Message) (same : (i : ℕ) → get_or cs i none ≡ get_or ds i none) where

@@ -3,8 +3,6 @@ use Rattle.std.proofs.Math.Option.{none}
 use Rattle.std.specs.Prelude.{List, [], ◌∷◌, ℕ, zero, suc, ℤ, pos, get_or, set, replicate, drop}
 use Rattle.meaning.specs.Values.{Message}
 use Rattle.meaning.specs.Buffers.{mark, number_in, cell_of, decoded}
-use Rattle.std.specs.Borrow.{Bor}
-use denote.Triple.Both.{Both}
 use Rattle.run_values.specs.declared.store.State.{State}
 
 -- the first n cells that numbers and set marks stand for
@@ -15,10 +13,6 @@ cells_to (suc n) values marks = cell_of (get_or values 0 (pos 0)) (get_or marks 
 -- the 256 cells of two arrays
 unfoldable pub cells_in : List ℤ → List ℕ → List Message
 cells_in values marks = cells_to 256 values marks
-
--- those of two arrays that are lent, when the call begins
-abbrev pub lent_cells : Both (Bor (List ℤ)) (Bor (List ℤ)) → Both (Bor (List ℕ)) (Bor (List ℕ)) → List Message
-lent_cells values marks = cells_in values.entry.now marks.entry.now
 
 -- the cells of a state
 abbrev pub state_cells : State → List Message

@@ -1,8 +1,11 @@
 // The run's state, which is the cell store too: the number of each cell, its set mark, and the places in the readings.
-ghost use Rattle.std.specs.Prelude.{◌≡◌, ◌+◌, ◌≤◌};
+ghost use Rattle.std.specs.Prelude.{◌≡◌, ◌+◌, ◌≤◌, get_or};
 ghost use Rattle.std.proofs.Math.Option.{none, some};
 ghost use Rattle.std.proofs.Math.ListN as lists;
+ghost use Rattle.meaning.specs.Values.{cell_value, read_cell, given_value};
 ghost use Rattle.run_values.specs.Cells.{state_cells, with_cell, with_unset, unset_state};
+
+use meaning::{Index, Value};
 
 // An unset cell has mark 0 and holds 0; a set one has mark 1. The place of a channel from the host is how many readings it has given.
 #[derive(Drop)]
@@ -28,6 +31,39 @@ pub fn fresh() -> State
 }
 
 impl State {
+    // What cell i gives: its number if it is set, else reason 1.
+    pub fn cell(&self, i: usize) -> Value
+        ensures { result ≡ cell_value (get_or (state_cells self.now) i none) }
+    {
+        if 256 <= i || self.marks[i] == 0 {
+            return Value::Missing(1);
+        }
+        Value::Number(self.values[i])
+    }
+
+    // What the cell gives that a name and a subscript mean.
+    pub fn cell_at(&self, i: Index) -> Value
+        ensures { result ≡ read_cell (state_cells self.now) i }
+    {
+        match i {
+            Index::At(n) => self.cell(n),
+            Index::Fails(k) => Value::Missing(k),
+        }
+    }
+
+    // What GIVEN tells of the cell that a name and a subscript mean: 1 where it is set, 0 where it is not.
+    pub fn given(&self, i: Index) -> Value
+        ensures { result ≡ given_value (state_cells self.now) i }
+    {
+        match i {
+            Index::At(n) => match self.cell(n) {
+                Value::Number(_x) => Value::Number(1),
+                Value::Missing(_k) => Value::Number(0),
+            },
+            Index::Fails(k) => Value::Missing(k),
+        }
+    }
+
     // The state with cell i set to x; past the last cell there is nothing to set.
     pub fn set(mut self, i: usize, x: i32) -> State
         ensures stored { result ≡ with_cell self i (some x) }
@@ -57,12 +93,8 @@ impl State {
         requires { a + n ≤ 256 }
         ensures { result ≡ with_unset a n self }
     {
-        let mut i: usize = 0;
-        while i < n {
-            self.values[a + i] = 0;
-            self.marks[a + i] = 0;
-            i += 1;
-        }
+        self.values[a..a + n].fill(0);
+        self.marks[a..a + n].fill(0);
         self
     }
 }

@@ -1,11 +1,10 @@
 -- The value of a row's expression: there is one to look for in an accepted table, at its rows.
-use mathlib.Core.Path.{◌≡◌, refl, ◌∙◌}
+use mathlib.Core.Path.{◌≡◌, refl}
 use mathlib.Core.Bool.{Bool, true, false}
 use mathlib.Core.List.{List}
 use mathlib.Core.Option.{none, some}
 use Prim.Native.Nat.{ℕ, ◌≤◌}
-use lib.IntN.{ℤ, pos}
-use lib.ListN.{replicate, length-replicate}
+use lib.IntN.{ℤ}
 use Rattle.meaning.specs.Basics.{if_else, is_some}
 use Rattle.meaning.specs.Rows.{row_count}
 use Rattle.meaning.specs.Tree.{content_at}
@@ -14,11 +13,7 @@ use Rattle.meaning.specs.Answers.{check}
 use Rattle.meaning.specs.declared.Value.TheVariants.{Missing}
 use Rattle.meaning.specs.Refusals.{Refusal}
 use Rattle.agreement.proofs.TableTree.{part-past}
-use Rattle.run_values.specs.Cells.{cells_in}
-use Rattle.run_values.proofs.ArrayCells.{cells-decoded}
-use Rattle.test_leaves.specs.Lent.{copied}
-use Rattle.test_leaves.specs.Leaves.{cells_lent, value_at}
-use Rattle.test_leaves.proofs.Packing.{copied-length}
+use Rattle.test_leaves.specs.Leaves.{value_at}
 
 module _ (rows : List ℤ) (cells : List Message) (r : ℕ) where
   pub past-rows : row_count rows ≤ r → Missing 0 ≡ value_at rows cells r
@@ -36,9 +31,3 @@ module _ (rows : List ℤ) (cells : List Message) (r : ℕ) where
   pub value_found : check rows ≡ none → value cells (content_at rows r).expr ≡ value_at rows cells r
   unfolding value_at
   value_found e = rw e
-
--- the cells, copied into arrays of 256
-pub cells-copied : (values : List ℤ) (marks : List ℕ) (xs : List ℤ) (ms : List ℕ) → xs ≡ copied values (replicate 256 (pos 0)) → ms ≡ copied marks (replicate 256 0) → cells_in xs ms ≡ cells_lent values marks
-cells-copied values marks xs ms e f =
-    rw (e, f)
-    (cells-decoded (copied values (replicate 256 (pos 0))) (copied marks (replicate 256 0)) (copied-length values (replicate 256 (pos 0)) ∙ length-replicate 256 (pos 0)) (copied-length marks (replicate 256 0) ∙ length-replicate {A = ℕ} 256 0))

@@ -40,11 +40,10 @@ fn value_in<'a>(rows: &'a [i32], values: &'a [i32], marks: &'a [u8], r: usize) -
 {
     let mut code = [0u16; 6150];
     run_preparing::prepare(rows, &mut code);
-    let mut cells = [0i32; 256];
-    lending::put_numbers(values, &mut cells);
-    let mut given = [0u8; 256];
-    lending::put_marks(marks, &mut given);
-    run_values::eval(&code, &cells, &given, r)
+    let mut state = run_values::store::fresh();
+    lending::put_numbers(values, &mut state.values);
+    lending::put_marks(marks, &mut state.marks);
+    run_values::eval(&code, &state, r)
 }
 
 // The value of the expression of row r; none if the table is refused, or has no such row.

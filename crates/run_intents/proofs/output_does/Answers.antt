@@ -2,17 +2,15 @@
 use Rattle.run_intents.proofs.RowFacts.{output-few}
 use Rattle.run_intents.proofs.Inputs.{output-found}
 use Rattle.run_code.proofs.Inside.{first-inside, third-inside}
-use Rattle.run_values.specs.Cells.{cells_in}
+use Rattle.run_values.specs.Cells.{state_cells}
 use native.Mathlib.Omega.{arith}
-use borrow.Author.Rules.{rules}
 use Rattle.run_intents.proofs.output_does.Goals as goal
 
-pub index-e-requires : goal.index-e-requires
-index-e-requires c = record { table = c.requires.table; inside = (c.requires.row.0, omega (arith, c.requires.row.1)) }
+pub index-e-requires-clause-inside : goal.index-e-requires-clause-inside
+index-e-requires-clause-inside c = (c.requires.row.0, omega (arith, c.requires.row.1))
 
-pub passed-v-requires : goal.passed-v-requires
-passed-v-requires c =
-    record { table = c.requires.table; inside = rw c.place.ensures (third-inside c.requires.table.1 c.args.r c.requires.row.0 (omega (arith, c.requires.row.1))) }
+pub passed-v-requires-clause-inside : goal.passed-v-requires-clause-inside
+passed-v-requires-clause-inside c = rw c.place.ensures (third-inside c.requires.table.1 c.args.r c.requires.row.0 (omega (arith, c.requires.row.1)))
 
 pub place-requires-2 : goal.place-requires-2
 place-requires-2 c =
@@ -28,4 +26,4 @@ sent-requires c =
 
 pub returns : goal.returns
 returns c =
-    λ rows p. output-found p (cells_in c.args.values.now c.args.marks.now) c.args.r c.requires.row.0 c.args.counts.now c.requires.row.1 (c.index-e.ensures rows p) c.place.ensures (c.passed-v.ensures rows p) c.place-d.ensures c.place-2.ensures c.place-3.ensures c.sent.ensures
+    λ rows p. output-found p (state_cells c.args.state.now) c.args.r c.requires.row.0 c.args.counts.now c.requires.row.1 (c.index-e.ensures rows p) c.place.ensures (c.passed-v.ensures rows p) c.place-d.ensures c.place-2.ensures c.place-3.ensures c.sent.ensures

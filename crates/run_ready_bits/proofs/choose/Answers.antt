@@ -1,5 +1,5 @@
 -- `choose` meets its contract: the row picked is that of the test whose rows are shown.
-use Rattle.std.proofs.Common.{◌≡◌, get_or, sym, ◌∙◌, mod-lt, arith, rules, eq-eqb, ne_eqb}
+use Rattle.std.proofs.Common.{◌≡◌, get_or, sym, ◌∙◌, mod-lt, arith, eq-eqb, ne_eqb}
 use Rattle.run_ready_bits.proofs.Raises.{shown-picked}
 use Rattle.run_ready_bits.proofs.choose.Goals as goal
 

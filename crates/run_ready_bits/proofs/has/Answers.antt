@@ -1,4 +1,4 @@
-use Rattle.std.proofs.Common.{refl, rules}
+use Rattle.std.proofs.Common.{refl}
 use Rattle.run_ready_bits.specs.Bits.{on, has}
 use Rattle.run_ready_bits.proofs.has.Goals as goal
 

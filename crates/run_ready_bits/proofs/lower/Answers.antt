@@ -1,6 +1,5 @@
 -- `lower` meets its contract: a row that is in is turned, and another stays out.
 use Rattle.run_ready_bits.proofs.Turns.{lower_in, lower-out}
-use Rattle.std.proofs.Common.{rules}
 use Rattle.run_ready_bits.proofs.lower.Goals as goal
 
 pub returns-then-has : goal.returns-then-has

@@ -1,7 +1,7 @@
 -- `turn` meets its contract.
-use Rattle.run_ready_bits.proofs.Turns.{turn_is}
-use Rattle.std.proofs.Common.{rules}
+use Rattle.std.proofs.Common.{refl}
+use Rattle.run_ready_bits.proofs.Turns.{turn-in-place}
 use Rattle.run_ready_bits.proofs.turn.Goals as goal
 
 pub returns : goal.returns
-returns c = turn_is _ _ _ _ _ c.wrapping_add_u64.ensures.value c.wrapping_add_u64-2.ensures.value
+returns c = turn-in-place c.args.bits.now c.args.r c.args.d _ _ refl refl

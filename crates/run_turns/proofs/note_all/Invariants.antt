@@ -3,10 +3,10 @@ use mathlib.Core.Path.{◌≡◌}
 use mathlib.Core.List.{List}
 use lib.IntN.{ℤ}
 use lib.ListN.{take}
-use Rattle.run_values.specs.Cells.{cells_in}
+use Rattle.run_values.specs.Cells.{state_cells}
 use Rattle.run_code.specs.Prepared.{Prepared}
 use Rattle.run_turns.specs.Turns.{note_listed}
 use Rattle.run_turns.proofs.note_all.Given as goal
 
 abbrev pub invariant-loop-r : goal.invariant-loop-r
-invariant-loop-r l = (rows : List ℤ) → Prepared rows l.code → l.notes ≡ note_listed rows (cells_in l.values l.marks) l.places l.counts l.lines (take l.r-index l.came) l.initial.notes
+invariant-loop-r l = (rows : List ℤ) → Prepared rows l.code → l.notes ≡ note_listed rows (state_cells l.state) l.state.places l.counts l.lines (take l.r-index l.came) l.initial.notes

@@ -1,8 +1,7 @@
 -- `assigned` meets its contract, by what the row is.
-use borrow.Author.Rules.{rules}
 use mathlib.Core.Path.{sym, ◌∙◌}
 use native.Mathlib.Omega.{arith}
-use Rattle.run_values.specs.Cells.{cells_in}
+use Rattle.run_values.specs.Cells.{state_cells}
 use Rattle.run_values.proofs.CodeValues.{cell-assigned, element-assigned, other-assigned}
 use Rattle.run_values.proofs.assigned.Goals as goal
 
@@ -14,12 +13,12 @@ index-requires c =
 
 pub returns-in-46 : goal.returns-in-46
 returns-in-46 c rows p =
-    cell-assigned p c.args.r c.requires.inside (cells_in c.args.values.now c.args.marks.now) (sym c.place.ensures ∙ c.in-46.is) c.place-in-46.ensures
+    cell-assigned p c.args.r c.requires.inside (state_cells c.args.state.now) (sym c.place.ensures ∙ c.in-46.is) c.place-in-46.ensures
 
 pub returns-in-48 : goal.returns-in-48
 returns-in-48 c rows p =
-    element-assigned p c.args.r c.requires.inside (cells_in c.args.values.now c.args.marks.now) (sym c.place.ensures ∙ c.in-48.is) (c.index.ensures rows p)
+    element-assigned p c.args.r c.requires.inside (state_cells c.args.state.now) (sym c.place.ensures ∙ c.in-48.is) (c.index.ensures rows p)
 
 pub returns-in_default : goal.returns-in_default
 returns-in_default c rows p =
-    other-assigned p c.args.r c.requires.inside (cells_in c.args.values.now c.args.marks.now) c.place.ensures c.in_default.in_default-own.rest.0.1 c.in_default.in_default-own.rest.1
+    other-assigned p c.args.r c.requires.inside (state_cells c.args.state.now) c.place.ensures c.in_default.in_default-own.rest.0.1 c.in_default.in_default-own.rest.1

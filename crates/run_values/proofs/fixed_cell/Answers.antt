@@ -1,5 +1,4 @@
 -- `fixed_cell` meets its contract, by what the row is.
-use borrow.Author.Rules.{rules}
 use mathlib.Core.Path.{sym, ap, ◌∙◌}
 use borrow.Author.Tests.{ne_eqb}
 use Rattle.meaning.specs.declared.Index.TheVariants.{At}

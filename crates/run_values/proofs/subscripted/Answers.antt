@@ -1,6 +1,4 @@
 -- `subscripted` meets its contract: the declaration that the row names is in the list.
-use borrow.Author.Rules.{rules}
-use mathlib.Core.Path.{◌∙◌}
 use native.Mathlib.Omega.{arith}
 use Rattle.run_code.proofs.Inside.{first-inside}
 use Rattle.run_values.proofs.subscripted.Goals as goal
@@ -12,6 +10,3 @@ place-requires c =
 pub place-requires-2 : goal.place-requires-2
 place-requires-2 c =
     record { inside = (rw c.place-d.ensures (first-inside c.requires.table.1 c.args.r c.requires.inside), omega arith) }
-
-pub returns : goal.returns
-returns c = c.subscript.ensures ∙ rw (c.place.ensures, c.place-2.ensures, c.place-d.ensures)

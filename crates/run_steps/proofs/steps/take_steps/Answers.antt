@@ -2,8 +2,10 @@
 use mathlib.Core.Path.{◌≡◌, refl, sym, ap, subst, ◌∙◌}
 use mathlib.Core.Option.{none}
 use mathlib.Core.List.{List}
+use lib.ListN.{length}
 use Prim.Native.Nat.{ℕ, ◌≤◌}
 use lib.IntN.{ℤ}
+use borrow.Author.Rules.{rules}
 use native.Mathlib.Omega.{arith}
 use borrow.Author.Tests.{eqb-true}
 use Rattle.std.proofs.lemmas.List.{nil_from_length}
@@ -210,6 +212,8 @@ loop-notes-preserved c =
       | then-not-is_empty w ↦ w.state-is ∙ (rw c.started-blocks.ensures at (w.unset_blocks-state.ensures rows P))
       | else-not-is_empty w ↦ w.state-is ∙ ap (λ (l : List ℕ). blocks_unset rows l c.with_put-state.result) (sym (nil_from_length _ (eqb-true _ 0 (sym c.is_empty.ensures ∙ w.if-not-is_empty.false))) ∙ c.started-blocks.ensures)
     ] in
+    let v : length c.if-came-ne0.state.values ≡ 256 = search rules in
+    let w : length c.if-came-ne0.state.marks ≡ 256 = search rules in
     let h = c.put_host.new in
     let k = c.leave_step.new in
     let m = c.note_all-in-loop-notes.new in (
@@ -217,5 +221,5 @@ loop-notes-preserved c =
       c.show.auto.list ∙ l.invariant.1,
       c.show-in-loop-notes.auto.list ∙ l.invariant.2,
       λ z K. turn.stands-further (settling (goal.at.loop-notes-preserved c).After-change_states (z, K)) (host_with h.places h.outputs) c.put_host.ensures _ c.written_by-w.ensures _ c.with_put-state.ensures _ cleared
-          k.notes (c.leave_step.ensures rows P) m.notes (rw c.working-in-loop-notes.ensures at (c.note_all-in-loop-notes.ensures rows P)) _ _ c.show.ensures c.show-in-loop-notes.ensures,
+          k.notes (c.leave_step.ensures rows P) v w m.notes (rw c.working-in-loop-notes.ensures at (c.note_all-in-loop-notes.ensures rows P)) _ _ c.show.ensures c.show-in-loop-notes.ensures,
     )

@@ -1,9 +1,8 @@
 -- The loop has copied the first bytes of the text. Assumes nothing.
 use mathlib.Core.Path.{◌≡◌, refl}
-use mathlib.Core.List.{◌++◌}
-use Prim.Native.Nat.{◌-◌, ◌≤◌, ◌<◌}
+use Prim.Native.Nat.{◌<◌}
 use native.Mathlib.Omega.{arith}
-use lib.ListN.{length, take, drop, length-set}
+use lib.ListN.{length, length-set}
 use borrow.Author.Rules.{rules}
 use Rattle.test_leaves.proofs.Copies.{copied_more}
 use Rattle.test_leaves.proofs.lending.put_bytes.Goals as goal

@@ -1,6 +1,5 @@
 -- All marks are put, or none. Assumes nothing.
 use mathlib.Core.Path.{sym, ◌∙◌}
-use borrow.Author.Rules.{rules}
 use Rattle.test_leaves.proofs.Copies.{copied_all}
 use Rattle.test_leaves.proofs.Packing.{copied-whole, copied-not}
 use Rattle.test_leaves.proofs.lending.put_marks.Goals as goal

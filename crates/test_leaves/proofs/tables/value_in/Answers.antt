@@ -1,12 +1,15 @@
 -- The table is prepared, the cells are copied, and the expression is evaluated.
-use mathlib.Core.Path.{ap, ◌∙◌}
+use mathlib.Core.Path.{ap, ap₂, ◌∙◌}
+use Prim.Native.Nat.{ℕ}
+use lib.IntN.{ℤ}
 use mathlib.Core.List.{List}
 use native.Mathlib.Omega.{arith}
-use borrow.Author.Rules.{rules}
 use Rattle.meaning.specs.Tree.{content_at}
-use Rattle.meaning.specs.Values.{Message, value}
+use Rattle.meaning.specs.Values.{value}
+use Rattle.meaning.specs.Buffers.{decoded}
+use Rattle.run_values.specs.declared.store.State.{State}
+use Rattle.test_leaves.specs.Lent.{copied}
 use Rattle.agreement.proofs.TableFit.{rows-limit}
-use Rattle.test_leaves.proofs.Values.{cells-copied}
 use Rattle.test_leaves.proofs.tables.value_in.Goals as goal
 
 pub eval-requires : goal.eval-requires
@@ -18,5 +21,7 @@ eval-requires c =
 pub returns : goal.returns
 returns c =
     let a = c.args in
-    c.eval.ensures a.rows.now c.prepare.ensures
-    ∙ ap (λ (cells : List Message). value cells (content_at a.rows.now a.r).expr) (cells-copied a.values.now a.marks.now _ _ c.put_numbers.ensures c.put_marks.ensures)
+    let new = c.fresh-state.ensures.stored in
+    let v = c.put_numbers.ensures ∙ ap (λ (s : State). copied a.values.now s.values) new in
+    let m = c.put_marks.ensures ∙ ap (λ (s : State). copied a.marks.now s.marks) new in
+    c.eval.ensures a.rows.now c.prepare.ensures ∙ ap₂ (λ (xs : List ℤ) (ms : List ℕ). value (decoded xs ms) (content_at a.rows.now a.r).expr) v m

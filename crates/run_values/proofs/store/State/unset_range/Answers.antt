@@ -1,43 +1,16 @@
--- `unset_range` meets its contract. The invariant: i cells from a on are unset. The measure is the cells that are left.
-use mathlib.Core.Path.{◌≡◌, refl}
-use Prim.Native.Nat.{◌-◌, ◌≤◌, zero-le}
-use native.Mathlib.Omega.{arith}
-use Rattle.run_values.specs.Cells.{with_unset}
-use Rattle.run_values.proofs.CellLaws.{unset-more}
+-- `unset_range` meets its contract: both arrays are filled with 0 from a on.
+use Rattle.std.proofs.Common.{◌≡◌, ◌+◌, ◌-◌, length, take, drop, rules, arith}
+use Rattle.std.proofs.lemmas.List.{length-take, length-drop}
+use Rattle.run_values.proofs.CellLaws.{written-unset}
 use Rattle.run_values.proofs.store.State.unset_range.Goals as goal
-
-pub loop-i-init : goal.loop-i-init
-loop-i-init c = (zero-le, refl)
-
-pub overflow_add-self : goal.overflow_add-self
-overflow_add-self c = omega (arith, c.requires, c.loop-i-test.true)
-
-pub offset_bounds-self-a : goal.offset_bounds-self-a
-offset_bounds-self-a c = omega (arith, c.requires, c.loop-i-test.true)
-
-pub bounds-self-a : goal.bounds-self-a
-bounds-self-a c = omega (arith, c.requires, c.loop-i-test.true)
-
-pub overflow_add-self-in-loop-i : goal.overflow_add-self-in-loop-i
-overflow_add-self-in-loop-i c = omega (arith, c.requires, c.loop-i-test.true)
-
-pub bounds-self-a-in-loop-i : goal.bounds-self-a-in-loop-i
-bounds-self-a-in-loop-i c = omega (arith, c.requires, c.loop-i-test.true)
-
-pub overflow_add-i : goal.overflow_add-i
-overflow_add-i c = omega (arith, c.requires, c.loop-i-test.true)
-
-pub loop-i-smaller : goal.loop-i-smaller
-loop-i-smaller c = omega (arith, c.loop-i-test.true)
-
-pub loop-i-preserved : goal.loop-i-preserved
-loop-i-preserved c =
-    let l = c.loop-i in
-    let args = c.args in
-    (omega (arith, c.loop-i-test.true), unset-more args.a l.i args.self l.invariant.1)
 
 pub returns : goal.returns
 returns c =
-    let l = c.loop-i in
-    let e : l.i ≡ c.args.n = omega (arith, l.invariant.0, c.loop-i-test.false) in
-    rw e at l.invariant.1
+    let s = c.args.self in
+    let a = c.args.a in
+    let n = c.args.n in
+    let v : length s.values ≡ 256 = search rules in
+    let m : length s.marks ≡ 256 = search rules in
+    let p : length (take (a + n - a) (drop a s.values)) ≡ n = simp (length-take, length-drop) (omega (arith, c.requires)) in
+    let q : length (take (a + n - a) (drop a s.marks)) ≡ n = simp (length-take, length-drop) (omega (arith, c.requires)) in
+    written-unset a n (a + n - a) s c.fill.new.self c.fill-2.new.self (omega arith) (omega (arith, c.requires)) (omega (arith, c.requires)) (rw (← p) (c.fill.ensures.after (λ y h. h))) (rw (← q) (c.fill-2.ensures.after (λ y h. h)))
