@@ -1,10 +1,12 @@
 -- The lowest number by a test, as a loop finds it: every number so far fails the test, and this one passes it, or none is left.
-use mathlib.Core.Path.{◌≡◌, ◌∙◌}
+use mathlib.Core.Path.{◌≡◌, sym, ap, ◌∙◌}
 use mathlib.Core.Bool.{Bool, true, false}
 use mathlib.Core.Option.{none, some}
-use Prim.Native.Nat.{ℕ, zero, suc, ◌+◌, ◌-◌, ◌<◌}
+use Prim.Native.Nat.{ℕ, zero, suc, ◌+◌, ◌-◌, ◌≤◌, ◌<◌}
 use native.Mathlib.Omega.{arith}
+use Rattle.std.specs.Prelude.{Option, Some, None, MatchOption}
 use Rattle.meaning.specs.Basics.{lowest_from, lowest}
+use Rattle.base_rows.specs.Places.{place_of}
 
 module _ (p : ℕ → Bool) where
   -- the first numbers are passed over
@@ -30,3 +32,10 @@ module _ (p : ℕ → Bool) where
       let e : i + suc (n - suc i) ≡ n = omega arith in
       let z : 0 + i ≡ i = omega arith in
       (rw (e, z) at (skip i 0 (suc (n - suc i)) (λ j m. h j (omega arith)))) ∙ rw t
+
+  -- what a search for the first number that passes finds
+  pub lowest-found : (n : ℕ) (o : Option ℕ)
+      → MatchOption o ((k : ℕ) → 0 ≤ k → k < n → p k ≡ false) (λ i. (0 ≤ i) × (i < n) × (p i ≡ true) × ((k : ℕ) → 0 ≤ k → k < i → p k ≡ false))
+      → o ≡ place_of (lowest p n)
+  lowest-found n None h = ap place_of (sym (lowest-none n (λ j l. h j (omega arith) l)))
+  lowest-found n (Some i) h = ap place_of (sym (lowest-some n i h.1 (λ j l. h.3 j (omega arith) l) h.2))

@@ -8,5 +8,5 @@ use Rattle.base_rows.proofs.inside.Goals as goal
 pub returns-then-lo-z : goal.returns-then-lo-z
 returns-then-lo-z c = let t : le_z c.args.lo c.args.z ≡ true = sym (bits-at-most _ _ c.ranges.lo c.ranges.z) ∙ c.if-lo-z.true in simp t (bits-at-most _ _ c.ranges.z c.ranges.hi)
 
-pub returns : goal.returns
-returns c = let t : le_z c.args.lo c.args.z ≡ false = sym (bits-at-most _ _ c.ranges.lo c.ranges.z) ∙ c.if-lo-z.false in simp t
+pub returns-else-lo-z : goal.returns-else-lo-z
+returns-else-lo-z c = let t : le_z c.args.lo c.args.z ≡ false = sym (bits-at-most _ _ c.ranges.lo c.ranges.z) ∙ c.if-lo-z.false in simp t c.if-lo-z.false

@@ -8,5 +8,5 @@ use Rattle.base_rows.proofs.is_channel.Goals as goal
 pub returns-then-r-d : goal.returns-then-r-d
 returns-then-r-d c = simp (lt-ltb c.args.r (declarations c.args.rows.now) (omega arith), c.kind.ensures)
 
-pub returns : goal.returns
-returns c = simp (le-ltb c.args.r (declarations c.args.rows.now) (omega arith))
+pub returns-else-r-d : goal.returns-else-r-d
+returns-else-r-d c = simp (le-ltb c.args.r (declarations c.args.rows.now) (omega arith)) (le-ltb c.args.r c.args.d (omega arith))

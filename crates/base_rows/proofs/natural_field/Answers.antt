@@ -3,7 +3,6 @@ use mathlib.Core.Path.{ap, ◌∙◌}
 use mir.Syntax.{w32}
 use mir.ValLaws.{to_z-of_z}
 use Rattle.meaning.specs.Rows.{natural_of}
-use borrow.Author.Rules.{rules}
 use Rattle.base_rows.proofs.natural_field.Goals as goal
 
 pub returns : goal.returns
