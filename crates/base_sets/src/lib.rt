@@ -1,7 +1,7 @@
 // Bit sets in sixteen words: four words for each sort, with a bit for each of 256 cells or channel elements.
 #![tactic(auto)]
 
-ghost use Rattle.std.specs.Prelude.{◌≡◌, ◌||◌, ◌<◌, ◌≤◌, ◌+◌, length, get_or};
+ghost use Rattle.std.specs.Prelude.{◌≡◌, ◌<◌, ◌≤◌, ◌+◌, length, get_or};
 ghost use Rattle.meaning.specs.Usage.{numbers_from};
 ghost use Rattle.base_sets.specs.Sets.{with_one, with_all, in_sort, set_union, share, in_common};
 
@@ -52,5 +52,8 @@ pub fn meet<'a>(one: &'a [u64], i: usize, other: &'a [u64], j: usize) -> bool
     requires { (i + 4 ≤ length one.now) × (j + 4 ≤ length other.now) }
     ensures { result ≡ in_common one.now i other.now j }
 {
-    (0..4).any(|k| share_at(one, i + k, other, j + k))
+    share_at(one, i, other, j)
+        || share_at(one, i + 1, other, j + 1)
+        || share_at(one, i + 2, other, j + 2)
+        || share_at(one, i + 3, other, j + 3)
 }
