@@ -97,3 +97,9 @@ join-done vs ws i h = rw (drop_of_length-le vs h, take_all i vs h, append-nil)
 -- a list of one number put in
 pub one_more : (s : List ℕ) (sort n : ℕ) {x l : List ℕ} → sort < 4 → x ≡ with_one s sort n → l ≡ n ∷ [] → x ≡ with_all s (in_sort sort l)
 one_more s sort n h p e = p ∙ sym (with_none (with_one s sort n)) ∙ sym (with-next s sort n [] h) ∙ ap (λ (k : List ℕ). with_all s (in_sort sort k)) (sym e)
+
+-- four words compared one after another
+pub meets-four : (vs : List ℕ) (i : ℕ) (ws : List ℕ) (j : ℕ) {a b c d : Bool} → a ≡ share (get_or vs i 0) (get_or ws j 0) → b ≡ share (get_or vs (i + 1) 0) (get_or ws (j + 1) 0)
+    → c ≡ share (get_or vs (i + 2) 0) (get_or ws (j + 2) 0) → d ≡ share (get_or vs (i + 3) 0) (get_or ws (j + 3) 0) → (a || (b || (c || d))) ≡ in_common vs i ws j
+unfolding in_common
+meets-four vs i ws j p q r s = ap₂ (λ (a t : Bool). a || t) p (ap₂ (λ (b t : Bool). b || t) q (ap₂ (λ (c d : Bool). c || d) r s))
