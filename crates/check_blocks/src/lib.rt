@@ -82,7 +82,10 @@ fn is_second<'a>(rows: &'a [i32], blocks: &'a [Option<u16>; 1024], r: usize) -> 
     requires { FormPassed rows.now × (BlocksNoted rows.now (row_count rows.now) blocks.now × ((r < row_count rows.now) × (kind_at rows.now r ≡ 35))) }
     ensures { result ≡ some_not (λ k. eqb k r) (block_of rows.now (natural_at rows.now r 1)) }
 {
-    blocks[base_rows::natural_field(rows, r, 1) as usize] != Some(r as u16)
+    let Some(k) = blocks[base_rows::natural_field(rows, r, 1) as usize] else {
+        return false;
+    };
+    k as usize != r
 }
 
 // Whether row r, of d declarations, is at fault.
