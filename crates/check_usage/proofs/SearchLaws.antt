@@ -7,13 +7,12 @@ use native.Mathlib.Numerals.{add-one}
 use native.Mathlib.Omega.{arith}
 use lib.ListN.{length, get_or, drop, length-append, length-map, length-drop, drop_of_length-le}
 use lib.Seq.{drop-cons}
-use Rattle.std.specs.Prelude.{Ok, Err}
-use Rattle.std.specs.Result.{Result}
-use Rattle.check_usage.specs.declared.pairs.Clash.{Clash}
+use Rattle.std.specs.Prelude.{Result, Ok, Err}
+use Rattle.check_usage.specs.declared.pairs.ClashFound.{ClashFound}
 use Rattle.check_usage.specs.Search.{tests_of, searched, pairs_of}
 
 -- one list after another: what a search has made, and then the tests that follow
-abbrev pub then_searched : Result ℕ Clash → List Bool → Result ℕ Clash
+abbrev pub then_searched : Result ℕ ClashFound → List Bool → Result ℕ ClashFound
 then_searched (Ok n) m = searched n m
 then_searched (Err c) m = Err c
 
@@ -35,7 +34,7 @@ unfolding tests_of
 tests-most test [] h = omega arith
 tests-most test (p ∷ ps) h = omega (arith, length-append (map (test p) ps) (tests_of test ps), length-map ps (test p), tests-most test ps (omega arith))
 
-pub all_most : (test : ℕ → ℕ → Bool) (ps : List ℕ) (before : ℕ) {s : Result ℕ Clash} → length ps ≤ 1024 → s ≡ searched before (tests_of test ps) → pairs_of s ≤ before + 1048576
+pub all_most : (test : ℕ → ℕ → Bool) (ps : List ℕ) (before : ℕ) {s : Result ℕ ClashFound} → length ps ≤ 1024 → s ≡ searched before (tests_of test ps) → pairs_of s ≤ before + 1048576
 all_most test ps before h e = rw e (omega (arith, search-most before (tests_of test ps), tests-most test ps h))
 
 -- the tests of one member with those from place j on
@@ -65,10 +64,10 @@ module _ (test : ℕ → ℕ → Bool) (ps : List ℕ) (i before : ℕ) where
   unfolding tests_of
   next-member h = rw (add-one i, drop-cons ps i 0 h)
 
-  pub member-searched : {s : Result ℕ Clash} → i < length ps → s ≡ searched before of_one → searched before (tests_of test (drop i ps)) ≡ then_searched s (tests_of test (drop (i + 1) ps))
-  member-searched h e = next-member h ∙ search-append before of_one (tests_of test (drop (i + 1) ps)) ∙ ap (λ (s : Result ℕ Clash). then_searched s (tests_of test (drop (i + 1) ps))) (sym e)
+  pub member-searched : {s : Result ℕ ClashFound} → i < length ps → s ≡ searched before of_one → searched before (tests_of test (drop i ps)) ≡ then_searched s (tests_of test (drop (i + 1) ps))
+  member-searched h e = next-member h ∙ search-append before of_one (tests_of test (drop (i + 1) ps)) ∙ ap (λ (s : Result ℕ ClashFound). then_searched s (tests_of test (drop (i + 1) ps))) (sym e)
 
-  pub member-most : {s : Result ℕ Clash} → s ≡ searched before of_one → pairs_of s ≤ before + length ps
+  pub member-most : {s : Result ℕ ClashFound} → s ≡ searched before of_one → pairs_of s ≤ before + length ps
   member-most e = rw e (omega (arith, search-most before of_one, length-map (drop (i + 1) ps) (test (get_or ps i 0)), length-drop (i + 1) ps))
 
   pub no-member-left : length ps ≤ i → searched before (tests_of test (drop i ps)) ≡ Ok before

@@ -16,7 +16,7 @@ mod pairs; // pairs.rt: pairs compared in turn
 use base_layout::nodes::{natural, operand};
 use base_layout::note_names;
 use meaning::{Checked, Verdict};
-use pairs::Clash;
+use pairs::ClashFound;
 
 // The pairs of the PAR at row r, if it is one.
 fn in_par<'a>(
@@ -26,7 +26,7 @@ fn in_par<'a>(
     r: usize,
     members: &mut [u16],
     before: u32,
-) -> Result<u32, Clash>
+) -> Result<u32, ClashFound>
     requires { SearchFacts rows.now sets.now × (r < row_count rows.now) × (length members.old ≡ 1024) × (before + 1048576 < 4294967296) }
     ensures { (result ≡ searched before (map clashes (comparisons_in number (content_at rows.now r).process))) × (pairs_of result ≤ before + 1048576) }
 {

@@ -6,7 +6,7 @@ use base_sets::meet;
 
 // Two components clash: how many pairs have been compared, with theirs.
 #[derive(Drop)]
-pub struct Clash {
+pub struct ClashFound {
     pub pairs: u32,
 }
 
@@ -31,7 +31,7 @@ fn with_later<'a>(
     members: &'a [u16],
     i: usize,
     before: u32,
-) -> Result<u32, Clash>
+) -> Result<u32, ClashFound>
     requires { (i < length members.now) × (before + length members.now < 4294967296) × HaveSets members.now sets.now }
     ensures { result ≡ searched before (map (meet_by sets.now number (get_or members.now i 0)) (drop (i + 1) members.now)) }
 {
@@ -40,7 +40,7 @@ fn with_later<'a>(
     for j in i + 1..members.len() {
         pairs += 1;
         if clash(sets, number, p, members[j] as usize) {
-            return Err(Clash { pairs });
+            return Err(ClashFound { pairs });
         }
     }
     Ok(pairs)
@@ -52,7 +52,7 @@ pub fn among<'a>(
     number: u8,
     members: &'a [u16],
     before: u32,
-) -> Result<u32, Clash>
+) -> Result<u32, ClashFound>
     requires { (length members.now ≤ 1024) × (before + 1024 * length members.now < 4294967296) × HaveSets members.now sets.now }
     ensures { result ≡ searched before (tests_of (meet_by sets.now number) members.now) }
 {
