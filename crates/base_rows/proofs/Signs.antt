@@ -37,6 +37,13 @@ module _ (x y : ℤ) (fx : SFits w32 x) (fy : SFits w32 y) where
   pub bits-at-most : le_z (to_z w32 (of_z w32 x)) (to_z w32 (of_z w32 y)) ≡ le_z x y
   bits-at-most = rw (to_z-of_z w32 x fx, to_z-of_z w32 y fy)
 
+-- the bits of 0 and of −1
+pub no-bits : (z : ℤ) → SFits w32 z → eqb (of_z w32 z) 0 ≡ eq_z z (pos 0)
+no-bits z f = bits-equal z (pos 0) f (record { sfits = omega arith })
+
+pub minus-one : (z : ℤ) → SFits w32 z → eqb (of_z w32 z) 4294967295 ≡ eq_z z (negsuc 0)
+minus-one z f = bits-equal z (negsuc 0) f (record { sfits = omega arith })
+
 module _ (x : ℤ) (f : SFits w32 x) where
   -- the code's test for a number below 0
   pub sign : (t : Bool) → lt_z (to_z w32 (of_z w32 x)) (pos 0) ≡ t → lt_z x (pos 0) ≡ t

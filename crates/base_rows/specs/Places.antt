@@ -1,9 +1,7 @@
--- A place as the code answers it: a row at fault, or none.
-use Rattle.std.proofs.Math.Option.{Option, none, some}
-use Rattle.std.specs.Prelude.{ℕ}
-use Rattle.base_rows.specs.declared.Place.{Place}
-use Rattle.base_rows.specs.declared.Place.TheVariants.{Fault, Nowhere}
+-- A place as the code answers it: a row at fault, or none. The definitions' options are another type than Rust's.
+use Rattle.std.proofs.Math.Option as maybe
+use Rattle.std.specs.Prelude.{ℕ, Option, Some, None}
 
-abbrev pub place_of : Option ℕ → Place
-place_of none = Nowhere
-place_of (some r) = Fault r
+abbrev pub place_of : maybe.Option ℕ → Option ℕ
+place_of maybe.none = None
+place_of (maybe.some r) = Some r

@@ -2,34 +2,17 @@
 #![tactic(auto)]
 
 ghost use Rattle.std.specs.Prelude.{◌≡◌};
-ghost use Rattle.meaning.specs.Basics.{eq_z, inside};
+ghost use Rattle.meaning.specs.Basics.{inside};
 ghost use Rattle.meaning.specs.Rows.{natural_of, row_count, field_at, natural_at, kind_at};
 ghost use Rattle.meaning.specs.Declarations.{declares, declarations, is_variable, is_channel, has_role, cells_at, elements_at, host_channels_at, capacity_at};
 
 pub mod limits; // limits.rt: refusal 6
 
-// The lowest place at fault, if there is one.
-#[derive(Drop)]
-pub enum Place {
-    Fault(usize),
-    Nowhere,
-}
-
-// Whether two numbers are equal.
-pub fn same(x: i32, y: i32) -> bool
-    ensures { result ≡ eq_z x y }
-{
-    x == y
-}
-
 // Whether a number is from lo to hi.
 pub fn inside(lo: i32, hi: i32, z: i32) -> bool
     ensures { result ≡ inside lo hi z }
 {
-    if lo <= z {
-        return z <= hi;
-    }
-    false
+    lo <= z && z <= hi
 }
 
 // A field as a row number; a negative one is past every row.
@@ -50,15 +33,10 @@ pub fn row_count(rows: &[i32]) -> usize
 pub fn field(rows: &[i32], r: usize, j: usize) -> i32
     ensures { result ≡ field_at rows.now r j }
 {
-    if r < rows.len() / 4 {
-        if j < 4 {
-            return rows[4 * r + j];
-        }
+    if r < rows.len() / 4 && j < 4 {
+        return rows[4 * r + j];
     }
-    if rows.len() <= r {
-        return 0;
-    }
-    if rows.len() <= j {
+    if rows.len() <= r || rows.len() <= j {
         return 0;
     }
     let at = 4 * r + j;
@@ -84,10 +62,7 @@ pub fn declares(rows: &[i32], r: usize) -> bool
     ensures { result ≡ declares rows.now r }
 {
     let k = kind(rows, r);
-    if k == 1 {
-        return true;
-    }
-    k == 2
+    k == 1 || k == 2
 }
 
 // How many declarations there are: the first row that is none.
@@ -95,14 +70,7 @@ pub fn declarations(rows: &[i32]) -> usize
     ensures { result ≡ declarations rows.now }
 {
     let n = row_count(rows);
-    let mut r: usize = 0;
-    while r < n {
-        if !declares(rows, r) {
-            return r;
-        }
-        r += 1;
-    }
-    r
+    (0..n).find(|&r| !declares(rows, r)).unwrap_or(n)
 }
 
 // Whether row r, of d declarations, is a variable.
@@ -110,10 +78,7 @@ fn is_variable(rows: &[i32], d: usize, r: usize) -> bool
     requires { d ≡ declarations rows.now }
     ensures { result ≡ is_variable rows.now r }
 {
-    if r < d {
-        return kind(rows, r) == 1;
-    }
-    false
+    r < d && kind(rows, r) == 1
 }
 
 // Whether row r, of d declarations, is a channel.
@@ -121,10 +86,7 @@ pub fn is_channel(rows: &[i32], d: usize, r: usize) -> bool
     requires { d ≡ declarations rows.now }
     ensures { result ≡ is_channel rows.now r }
 {
-    if r < d {
-        return kind(rows, r) == 2;
-    }
-    false
+    r < d && kind(rows, r) == 2
 }
 
 // Whether row r, of d declarations, is a channel of a role: 0 inner, 1 from the host, 2 to the host.
@@ -132,10 +94,7 @@ pub fn has_role(role: u32, rows: &[i32], d: usize, r: usize) -> bool
     requires { d ≡ declarations rows.now }
     ensures { result ≡ has_role role rows.now r }
 {
-    if is_channel(rows, d, r) {
-        return natural_field(rows, r, 2) == role;
-    }
-    false
+    is_channel(rows, d, r) && natural_field(rows, r, 2) == role
 }
 
 // The cells, the elements, the channels of a role and the capacity that row r, of d declarations, declares.
@@ -144,9 +103,10 @@ pub fn cells_at(rows: &[i32], d: usize, r: usize) -> u32
     ensures { result ≡ cells_at rows.now r }
 {
     if is_variable(rows, d, r) {
-        return natural_field(rows, r, 1);
+        natural_field(rows, r, 1)
+    } else {
+        0
     }
-    0
 }
 
 pub fn elements_at(rows: &[i32], d: usize, r: usize) -> u32
@@ -154,9 +114,10 @@ pub fn elements_at(rows: &[i32], d: usize, r: usize) -> u32
     ensures { result ≡ elements_at rows.now r }
 {
     if is_channel(rows, d, r) {
-        return natural_field(rows, r, 1);
+        natural_field(rows, r, 1)
+    } else {
+        0
     }
-    0
 }
 
 pub fn host_channels_at(role: u32, rows: &[i32], d: usize, r: usize) -> u32
@@ -164,9 +125,10 @@ pub fn host_channels_at(role: u32, rows: &[i32], d: usize, r: usize) -> u32
     ensures { result ≡ host_channels_at role rows.now r }
 {
     if has_role(role, rows, d, r) {
-        return 1;
+        1
+    } else {
+        0
     }
-    0
 }
 
 pub fn capacity_at(rows: &[i32], d: usize, r: usize) -> u32
@@ -174,7 +136,8 @@ pub fn capacity_at(rows: &[i32], d: usize, r: usize) -> u32
     ensures { result ≡ capacity_at rows.now r }
 {
     if has_role(2, rows, d, r) {
-        return natural_field(rows, r, 3);
+        natural_field(rows, r, 3)
+    } else {
+        0
     }
-    0
 }

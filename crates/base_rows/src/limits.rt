@@ -6,8 +6,6 @@ ghost use Rattle.meaning.specs.Verdict.{over_limit};
 ghost use Rattle.base_rows.specs.Sums.{limit_sums, sums_over};
 ghost use Rattle.base_rows.specs.Places.{place_of};
 
-use crate::Place;
-
 // What some declarations declare together.
 #[derive(Clone, Copy)]
 struct Sums {
@@ -22,19 +20,7 @@ struct Sums {
 fn over(s: Sums) -> bool
     ensures { result ≡ sums_over s }
 {
-    if 256 < s.cells {
-        return true;
-    }
-    if 256 < s.elements {
-        return true;
-    }
-    if 8 < s.sources {
-        return true;
-    }
-    if 8 < s.sinks {
-        return true;
-    }
-    1024 < s.capacity
+    256 < s.cells || 256 < s.elements || 8 < s.sources || 8 < s.sinks || 1024 < s.capacity
 }
 
 // The sums with row r, of d declarations.
@@ -52,7 +38,7 @@ fn with_row(s: Sums, rows: &[i32], d: usize, r: usize) -> Sums
 }
 
 // The first declaration that passes a limit.
-pub fn limit_fault(rows: &[i32]) -> Place
+pub fn limit_fault(rows: &[i32]) -> Option<usize>
     ensures { result ≡ place_of (lowest (over_limit rows.now) (declarations rows.now)) }
 {
     let d = crate::declarations(rows);
@@ -63,13 +49,11 @@ pub fn limit_fault(rows: &[i32]) -> Place
         sinks: 0,
         capacity: 0,
     };
-    let mut r: usize = 0;
-    while r < d {
+    for r in 0..d {
         s = with_row(s, rows, d, r);
         if over(s) {
-            return Place::Fault(r);
+            return Some(r);
         }
-        r += 1;
     }
-    Place::Nowhere
+    None
 }

@@ -94,13 +94,6 @@ pub join-done : (vs ws : List ℕ) (i : ℕ) → length vs ≤ i → take i vs +
 unfolding set_union
 join-done vs ws i h = rw (drop_of_length-le vs h, take_all i vs h, append-nil)
 
--- words copied one by one: those before i are done
-pub copy_step : (vs ws : List ℕ) (i : ℕ) → i < length vs → i < length ws → take i vs ≡ take i ws → take (i + 1) (set vs i (get_or ws i 0)) ≡ take (i + 1) ws
-copy_step vs ws i h g e = rw (add-one i, take-suc-set vs i (get_or ws i 0) h, e) (sym (take-suc ws i 0 g))
-
-pub copy_done : (vs ws : List ℕ) (i : ℕ) → length vs ≤ i → length vs ≡ length ws → take i vs ≡ take i ws → vs ≡ ws
-copy_done vs ws i h l e = sym (take_all i vs h) ∙ e ∙ take_all i ws (omega arith)
-
 -- a list of one number put in
 pub one_more : (s : List ℕ) (sort n : ℕ) {x l : List ℕ} → sort < 4 → x ≡ with_one s sort n → l ≡ n ∷ [] → x ≡ with_all s (in_sort sort l)
 one_more s sort n h p e = p ∙ sym (with_none (with_one s sort n)) ∙ sym (with-next s sort n [] h) ∙ ap (λ (k : List ℕ). with_all s (in_sort sort k)) (sym e)

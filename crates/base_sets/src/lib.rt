@@ -1,7 +1,7 @@
 // Bit sets in sixteen words: four words for each sort, with a bit for each of 256 cells or channel elements.
 #![tactic(auto)]
 
-ghost use Rattle.std.specs.Prelude.{◌≡◌, ◌||◌, ◌<◌, ◌≤◌, ◌+◌, length, get_or};
+ghost use Rattle.std.specs.Prelude.{◌≡◌, ◌<◌, ◌≤◌, ◌+◌, length, get_or};
 ghost use Rattle.meaning.specs.Usage.{numbers_from};
 ghost use Rattle.base_sets.specs.Sets.{with_one, with_all, in_sort, set_union, share, in_common};
 
@@ -15,7 +15,7 @@ pub fn put(sets: &mut [u64], sort: usize, x: usize)
     }
     let w = 4 * sort + x / 64;
     if w < sets.len() {
-        sets[w] = sets[w] | (1 << (x % 64));
+        sets[w] |= 1 << (x % 64);
     }
 }
 
@@ -24,10 +24,8 @@ pub fn put_range(sets: &mut [u64], sort: usize, first: u32, n: u32)
     requires { sort < 4 }
     ensures { sets.new ≡ with_all sets.old (in_sort sort (numbers_from first n)) }
 {
-    let mut k: u32 = 0;
-    while k < n {
+    for k in 0..n {
         put(sets, sort, (first as usize) + (k as usize));
-        k += 1;
     }
 }
 
@@ -36,29 +34,9 @@ pub fn join(sets: &mut [u64], more: &[u64])
     requires { length sets.old ≡ length more.now }
     ensures { sets.new ≡ set_union sets.old more.now }
 {
-    let mut i = 0;
-    while i < sets.len() {
-        sets[i] = sets[i] | more[i];
-        i += 1;
+    for i in 0..sets.len() {
+        sets[i] |= more[i];
     }
-}
-
-// `to` becomes what `from` is.
-pub fn copy(to: &mut [u64], from: &[u64])
-    requires { length to.old ≡ length from.now }
-    ensures { to.new ≡ from.now }
-{
-    let mut i = 0;
-    while i < to.len() {
-        to[i] = from[i];
-        i += 1;
-    }
-}
-
-pub fn either(a: bool, b: bool) -> bool
-    ensures { result ≡ (a || b) }
-{
-    if a { true } else { b }
 }
 
 // Whether word i of one and word j of another have a bit in common.
@@ -74,9 +52,8 @@ pub fn meet<'a>(one: &'a [u64], i: usize, other: &'a [u64], j: usize) -> bool
     requires { (i + 4 ≤ length one.now) × (j + 4 ≤ length other.now) }
     ensures { result ≡ in_common one.now i other.now j }
 {
-    let a = share_at(one, i, other, j);
-    let b = share_at(one, i + 1, other, j + 1);
-    let c = share_at(one, i + 2, other, j + 2);
-    let d = share_at(one, i + 3, other, j + 3);
-    either(a, either(b, either(c, d)))
+    share_at(one, i, other, j)
+        || share_at(one, i + 1, other, j + 1)
+        || share_at(one, i + 2, other, j + 2)
+        || share_at(one, i + 3, other, j + 3)
 }

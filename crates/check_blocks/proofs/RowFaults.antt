@@ -16,7 +16,7 @@ use Rattle.meaning.specs.Answers.{verdict_of}
 use Rattle.meaning.specs.declared.Verdict.TheVariants.{Accepted, Rejected}
 use Rattle.meaning.proofs.Decides.{decides_eq, lowest-decided}
 use Rattle.base_kinds.proofs.Truth.{and-false}
-use Rattle.base_rows.proofs.LowestFound.{lowest-none, lowest-some}
+use Rattle.base_rows.proofs.LowestFound.{lowest-none, lowest-some, none-passes}
 use Rattle.check_blocks.specs.Blocks.{has_block, NamesVariable, is_block_of}
 
 module _ (rows : List ℤ) (d r : ℕ) where
@@ -46,21 +46,9 @@ module _ (rows : List ℤ) where
 
 -- a table without blocks
 module _ (rows : List ℤ) where
-  pub block-found : (r : ℕ) → r < row_count rows → ((j : ℕ) → j < r → is_block rows j ≡ false) → is_block rows r ≡ true → true ≡ has_block rows
-  unfolding has_block
-  block-found r l f e = rw (lowest-some (is_block rows) (row_count rows) r l f e)
-
-  pub none_found : ((j : ℕ) → j < row_count rows → is_block rows j ≡ false) → false ≡ has_block rows
-  unfolding has_block
-  none_found f = rw (lowest-none (is_block rows) (row_count rows) f)
-
   no_blocks : has_block rows ≡ false → (r : ℕ) → r < row_count rows → is_block rows r ≡ false
   unfolding has_block
-  no_blocks e r l = go (lowest (is_block rows) (row_count rows)) e (lowest-decided (λ k. kind_at rows k ≡ 35) (is_block rows) (λ k. decides_eq (kind_at rows k) 35) (row_count rows))
-    where
-      go : (o : Option ℕ) → is_some o ≡ false → Lowest (λ k. kind_at rows k ≡ 35) (row_count rows) o → is_block rows r ≡ false
-      go none e w = ne_eqb (kind_at rows r) 35 (w r l)
-      go (some k) e w = absurd (false≢true (sym e))
+  no_blocks = none-passes (is_block rows) (row_count rows)
 
   pub no-block-fault : has_block rows ≡ false → block_fault rows ≡ none
   unfolding block_fault block_of

@@ -12,47 +12,35 @@ ghost use Rattle.check_blocks.specs.Blocks.{has_block, FromRoot, NamesVariable, 
 
 use meaning::Verdict;
 
-// In the list of lowest blocks: a name has no block.
-const NONE: u16 = 1024;
-
 // Whether there is a block.
 fn has_block(rows: &[i32]) -> bool
     ensures { result ≡ has_block rows.now }
 {
     let n = base_rows::row_count(rows);
-    let mut r: usize = 0;
-    while r < n {
-        if base_rows::kind(rows, r) == 35 {
-            return true;
-        }
-        r += 1;
-    }
-    false
+    (0..n).any(|r| base_rows::kind(rows, r) == 35)
 }
 
 // Notes row r if it is a block and no lower row is noted for its name.
-fn note_row(rows: &[i32], r: usize, blocks: &mut [u16; 1024])
+fn note_row(rows: &[i32], r: usize, blocks: &mut [Option<u16>; 1024])
     requires { FormPassed rows.now × (r < row_count rows.now) }
     ensures { blocks.new ≡ with_row rows.now r blocks.old }
 {
     if base_rows::kind(rows, r) == 35 {
         let v = base_rows::natural_field(rows, r, 1) as usize;
-        if blocks[v] == NONE {
-            blocks[v] = r as u16;
+        if blocks[v].is_none() {
+            blocks[v] = Some(r as u16);
         }
     }
 }
 
 // Notes the lowest block of each name.
-fn note_blocks(rows: &[i32], blocks: &mut [u16; 1024])
+fn note_blocks(rows: &[i32], blocks: &mut [Option<u16>; 1024])
     requires { FormPassed rows.now × BlocksNoted rows.now 0 blocks.old }
     ensures { BlocksNoted rows.now (row_count rows.now) blocks.new }
 {
     let n = base_rows::row_count(rows);
-    let mut r: usize = 0;
-    while r < n {
+    for r in 0..n {
         note_row(rows, r, blocks);
-        r += 1;
     }
 }
 
@@ -69,16 +57,13 @@ fn beneath<'a>(
 {
     let first = numbers[k];
     let number = numbers[r];
-    if first < number {
-        return number - first < sizes[k];
-    }
-    false
+    first < number && number - first < sizes[k]
 }
 
 // Whether row r, which names a variable, is outside the lowest block of the name.
 fn outside<'a>(
     rows: &'a [i32],
-    blocks: &'a [u16; 1024],
+    blocks: &'a [Option<u16>; 1024],
     numbers: &'a [u32; 1024],
     sizes: &'a [u32; 1024],
     r: usize,
@@ -86,26 +71,28 @@ fn outside<'a>(
     requires { BlockFacts rows.now blocks.now numbers.now sizes.now × ((r < row_count rows.now) × NamesVariable rows.now r) }
     ensures { result ≡ some_not (λ k. among r (rows_under rows.now k)) (block_of rows.now (natural_at rows.now r 1)) }
 {
-    let k = blocks[base_rows::natural_field(rows, r, 1) as usize];
-    if k == NONE {
+    let Some(k) = blocks[base_rows::natural_field(rows, r, 1) as usize] else {
         return false;
-    }
+    };
     !beneath(rows, numbers, sizes, k as usize, r)
 }
 
 // Whether row r, a block, is not the lowest of its name.
-fn is_second<'a>(rows: &'a [i32], blocks: &'a [u16; 1024], r: usize) -> bool
+fn is_second<'a>(rows: &'a [i32], blocks: &'a [Option<u16>; 1024], r: usize) -> bool
     requires { FormPassed rows.now × (BlocksNoted rows.now (row_count rows.now) blocks.now × ((r < row_count rows.now) × (kind_at rows.now r ≡ 35))) }
     ensures { result ≡ some_not (λ k. eqb k r) (block_of rows.now (natural_at rows.now r 1)) }
 {
-    blocks[base_rows::natural_field(rows, r, 1) as usize] as usize != r
+    let Some(k) = blocks[base_rows::natural_field(rows, r, 1) as usize] else {
+        return false;
+    };
+    k as usize != r
 }
 
 // Whether row r, of d declarations, is at fault.
 fn block_fault_at<'a>(
     rows: &'a [i32],
     d: usize,
-    blocks: &'a [u16; 1024],
+    blocks: &'a [Option<u16>; 1024],
     numbers: &'a [u32; 1024],
     sizes: &'a [u32; 1024],
     r: usize,
@@ -114,14 +101,8 @@ fn block_fault_at<'a>(
     ensures { result ≡ block_fault_at rows.now d r }
 {
     match base_rows::kind(rows, r) {
-        11 => outside(rows, blocks, numbers, sizes, r),
-        22 => outside(rows, blocks, numbers, sizes, r),
-        35 => {
-            if r == d {
-                return true;
-            }
-            is_second(rows, blocks, r)
-        }
+        11 | 22 => outside(rows, blocks, numbers, sizes, r),
+        35 => r == d || is_second(rows, blocks, r),
         _ => false,
     }
 }
@@ -129,7 +110,7 @@ fn block_fault_at<'a>(
 // The lowest row that is.
 fn first_block_fault<'a>(
     rows: &'a [i32],
-    blocks: &'a [u16; 1024],
+    blocks: &'a [Option<u16>; 1024],
     numbers: &'a [u32; 1024],
     sizes: &'a [u32; 1024],
 ) -> Verdict
@@ -138,12 +119,10 @@ fn first_block_fault<'a>(
 {
     let d = base_rows::declarations(rows);
     let n = base_rows::row_count(rows);
-    let mut r: usize = 0;
-    while r < n {
+    for r in 0..n {
         if block_fault_at(rows, d, blocks, numbers, sizes, r) {
             return Verdict::Rejected(14, r as u32);
         }
-        r += 1;
     }
     Verdict::Accepted
 }
@@ -157,7 +136,7 @@ fn fault_of_blocks(rows: &[i32]) -> Verdict
     base_numbering::measure(rows, &mut sizes);
     let mut numbers = [0u32; 1024];
     base_numbering::number(rows, &sizes, &mut numbers);
-    let mut blocks = [NONE; 1024];
+    let mut blocks = [None; 1024];
     note_blocks(rows, &mut blocks);
     first_block_fault(rows, &blocks, &numbers, &sizes)
 }
@@ -168,7 +147,8 @@ pub fn block_fault(rows: &[i32]) -> Verdict
     ensures { result ≡ verdict_of (block_fault rows.now) }
 {
     if has_block(rows) {
-        return fault_of_blocks(rows);
+        fault_of_blocks(rows)
+    } else {
+        Verdict::Accepted
     }
-    Verdict::Accepted
 }

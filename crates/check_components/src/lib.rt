@@ -12,7 +12,7 @@ ghost use Rattle.check_components.specs.RowSets.{stored_at, ParsHave, SetsFrom, 
 
 use base_layout::nodes::{natural, operand};
 use base_layout::{Name, sink_at, source_at, variable_at};
-use base_sets::{copy, join};
+use base_sets::join;
 use check_subscripts::count;
 
 // The sorts: cells changed and used, channel elements input from and output to.
@@ -72,10 +72,8 @@ fn target_at<'a>(rows: &'a [i32], names: &'a [Name], c: usize, sets: &mut [u64])
     requires { WalkFacts rows.now names.now }
     ensures { sets.new ≡ with_all sets.old (mark_target (content_at rows.now c).target) }
 {
-    if c < rows.len() / 4 {
-        if natural(rows, c, 0) == 11 {
-            target(rows, names, c, sets);
-        }
+    if c < rows.len() / 4 && natural(rows, c, 0) == 11 {
+        target(rows, names, c, sets);
     }
 }
 
@@ -108,10 +106,7 @@ fn choices<'a>(rows: &'a [i32], names: &'a [Name], m: usize, sets: &mut [u64])
     requires { WalkFacts rows.now names.now }
     ensures { sets.new ≡ with_all sets.old (mark_choices (content_at rows.now m).tests) }
 {
-    if rows.len() / 4 <= m {
-        return;
-    }
-    if natural(rows, m, 0) == 41 {
+    if m < rows.len() / 4 && natural(rows, m, 0) == 41 {
         expression(rows, names, operand(rows, m, 3), sets);
         choices(rows, names, operand(rows, m, 2), sets);
     }
@@ -141,10 +136,8 @@ fn guard_boolean<'a>(rows: &'a [i32], names: &'a [Name], g: usize, sets: &mut [u
     requires { WalkFacts rows.now names.now }
     ensures { sets.new ≡ with_all sets.old (mark_expr (content_at rows.now g).guard.boolean) }
 {
-    if g < rows.len() / 4 {
-        if natural(rows, g, 0) == 43 {
-            expression(rows, names, operand(rows, g, 1), sets);
-        }
+    if g < rows.len() / 4 && natural(rows, g, 0) == 43 {
+        expression(rows, names, operand(rows, g, 1), sets);
     }
 }
 
@@ -153,10 +146,7 @@ fn options<'a>(rows: &'a [i32], names: &'a [Name], m: usize, sets: &mut [u64])
     requires { WalkFacts rows.now names.now }
     ensures { sets.new ≡ with_all sets.old (mark_options (content_at rows.now m).options) }
 {
-    if rows.len() / 4 <= m {
-        return;
-    }
-    if natural(rows, m, 0) == 42 {
+    if m < rows.len() / 4 && natural(rows, m, 0) == 42 {
         let g = operand(rows, m, 3);
         guard_boolean(rows, names, g, sets);
         guard_input(rows, names, g, sets);
@@ -209,14 +199,7 @@ fn action<'a>(rows: &'a [i32], names: &'a [Name], r: usize, sets: &mut [u64])
 pub fn is_link(rows: &[i32], m: usize) -> bool
     ensures { result ≡ is_link rows.now m }
 {
-    if rows.len() / 4 <= m {
-        return false;
-    }
-    let k = natural(rows, m, 0);
-    if k < 40 {
-        return false;
-    }
-    k <= 42
+    m < rows.len() / 4 && (40..=42).contains(&natural(rows, m, 0))
 }
 
 // The sets of row r are put into `own`.
@@ -236,7 +219,7 @@ fn store<'a>(own: &'a [u64], r: usize, sets: &mut [u64])
 {
     let at = 16 * r;
     let end = at + 16;
-    copy(&mut sets[at..end], own);
+    sets[at..end].copy_from_slice(own);
 }
 
 // The walk over a process, if one stands at row r: its own action, and then its members. The sets of a PAR are there already.
@@ -313,9 +296,7 @@ pub fn gather_all<'a>(rows: &'a [i32], names: &'a [Name], sets: &mut [u64])
     requires { WalkFacts rows.now names.now × (length sets.old ≡ 16 * row_count rows.now) }
     ensures { SetsFrom rows.now sets.new 0 }
 {
-    let mut r = rows.len() / 4;
-    while 0 < r {
-        r -= 1;
+    for r in (0..rows.len() / 4).rev() {
         if natural(rows, r, 0) == 31 {
             gather_par(rows, names, r, sets);
         }

@@ -18,20 +18,13 @@ use Rattle.meaning.specs.Verdict.{form_fault_at, form_fault, targets_below, tree
 use Rattle.meaning.specs.declared.Verdict.{Verdict}
 use Rattle.meaning.specs.Declarations.{declarations}
 use Rattle.meaning.proofs.LowestLaws.{lowest-is}
-use Rattle.base_rows.specs.declared.Place.TheVariants.{Fault, Nowhere}
+use Rattle.std.specs.Prelude.{Some, None}
 use Rattle.base_rows.specs.Places.{place_of}
+use Rattle.base_rows.proofs.LowestFound.{place-some}
 use Rattle.base_kinds.proofs.Truth.{and-false}
 
 -- what a place says of the lowest number
-pub place-some : (o : Option ℕ) (r : ℕ) → Fault r ≡ place_of o → o ≡ some r
-place-some none r e = absurd (let z : ◌≡◌ {A = ℕ} 0 1 = cc in omega arith)
-place-some (some i) r e = ap some (cc)
-
-pub place_none : (o : Option ℕ) → Nowhere ≡ place_of o → o ≡ none
-place_none none e = refl
-place_none (some i) e = absurd (let z : ◌≡◌ {A = ℕ} 0 1 = cc in omega arith)
-
-pub place-below : (p : ℕ → Bool) (n r : ℕ) → Fault r ≡ place_of (lowest p n) → r < n
+pub place-below : (p : ℕ → Bool) (n r : ℕ) → Some r ≡ place_of (lowest p n) → r < n
 place-below p n r e = (subst (Lowest (λ i. T (p i)) n) (place-some (lowest p n) r e) (lowest-is p n)).0
 
 module _ (rows : List ℤ) where

@@ -1,5 +1,6 @@
 // Refusal 4: what each field of a row may hold, by the shape of its kind.
-ghost use Rattle.std.specs.Prelude.{◌≡◌, not, ◌&&◌, ◌||◌, ℕ, pos, eqb};
+ghost use Rattle.std.specs.Prelude.{◌≡◌, Bool, false, not, ◌&&◌, ◌||◌, ℕ, pos, eqb};
+ghost use Rattle.std.specs.Option.{option_map_or};
 ghost use Rattle.meaning.specs.Basics.{eq_z, inside, any_passes, lowest};
 ghost use Rattle.meaning.specs.Rows.{row_count, kind_at};
 ghost use Rattle.meaning.specs.Declarations.{declarations, has_role};
@@ -8,33 +9,33 @@ ghost use Rattle.base_kinds.specs.Table.{numbers_in, field_meant, meant_shape, K
 ghost use Rattle.base_rows.specs.Places.{place_of};
 
 use base_kinds::Shape;
-use base_rows::Place;
 
 // Whether a number is from lo to hi, and `only` unless the role is `free`.
 fn by_role(lo: i32, hi: i32, role: i32, free: i32, only: i32, z: i32) -> bool
     ensures { result ≡ (inside lo hi z && (eq_z role free || eq_z z only)) }
 {
-    if base_rows::inside(lo, hi, z) {
-        if base_rows::same(role, free) {
-            return true;
-        }
-        return base_rows::same(z, only);
+    base_rows::inside(lo, hi, z) && (role == free || z == only)
+}
+
+// The row of the first n that a number names, if it names one.
+fn named(n: usize, z: i32) -> Option<usize>
+    ensures { (test : ℕ → Bool) → option_map_or test result false ≡ names n test z }
+{
+    if z < 0 {
+        return None;
     }
-    false
+    let q = base_rows::natural(z) as usize;
+    if q < n { Some(q) } else { None }
 }
 
 // Whether a number names one of d declarations, a variable.
 fn names_variable(rows: &[i32], d: usize, z: i32) -> bool
     ensures { result ≡ names d (λ q. eqb (kind_at rows.now q) 1) z }
 {
-    if z < 0 {
+    let Some(q) = named(d, z) else {
         return false;
-    }
-    let q = base_rows::natural(z) as usize;
-    if q < d {
-        return base_rows::kind(rows, q) == 1;
-    }
-    false
+    };
+    base_rows::kind(rows, q) == 1
 }
 
 // Whether a number names one of d declarations, a channel of one of these roles.
@@ -42,41 +43,28 @@ fn names_channel(rows: &[i32], d: usize, roles: u64, z: i32) -> bool
     requires { d ≡ declarations rows.now }
     ensures { result ≡ names d (λ q. any_passes (λ role. has_role role rows.now q) (numbers_in roles)) z }
 {
-    if z < 0 {
+    let Some(q) = named(d, z) else {
         return false;
-    }
-    let q = base_rows::natural(z) as usize;
-    if base_rows::is_channel(rows, d, q) {
-        return base_kinds::in_mask(roles, base_rows::natural_field(rows, q, 2));
-    }
-    false
+    };
+    base_rows::is_channel(rows, d, q)
+        && base_kinds::in_mask(roles, base_rows::natural_field(rows, q, 2))
 }
 
 // Whether a number names a row of another kind than an element.
 fn names_other(rows: &[i32], z: i32) -> bool
     ensures { result ≡ names (row_count rows.now) (λ q. not (eqb (kind_at rows.now q) 11)) z }
 {
-    if z < 0 {
+    let Some(q) = named(base_rows::row_count(rows), z) else {
         return false;
-    }
-    let q = base_rows::natural(z) as usize;
-    if q < base_rows::row_count(rows) {
-        return base_rows::kind(rows, q) != 11;
-    }
-    false
+    };
+    base_rows::kind(rows, q) != 11
 }
 
 // Whether a number is a monadic operator, beside its operand: 0 to 2; not 2 where the operand is a row of another kind than an element.
 fn is_operator(rows: &[i32], operand: i32, z: i32) -> bool
     ensures { result ≡ (inside (pos 0) (pos 2) z && not (eq_z z (pos 2) && names (row_count rows.now) (λ q. not (eqb (kind_at rows.now q) 11)) operand)) }
 {
-    if base_rows::inside(0, 2, z) {
-        if base_rows::same(z, 2) {
-            return !names_other(rows, operand);
-        }
-        return true;
-    }
-    false
+    base_rows::inside(0, 2, z) && !(z == 2 && names_other(rows, operand))
 }
 
 // Whether a field of row r, of d declarations, may hold a number: by its entry in the table of kinds.
@@ -95,7 +83,7 @@ fn holds(rows: &[i32], d: usize, r: usize, entry: u64, z: i32) -> bool
         base_kinds::REFERENCE => true,
         base_kinds::LINK => true,
         base_kinds::OPERATOR => is_operator(rows, base_rows::field(rows, r, 2), z),
-        _ => base_rows::same(z, 0),
+        _ => z == 0,
     }
 }
 
@@ -107,12 +95,9 @@ fn fits(rows: &[i32], d: usize, r: usize, s: Shape) -> bool
     if s.a == base_kinds::NO_KIND {
         return false;
     }
-    if holds(rows, d, r, s.a, base_rows::field(rows, r, 1)) {
-        if holds(rows, d, r, s.b, base_rows::field(rows, r, 2)) {
-            return holds(rows, d, r, s.c, base_rows::field(rows, r, 3));
-        }
-    }
-    false
+    holds(rows, d, r, s.a, base_rows::field(rows, r, 1))
+        && holds(rows, d, r, s.b, base_rows::field(rows, r, 2))
+        && holds(rows, d, r, s.c, base_rows::field(rows, r, 3))
 }
 
 // Whether row r is of an unknown kind, a late declaration, or not as its kind says.
@@ -120,31 +105,23 @@ fn form_fault_at(table: &[[u64; 3]], rows: &[i32], d: usize, r: usize) -> bool
     requires { KindTable table.now × (d ≡ declarations rows.now) }
     ensures { result ≡ form_fault_at rows.now d r }
 {
-    if base_rows::declares(rows, r) {
-        if d <= r {
-            return true;
-        }
+    if base_rows::declares(rows, r) && d <= r {
+        return true;
     }
-    !fits(
-        rows,
-        d,
-        r,
-        base_kinds::shape_of(table, base_rows::kind(rows, r)),
-    )
+    let shape = base_kinds::shape_of(table, base_rows::kind(rows, r));
+    !fits(rows, d, r, shape)
 }
 
 // The lowest row that is.
-pub fn first_form_fault_at(table: &[[u64; 3]], rows: &[i32], d: usize) -> Place
+pub fn first_form_fault_at(table: &[[u64; 3]], rows: &[i32], d: usize) -> Option<usize>
     requires { KindTable table.now × (d ≡ declarations rows.now) }
     ensures { result ≡ place_of (lowest (form_fault_at rows.now d) (row_count rows.now)) }
 {
     let n = base_rows::row_count(rows);
-    let mut r: usize = 0;
-    while r < n {
+    for r in 0..n {
         if form_fault_at(table, rows, d, r) {
-            return Place::Fault(r);
+            return Some(r);
         }
-        r += 1;
     }
-    Place::Nowhere
+    None
 }

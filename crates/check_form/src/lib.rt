@@ -13,11 +13,10 @@ ghost use Rattle.base_rows.specs.Places.{place_of};
 
 mod fields; // fields.rt: refusal 4
 
-use base_rows::Place;
 use meaning::Verdict;
 
 // Refusal 4: the lowest row of unknown kind, declared late, or not as its kind says.
-fn form_fault(rows: &[i32]) -> Place
+fn form_fault(rows: &[i32]) -> Option<usize>
     ensures { result ≡ place_of (lowest (form_fault_at rows.now (declarations rows.now)) (row_count rows.now)) }
 {
     let table = base_kinds::kind_table();
@@ -35,21 +34,14 @@ pub fn check_form(rows: &[i32]) -> Verdict
     if rows.len() % 4 != 0 {
         return Verdict::Rejected(3, n as u32);
     }
-    let form = form_fault(rows);
-    match form {
-        Place::Fault(r) => Verdict::Rejected(4, r as u32),
-        Place::Nowhere => {
-            let tree = check_tree::tree_fault(rows);
-            match tree {
-                Place::Fault(r) => Verdict::Rejected(5, r as u32),
-                Place::Nowhere => {
-                    let limit = base_rows::limits::limit_fault(rows);
-                    match limit {
-                        Place::Fault(r) => Verdict::Rejected(6, r as u32),
-                        Place::Nowhere => Verdict::Accepted,
-                    }
-                }
-            }
-        }
+    if let Some(r) = form_fault(rows) {
+        return Verdict::Rejected(4, r as u32);
     }
+    if let Some(r) = check_tree::tree_fault(rows) {
+        return Verdict::Rejected(5, r as u32);
+    }
+    if let Some(r) = base_rows::limits::limit_fault(rows) {
+        return Verdict::Rejected(6, r as u32);
+    }
+    Verdict::Accepted
 }

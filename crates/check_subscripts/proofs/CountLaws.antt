@@ -13,22 +13,21 @@ use Rattle.meaning.specs.Basics.{if_else}
 use Rattle.meaning.specs.Tree.{Expr}
 use Rattle.meaning.specs.Usage.{numbers_from, only_if, constant, counts_by_value, counts_for}
 use Rattle.meaning.specs.Values.{in_array, value}
-use Rattle.check_subscripts.specs.declared.Constant.{Constant}
-use Rattle.check_subscripts.specs.declared.Constant.TheVariants.{Of, Varies}
+use Rattle.std.specs.Prelude.{Option, Some, None}
 use Rattle.check_subscripts.specs.Constants.{constant_of}
 use Rattle.check_subscripts.specs.Counts.{without_place}
 
 module _ (first n : ℕ) where
   -- what a constant counts for, or what varies
-  abbrev pub counts_as : Constant → List ℕ
-  counts_as (Of v) = counts_by_value first n v
-  counts_as Varies = numbers_from first n
+  abbrev pub counts_as : Option Value → List ℕ
+  counts_as (Some v) = counts_by_value first n v
+  counts_as None = numbers_from first n
 
-  pub counts-as : (e : Expr) {c k : Constant} → c ≡ constant_of e → c ≡ k → counts_for first n e ≡ counts_as k
+  pub counts-as : (e : Expr) {c k : Option Value} → c ≡ constant_of e → c ≡ k → counts_for first n e ≡ counts_as k
   unfolding counts_for constant_of
   counts-as e p q = go (constant e) ∙ ap counts_as (sym p ∙ q)
     where
-      go : (t : Bool) → if_else t (counts_by_value first n (value [] e)) (numbers_from first n) ≡ counts_as (if_else t (Of (value [] e)) Varies)
+      go : (t : Bool) → if_else t (counts_by_value first n (value [] e)) (numbers_from first n) ≡ counts_as (if_else t (Some (value [] e)) None)
       go true = refl
       go false = refl
 

@@ -12,50 +12,35 @@ use base_layout::nodes::{field, natural, operand};
 use base_sets::{put, put_range};
 use meaning::{Index, Value};
 
-// An expression as a constant: its value or the reason that it has none; or it is not made only of literals and operators.
-#[derive(Drop)]
-enum Constant {
-    Of(Value),
-    Varies,
-}
-
 // A monadic operator on an operand. GIVEN, operator 2, takes an element, so it varies.
-fn monadic(op: u32, c: Constant) -> Constant
+fn monadic(op: u32, c: Option<Value>) -> Option<Value>
     ensures { result ≡ monadic_constant op c }
 {
-    match c {
-        Constant::Varies => Constant::Varies,
-        Constant::Of(v) => {
-            if op == 2 {
-                return Constant::Varies;
-            }
-            Constant::Of(base_numbers::monadic_of(op, v))
-        }
+    let v = c?;
+    if op == 2 {
+        return None;
     }
+    Some(base_numbers::monadic_of(op, v))
 }
 
 // A dyadic operator on two operands: both must be constants, also where the first decides.
-fn dyadic(op: u32, c: Constant, d: Constant) -> Constant
+fn dyadic(op: u32, c: Option<Value>, d: Option<Value>) -> Option<Value>
     ensures { result ≡ dyadic_constant op c d }
 {
-    match c {
-        Constant::Varies => Constant::Varies,
-        Constant::Of(v) => match d {
-            Constant::Varies => Constant::Varies,
-            Constant::Of(w) => Constant::Of(base_numbers::dyadic_of(op, v, w)),
-        },
-    }
+    let v = c?;
+    let w = d?;
+    Some(base_numbers::dyadic_of(op, v, w))
 }
 
-// The expression of row e as a constant, from its operands' rows.
-fn constant_at(rows: &[i32], e: usize) -> Constant
+// The expression of row e as a constant, from its operands' rows: its value or the reason that it has none; None if it is not made only of literals and operators.
+fn constant_at(rows: &[i32], e: usize) -> Option<Value>
     ensures { result ≡ constant_of (content_at rows.now e).expr }
 {
     if rows.len() / 4 <= e {
-        return Constant::Varies;
+        return None;
     }
     match natural(rows, e, 0) {
-        10 => Constant::Of(Value::Number(field(rows, e, 1))),
+        10 => Some(Value::Number(field(rows, e, 1))),
         12 => {
             let c = constant_at(rows, operand(rows, e, 2));
             monadic(natural(rows, e, 1), c)
@@ -65,7 +50,7 @@ fn constant_at(rows: &[i32], e: usize) -> Constant
             let d = constant_at(rows, operand(rows, e, 3));
             dyadic(natural(rows, e, 1), c, d)
         }
-        _ => Constant::Varies,
+        _ => None,
     }
 }
 
@@ -100,10 +85,10 @@ pub fn count(rows: &[i32], e: usize, sort: usize, first: u32, size: u32, sets: &
     ensures { sets.new ≡ with_all sets.old (in_sort sort (counts_for first size (content_at rows.now e).expr)) }
 {
     match constant_at(rows, e) {
-        Constant::Of(v) => {
+        Some(v) => {
             count_value(v, sort, first, size, sets);
         }
-        Constant::Varies => {
+        None => {
             put_range(sets, sort, first, size);
         }
     }

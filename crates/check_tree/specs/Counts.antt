@@ -1,22 +1,8 @@
 -- References as the code counts them: two stand for more.
-use Rattle.std.specs.Prelude.{◌≡◌, Bool, true, false, ◌&&◌, List, [], ◌∷◌, ℕ, ◌+◌, ◌≤◌, ◌<◌, min, ℤ, length, get_or, set, ltb}
+use Rattle.std.specs.Prelude.{◌≡◌, ◌&&◌, List, [], ◌∷◌, ℕ, ◌+◌, ◌≤◌, ◌<◌, min, ℤ, length, get_or, set, ltb}
 use Rattle.meaning.specs.Basics.{if_else}
 use Rattle.meaning.specs.Rows.{row_count}
 use Rattle.meaning.specs.Verdict.{targets_below, occurrences}
-use Rattle.check_tree.specs.declared.Reference.{Reference}
-use Rattle.check_tree.specs.declared.Reference.TheVariants.{Row, Nothing, Wrong}
-
--- a reference, if there is one, leads to where it may
-abbrev pub all_right : Reference → Bool
-all_right (Row t) = true
-all_right Nothing = true
-all_right Wrong = false
-
--- the row that it leads to: a wrong reference is not counted
-abbrev pub rows_referred : Reference → List ℕ
-rows_referred (Row t) = t ∷ []
-rows_referred Nothing = []
-rows_referred Wrong = []
 
 -- one more at place t, up to two
 abbrev pub noted_at : List ℕ → ℕ → List ℕ

@@ -1,67 +1,53 @@
 // Refusal 5: references that lead to a higher row of the kind named, and rows that are referred to once.
 #![tactic(auto)]
 
-ghost use Rattle.std.specs.Prelude.{◌≡◌, not, ℕ, suc, ◌<◌, ◌≤◌, length, get_or, eqb};
+ghost use Rattle.std.specs.Prelude.{◌≡◌, not, ℕ, suc, ◌<◌, ◌≤◌, length, get_or, eqb, is_some};
+ghost use Rattle.std.specs.Option.{option_to_list};
 ghost use Rattle.meaning.specs.Basics.{if_else, lowest};
 ghost use Rattle.meaning.specs.Rows.{row_count};
 ghost use Rattle.meaning.specs.Declarations.{declarations};
 ghost use Rattle.meaning.specs.Verdict.{refers, leads, leads_by, target_of, target, targets_by, targets_below, wrong_root, row_fault_at, tree_fault_at};
-ghost use Rattle.check_tree.specs.Counts.{all_right, rows_referred, one_more_for, ReferencesCounted};
+ghost use Rattle.check_tree.specs.Counts.{one_more_for, ReferencesCounted};
 ghost use Rattle.base_kinds.specs.Table.{numbers_in, field_meant, meant_shape, KindTable};
 ghost use Rattle.base_rows.specs.Places.{place_of};
 
 use base_kinds::Shape;
-use base_rows::Place;
-
-// What a field refers to.
-#[derive(Drop)]
-enum Reference {
-    Row(usize),
-    Nothing,
-    Wrong,
-}
 
 // The row that a reference of row r leads to, if that is a higher row of one of these kinds.
-fn followed(rows: &[i32], r: usize, kinds: u64, z: i32) -> Reference
-    ensures { (all_right result ≡ refers rows.now r (numbers_in kinds) z) × (rows_referred result ≡ target_of rows.now r (numbers_in kinds) z) }
+fn followed(rows: &[i32], r: usize, kinds: u64, z: i32) -> Option<usize>
+    ensures right { is_some result ≡ refers rows.now r (numbers_in kinds) z }
+    ensures row { option_to_list result ≡ target_of rows.now r (numbers_in kinds) z }
 {
     if z < 0 {
-        return Reference::Wrong;
+        return None;
     }
     let t = base_rows::natural(z) as usize;
-    if r < t {
-        if t < base_rows::row_count(rows) {
-            if base_kinds::in_mask(kinds, base_rows::kind(rows, t)) {
-                return Reference::Row(t);
-            }
-        }
+    if r < t && t < base_rows::row_count(rows) && base_kinds::in_mask(kinds, base_rows::kind(rows, t)) {
+        Some(t)
+    } else {
+        None
     }
-    Reference::Wrong
 }
 
-// What a field of row r refers to: by its entry in the table of kinds.
-fn reference_of(rows: &[i32], r: usize, entry: u64, z: i32) -> Reference
-    ensures { (all_right result ≡ leads rows.now r (field_meant entry) z) × (rows_referred result ≡ target rows.now r (field_meant entry) z) }
+// Whether a field of row r leads to where it may, by its entry in the table of kinds.
+fn leads(rows: &[i32], r: usize, entry: u64, z: i32) -> bool
+    ensures { result ≡ leads rows.now r (field_meant entry) z }
+{
+    match entry % 16 {
+        base_kinds::REFERENCE => followed(rows, r, entry / 16, z).is_some(),
+        base_kinds::LINK => z == -1 || followed(rows, r, entry / 16, z).is_some(),
+        _ => true,
+    }
+}
+
+// The row that a field of row r rightly refers to, by its entry in the table of kinds.
+fn target(rows: &[i32], r: usize, entry: u64, z: i32) -> Option<usize>
+    ensures { option_to_list result ≡ target rows.now r (field_meant entry) z }
 {
     match entry % 16 {
         base_kinds::REFERENCE => followed(rows, r, entry / 16, z),
-        base_kinds::LINK => {
-            if base_rows::same(z, -1) {
-                return Reference::Nothing;
-            }
-            followed(rows, r, entry / 16, z)
-        }
-        _ => Reference::Nothing,
-    }
-}
-
-fn all_right(p: Reference) -> bool
-    ensures { result ≡ all_right p }
-{
-    match p {
-        Reference::Row(_) => true,
-        Reference::Nothing => true,
-        Reference::Wrong => false,
+        base_kinds::LINK => followed(rows, r, entry / 16, z),
+        _ => None,
     }
 }
 
@@ -72,28 +58,19 @@ fn leads_by(rows: &[i32], r: usize, s: Shape) -> bool
     if s.a == base_kinds::NO_KIND {
         return true;
     }
-    if all_right(reference_of(rows, r, s.a, base_rows::field(rows, r, 1))) {
-        if all_right(reference_of(rows, r, s.b, base_rows::field(rows, r, 2))) {
-            return all_right(reference_of(rows, r, s.c, base_rows::field(rows, r, 3)));
-        }
-    }
-    false
+    leads(rows, r, s.a, base_rows::field(rows, r, 1))
+        && leads(rows, r, s.b, base_rows::field(rows, r, 2))
+        && leads(rows, r, s.c, base_rows::field(rows, r, 3))
 }
 
 // Counts a right reference; two stand for more.
-fn note(counts: &mut [u8], p: Reference)
-    ensures { counts.new ≡ one_more_for counts.old (rows_referred p) }
+fn note(counts: &mut [u8], referred: Option<usize>)
+    ensures { counts.new ≡ one_more_for counts.old (option_to_list referred) }
 {
-    match p {
-        Reference::Row(t) => {
-            if t < counts.len() {
-                if counts[t] < 2 {
-                    counts[t] += 1;
-                }
-            }
+    if let Some(t) = referred {
+        if t < counts.len() && counts[t] < 2 {
+            counts[t] += 1;
         }
-        Reference::Nothing => {}
-        Reference::Wrong => {}
     }
 }
 
@@ -102,18 +79,9 @@ fn note_by(rows: &[i32], r: usize, s: Shape, counts: &mut [u8])
     ensures { (k : ℕ) → counts.new ≡ one_more_for counts.old (targets_by rows.now r (meant_shape k s)) }
 {
     if s.a != base_kinds::NO_KIND {
-        note(
-            counts,
-            reference_of(rows, r, s.a, base_rows::field(rows, r, 1)),
-        );
-        note(
-            counts,
-            reference_of(rows, r, s.b, base_rows::field(rows, r, 2)),
-        );
-        note(
-            counts,
-            reference_of(rows, r, s.c, base_rows::field(rows, r, 3)),
-        );
+        note(counts, target(rows, r, s.a, base_rows::field(rows, r, 1)));
+        note(counts, target(rows, r, s.b, base_rows::field(rows, r, 2)));
+        note(counts, target(rows, r, s.c, base_rows::field(rows, r, 3)));
     }
 }
 
@@ -123,15 +91,13 @@ fn count_references(table: &[[u64; 3]], rows: &[i32], counts: &mut [u8])
     ensures { counts.new ≡ one_more_for counts.old (targets_below rows.now (row_count rows.now)) }
 {
     let n = base_rows::row_count(rows);
-    let mut r: usize = 0;
-    while r < n {
+    for r in 0..n {
         note_by(
             rows,
             r,
             base_kinds::shape_of(table, base_rows::kind(rows, r)),
             counts,
         );
-        r += 1;
     }
 }
 
@@ -139,10 +105,7 @@ fn count_references(table: &[[u64; 3]], rows: &[i32], counts: &mut [u8])
 fn wrong_root(rows: &[i32], d: usize, r: usize) -> bool
     ensures { result ≡ wrong_root rows.now d r }
 {
-    if r == d {
-        return !base_kinds::is_process(base_rows::kind(rows, r));
-    }
-    false
+    r == d && !base_kinds::is_process(base_rows::kind(rows, r))
 }
 
 // Whether row r is counted other than once, or the root other than never.
@@ -151,9 +114,10 @@ fn not_referred_once(counts: &[u8], d: usize, r: usize) -> bool
     ensures { result ≡ not (eqb (get_or counts.now r 0) (if_else (eqb r d) 0 1)) }
 {
     if r == d {
-        return counts[r] != 0;
+        counts[r] != 0
+    } else {
+        counts[r] != 1
     }
-    counts[r] != 1
 }
 
 // Whether row r has a wrong reference, is a wrong root, or is not referred to as it should be.
@@ -161,40 +125,26 @@ fn row_fault_at(table: &[[u64; 3]], rows: &[i32], d: usize, counts: &[u8], r: us
     requires { KindTable table.now × (ReferencesCounted rows.now counts.now × (r < row_count rows.now)) }
     ensures { result ≡ row_fault_at rows.now d (targets_below rows.now (row_count rows.now)) r }
 {
-    if !leads_by(
-        rows,
-        r,
-        base_kinds::shape_of(table, base_rows::kind(rows, r)),
-    ) {
-        return true;
-    }
-    if wrong_root(rows, d, r) {
-        return true;
-    }
-    not_referred_once(counts, d, r)
+    let shape = base_kinds::shape_of(table, base_rows::kind(rows, r));
+    !leads_by(rows, r, shape) || wrong_root(rows, d, r) || not_referred_once(counts, d, r)
 }
 
 // The lowest row from the root on that is, or the count of rows if there is no root.
-fn first_row_fault_at(table: &[[u64; 3]], rows: &[i32], d: usize, counts: &[u8]) -> Place
+fn first_row_fault_at(table: &[[u64; 3]], rows: &[i32], d: usize, counts: &[u8]) -> Option<usize>
     requires { KindTable table.now × (ReferencesCounted rows.now counts.now × (d ≡ declarations rows.now)) }
     ensures { result ≡ place_of (lowest (tree_fault_at rows.now d (targets_below rows.now (row_count rows.now))) (suc (row_count rows.now))) }
 {
     let n = base_rows::row_count(rows);
-    let mut r: usize = d;
-    while r < n {
+    for r in d..n {
         if row_fault_at(table, rows, d, counts, r) {
-            return Place::Fault(r);
+            return Some(r);
         }
-        r += 1;
     }
-    if d == n {
-        return Place::Fault(n);
-    }
-    Place::Nowhere
+    if d == n { Some(n) } else { None }
 }
 
 // The lowest place at fault in a table of at most 1,024 rows.
-pub fn tree_fault(rows: &[i32]) -> Place
+pub fn tree_fault(rows: &[i32]) -> Option<usize>
     requires { row_count rows.now ≤ 1024 }
     ensures { result ≡ place_of (lowest (tree_fault_at rows.now (declarations rows.now) (targets_below rows.now (row_count rows.now))) (suc (row_count rows.now))) }
 {

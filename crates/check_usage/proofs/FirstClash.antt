@@ -28,7 +28,8 @@ use Rattle.base_layout.specs.Operands.{operand_at}
 use Rattle.base_layout.proofs.Parts.{higher_content, part-of-kind}
 use Rattle.base_layout.proofs.RowKinds.{each-kind, above-operand, by_kind}
 use Rattle.check_components.specs.RowSets.{SetsFrom}
-use Rattle.check_usage.specs.declared.pairs.Search.{Search}
+use Rattle.std.specs.Prelude.{Result, Ok, Err}
+use Rattle.check_usage.specs.declared.pairs.ClashFound.{ClashFound}
 use Rattle.check_usage.specs.Search.{meet_by, tests_of, searched, verdict_on}
 use Rattle.check_components.proofs.ListedProcesses.{listed-stand}
 use Rattle.check_usage.proofs.Compared.{comparison, all_have, tests-are}
@@ -64,8 +65,9 @@ module _ (before : ℕ) (l m : List Comparison) {c : Checked} (e : c ≡ verdict
   goes_on f = on-verdict ∙ ap (λ (v : Verdict). and_on v c.pairs m) f
 
 -- the pairs of one PAR
-abbrev of_search : ℕ → ℕ → Search → Checked
-of_search number r s = checked (if_else s.clash (some (number, r)) none) s.pairs
+abbrev of_search : ℕ → ℕ → Result ℕ ClashFound → Checked
+of_search number r (Ok n) = checked none n
+of_search number r (Err c) = checked (some (number, r)) c.pairs
 
 par-verdict : (number r before : ℕ) (l : List Pair) → verdict_on before (map (comparison number r) l) ≡ of_search number r (searched before (map clashes (map (comparison number r) l)))
 unfolding first_clash compared searched
@@ -126,17 +128,17 @@ module _ (rows : List ℤ) (number : ℕ) where
   unfolding content_at contents at_row
   next_row r h = rw (add-one r, drop-cons (contents rows) r no_content (omega (arith, row_count_lem)))
 
-  module _ (r before : ℕ) {s : Search} (h : r < row_count rows) (e : s ≡ searched before (map clashes (comparisons_in number (content_at rows r).process))) where
-    row_on : verdict_on before (from_row r) ≡ and_on (of_search number r s).verdict s.pairs (from_row (r + 1))
+  module _ (r before : ℕ) {s : Result ℕ ClashFound} (h : r < row_count rows) (e : s ≡ searched before (map clashes (comparisons_in number (content_at rows r).process))) where
+    row_on : verdict_on before (from_row r) ≡ and_on (of_search number r s).verdict (of_search number r s).pairs (from_row (r + 1))
     row_on =
         ap (verdict_on before) (next_row r h)
         ∙ verdict-append before (comparisons_in number (content_at rows r).process) (from_row (r + 1))
         ∙ ap (λ (c : Checked). and_on c.verdict c.pairs (from_row (r + 1))) (row-verdict r before h ∙ ap (of_search number r) (sym e))
 
-    pub row-clashes : s.clash ≡ true → verdict_on before (from_row r) ≡ checked (some (number, r)) s.pairs
+    pub row-clashes : {c : ClashFound} → s ≡ Err c → verdict_on before (from_row r) ≡ checked (some (number, r)) c.pairs
     row-clashes t = row_on ∙ rw t
 
-    pub row-passes : s.clash ≡ false → verdict_on before (from_row r) ≡ verdict_on s.pairs (from_row (r + 1))
+    pub row-passes : {n : ℕ} → s ≡ Ok n → verdict_on before (from_row r) ≡ verdict_on n (from_row (r + 1))
     row-passes t = row_on ∙ rw t
 
   pub rows_end : (r before : ℕ) → row_count rows ≤ r → verdict_on before (from_row r) ≡ checked none before

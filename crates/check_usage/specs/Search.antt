@@ -1,5 +1,5 @@
 -- The search for the first clash: pairs of components compared in turn by the sets of their rows, until two clash.
-use Rattle.std.specs.Prelude.{◌≡◌, Bool, true, false, ◌||◌, List, [], ◌∷◌, ◌++◌, map, ℕ, suc, ◌+◌, ◌*◌, ◌<◌, ◌≤◌, ℤ, length, get_or, eqb}
+use Rattle.std.specs.Prelude.{◌≡◌, Bool, true, false, ◌||◌, List, [], ◌∷◌, ◌++◌, map, ℕ, suc, ◌+◌, ◌*◌, ◌<◌, ◌≤◌, ℤ, length, get_or, eqb, Result, Ok, Err}
 use Rattle.std.proofs.Math.Option.{none}
 use Rattle.meaning.specs.declared.Checked.{Checked}
 use Rattle.meaning.specs.Basics.{if_else}
@@ -9,7 +9,7 @@ use Rattle.meaning.specs.Usage.{Comparison, first_clash, compared, refusal_of}
 use Rattle.meaning.specs.Answers.{checked}
 use Rattle.base_sets.specs.Sets.{in_common}
 use Rattle.check_components.specs.RowSets.{SetsFrom}
-use Rattle.check_usage.specs.declared.pairs.Search.{Search}
+use Rattle.check_usage.specs.declared.pairs.ClashFound.{ClashFound}
 
 -- do the components at rows p and q clash: 7 a cell changed in the one is used in the other, 8 an element is input from in both, 9 output to in both
 unfoldable pub meet_by : List ℕ → ℕ → ℕ → ℕ → Bool
@@ -22,11 +22,16 @@ unfoldable pub tests_of : (ℕ → ℕ → Bool) → List ℕ → List Bool
 tests_of test [] = []
 tests_of test (p ∷ ps) = map (test p) ps ++ tests_of test ps
 
--- tests made in turn until one holds: whether one does, and how many are made after those before
-unfoldable pub searched : ℕ → List Bool → Search
-searched before [] = record { clash = false; pairs = before }
-searched before (true ∷ l) = record { clash = true; pairs = suc before }
+-- tests made in turn until one holds: how many are made after those before, or that one holds, with how many are made up to it
+unfoldable pub searched : ℕ → List Bool → Result ℕ ClashFound
+searched before [] = Ok before
+searched before (true ∷ l) = Err (record { pairs = suc before })
 searched before (false ∷ l) = searched (suc before) l
+
+-- how many tests are made, either way
+abbrev pub pairs_of : Result ℕ ClashFound → ℕ
+pairs_of (Ok n) = n
+pairs_of (Err c) = c.pairs
 
 -- the verdict on comparisons, and the count of those made after those before
 abbrev pub verdict_on : ℕ → List Comparison → Checked

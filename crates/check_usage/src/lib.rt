@@ -9,7 +9,7 @@ ghost use Rattle.meaning.specs.Verdict.{form_fault, limit_fault};
 ghost use Rattle.meaning.specs.Usage.{comparisons_in, comparisons_of, clashes, usage_fault, pairs_compared};
 ghost use Rattle.meaning.specs.Answers.{checked};
 ghost use Rattle.base_layout.specs.Names.{name_in, no_name};
-ghost use Rattle.check_usage.specs.Search.{searched, verdict_on, SearchFacts};
+ghost use Rattle.check_usage.specs.Search.{searched, pairs_of, verdict_on, SearchFacts};
 
 mod members; // members.rt: the rows of a PAR's components
 mod pairs; // pairs.rt: pairs compared in turn
@@ -17,7 +17,7 @@ mod pairs; // pairs.rt: pairs compared in turn
 use base_layout::nodes::{natural, operand};
 use base_layout::{NO_NAME, Name, note_names};
 use meaning::{Checked, Verdict};
-use pairs::Search;
+use pairs::ClashFound;
 
 // The pairs of the PAR at row r, if it is one.
 fn in_par<'a>(
@@ -27,18 +27,15 @@ fn in_par<'a>(
     r: usize,
     members: &mut [u16],
     before: u32,
-) -> Search
+) -> Result<u32, ClashFound>
     requires { SearchFacts rows.now sets.now × (r < row_count rows.now) × (length members.old ≡ 1024) × (before + 1048576 < 4294967296) }
-    ensures { (result ≡ searched before (map clashes (comparisons_in number (content_at rows.now r).process))) × (result.pairs ≤ before + 1048576) }
+    ensures { (result ≡ searched before (map clashes (comparisons_in number (content_at rows.now r).process))) × (pairs_of result ≤ before + 1048576) }
 {
     if natural(rows, r, 0) == 31 {
         let count = members::members_of(rows, operand(rows, r, 1), members);
         return pairs::among(sets, number, &members[..count], before);
     }
-    Search {
-        clash: false,
-        pairs: before,
-    }
+    Ok(before)
 }
 
 // The pairs of all PARs by row, for one number.
@@ -54,17 +51,16 @@ fn in_all<'a>(
 {
     let n = rows.len() / 4;
     let mut pairs = before;
-    let mut r = 0;
-    while r < n {
-        let s = in_par(rows, sets, number, r, members, pairs);
-        if s.clash {
-            return Checked {
-                verdict: Verdict::Rejected(number, r as u32),
-                pairs: s.pairs,
-            };
+    for r in 0..n {
+        match in_par(rows, sets, number, r, members, pairs) {
+            Ok(compared) => pairs = compared,
+            Err(clash) => {
+                return Checked {
+                    verdict: Verdict::Rejected(number, r as u32),
+                    pairs: clash.pairs,
+                };
+            }
         }
-        pairs = s.pairs;
-        r += 1;
     }
     Checked {
         verdict: Verdict::Accepted,
@@ -79,18 +75,14 @@ fn search<'a>(rows: &'a [i32], sets: &'a [u64]) -> Checked
 {
     let mut members = [0u16; 1024];
     let cells = in_all(rows, sets, 7, &mut members, 0);
-    let verdict = cells.verdict;
-    match verdict {
-        Verdict::Rejected(..) => cells,
-        Verdict::Accepted => {
-            let inputs = in_all(rows, sets, 8, &mut members, cells.pairs);
-            let verdict = inputs.verdict;
-            match verdict {
-                Verdict::Rejected(..) => inputs,
-                Verdict::Accepted => in_all(rows, sets, 9, &mut members, inputs.pairs),
-            }
-        }
+    if let Verdict::Rejected(..) = cells.verdict {
+        return cells;
     }
+    let inputs = in_all(rows, sets, 8, &mut members, cells.pairs);
+    if let Verdict::Rejected(..) = inputs.verdict {
+        return inputs;
+    }
+    in_all(rows, sets, 9, &mut members, inputs.pairs)
 }
 
 // Whether there is a PAR.
@@ -98,14 +90,7 @@ fn has_par(rows: &[i32]) -> bool
     ensures { result ≡ false → (r : ℕ) → r < row_count rows.now → kind_at rows.now r ≡ 31 → ⊥ }
 {
     let n = rows.len() / 4;
-    let mut r = 0;
-    while r < n {
-        if natural(rows, r, 0) == 31 {
-            return true;
-        }
-        r += 1;
-    }
-    false
+    (0..n).any(|r| natural(rows, r, 0) == 31)
 }
 
 // The search, with what the rows name and their sets put into lists that have room for them; that of names has none.

@@ -11,10 +11,7 @@ use check_components::is_link;
 fn is_process(rows: &[i32], p: usize) -> bool
     ensures { result ≡ is_some (content_at rows.now p).process }
 {
-    if rows.len() / 4 <= p {
-        return false;
-    }
-    base_kinds::is_process(natural(rows, p, 0))
+    p < rows.len() / 4 && base_kinds::is_process(natural(rows, p, 0))
 }
 
 // The rows of the processes listed from row m on are put into `members`; tells how many they are.

@@ -2,12 +2,11 @@
 ghost use Rattle.std.specs.Prelude.{◌≡◌, map, ◌+◌, ◌*◌, ◌<◌, ◌≤◌, length, get_or, drop};
 ghost use Rattle.check_usage.specs.Search.{meet_by, tests_of, searched, HaveSets};
 
-use base_sets::{either, meet};
+use base_sets::meet;
 
-// Whether a clash is found, and how many pairs have been compared.
+// Two components clash: how many pairs have been compared, with theirs.
 #[derive(Drop)]
-pub struct Search {
-    pub clash: bool,
+pub struct ClashFound {
     pub pairs: u32,
 }
 
@@ -18,53 +17,48 @@ fn clash<'a>(sets: &'a [u64], number: u8, p: usize, q: usize) -> bool
 {
     let i = 16 * p;
     let j = 16 * q;
-    if number == 7 {
-        return either(meet(sets, i, sets, j + 4), meet(sets, j, sets, i + 4));
+    match number {
+        7 => meet(sets, i, sets, j + 4) || meet(sets, j, sets, i + 4),
+        8 => meet(sets, i + 8, sets, j + 8),
+        _ => meet(sets, i + 12, sets, j + 12),
     }
-    if number == 8 {
-        return meet(sets, i + 8, sets, j + 8);
-    }
-    meet(sets, i + 12, sets, j + 12)
 }
 
-// Component i compared with each after it, until two clash.
-fn with_later<'a>(sets: &'a [u64], number: u8, members: &'a [u16], i: usize, before: u32) -> Search
+// Component i compared with each after it, until two clash: how many pairs have been compared.
+fn with_later<'a>(
+    sets: &'a [u64],
+    number: u8,
+    members: &'a [u16],
+    i: usize,
+    before: u32,
+) -> Result<u32, ClashFound>
     requires { (i < length members.now) × (before + length members.now < 4294967296) × HaveSets members.now sets.now }
     ensures { result ≡ searched before (map (meet_by sets.now number (get_or members.now i 0)) (drop (i + 1) members.now)) }
 {
     let p = members[i] as usize;
     let mut pairs = before;
-    let mut j = i + 1;
-    while j < members.len() {
+    for j in i + 1..members.len() {
         pairs += 1;
         if clash(sets, number, p, members[j] as usize) {
-            return Search { clash: true, pairs };
+            return Err(ClashFound { pairs });
         }
-        j += 1;
     }
-    Search {
-        clash: false,
-        pairs,
-    }
+    Ok(pairs)
 }
 
-// Each component compared with those after it, until two clash.
-pub fn among<'a>(sets: &'a [u64], number: u8, members: &'a [u16], before: u32) -> Search
+// Each component compared with those after it, until two clash: how many pairs have been compared.
+pub fn among<'a>(
+    sets: &'a [u64],
+    number: u8,
+    members: &'a [u16],
+    before: u32,
+) -> Result<u32, ClashFound>
     requires { (length members.now ≤ 1024) × (before + 1024 * length members.now < 4294967296) × HaveSets members.now sets.now }
     ensures { result ≡ searched before (tests_of (meet_by sets.now number) members.now) }
 {
     let mut pairs = before;
-    let mut i = 0;
-    while i < members.len() {
-        let s = with_later(sets, number, members, i, pairs);
-        if s.clash {
-            return s;
-        }
-        pairs = s.pairs;
-        i += 1;
+    for i in 0..members.len() {
+        pairs = with_later(sets, number, members, i, pairs)?;
     }
-    Search {
-        clash: false,
-        pairs,
-    }
+    Ok(pairs)
 }

@@ -1,7 +1,7 @@
 // The checker: the verdict on a table, lent as numbers or as bytes, alone or with the count of pairs of components compared. Refusals 2 to 9 and 14.
 #![tactic(auto)]
 
-ghost use Rattle.std.specs.Prelude.{◌≡◌};
+ghost use Rattle.std.specs.Prelude.{◌≡◌, ◌≤◌, length, IfSome, IsSome};
 ghost use Rattle.std.proofs.Math.Option.{some};
 ghost use Rattle.meaning.specs.Answers.{check, check_bytes, verdict_of, checked, check_counted, check_bytes_counted};
 
@@ -22,36 +22,42 @@ fn refused(number: u8, place: u32) -> Checked
 pub fn check_rows_counted(rows: &[i32]) -> Checked
     ensures { result ≡ check_counted rows.now }
 {
-    let form = check_form::check_form(rows);
-    match form {
-        Verdict::Rejected(number, row) => refused(number, row),
-        Verdict::Accepted => {
-            let blocks = check_blocks::block_fault(rows);
-            match blocks {
-                Verdict::Rejected(number, place) => refused(number, place),
-                Verdict::Accepted => check_usage::first_clash(rows),
-            }
-        }
+    if let Verdict::Rejected(number, row) = check_form::check_form(rows) {
+        return refused(number, row);
     }
+    if let Verdict::Rejected(number, place) = check_blocks::block_fault(rows) {
+        return refused(number, place);
+    }
+    check_usage::first_clash(rows)
 }
 
 // The verdict alone.
 pub fn check_rows(rows: &[i32]) -> Verdict
     ensures { result ≡ verdict_of (check rows.now) }
 {
-    let c = check_rows_counted(rows);
-    c.verdict
+    check_rows_counted(rows).verdict
 }
 
-// The verdict on a table's bytes, and the count of pairs compared: the stages 2 and 3, then those on its rows.
+// The verdict on a table's bytes, and the count of pairs compared: the stages 2 and 3, then those on its rows. None if `rows` has no room for them.
+fn check_in(table: &[u8], rows: &mut [i32]) -> Option<Checked>
+    ensures checked { IfSome result (λ c. c ≡ check_bytes_counted table.now) }
+    ensures room { 4096 ≤ length rows.old → IsSome result }
+{
+    match read_table::read_table(table, rows) {
+        TableRead::Refused(number, place) => Some(refused(number, place)),
+        TableRead::Rows(n) => Some(check_rows_counted(&rows[..4 * n])),
+        TableRead::Full => None,
+    }
+}
+
+// The same; there is room for a table of at most 128 rows, and else in a longer list.
 pub fn check_table_counted(table: &[u8]) -> Checked
     ensures { result ≡ check_bytes_counted table.now }
 {
     let mut small = [0i32; 512];
-    match read_table::read_table(table, &mut small) {
-        TableRead::Refused(number, place) => refused(number, place),
-        TableRead::Rows(n) => check_rows_counted(&small[..4 * n]),
-        TableRead::Full => check_large(table),
+    match check_in(table, &mut small) {
+        Some(checked) => checked,
+        None => check_large(table),
     }
 }
 
@@ -60,10 +66,9 @@ fn check_large(table: &[u8]) -> Checked
     ensures { result ≡ check_bytes_counted table.now }
 {
     let mut large = [0i32; 4096];
-    match read_table::read_table(table, &mut large) {
-        TableRead::Refused(number, place) => refused(number, place),
-        TableRead::Rows(n) => check_rows_counted(&large[..4 * n]),
-        TableRead::Full => refused(3, 1024),
+    match check_in(table, &mut large) {
+        Some(checked) => checked,
+        None => refused(3, 1024),
     }
 }
 
@@ -71,6 +76,5 @@ fn check_large(table: &[u8]) -> Checked
 pub fn check_table(table: &[u8]) -> Verdict
     ensures { result ≡ verdict_of (check_bytes table.now) }
 {
-    let c = check_table_counted(table);
-    c.verdict
+    check_table_counted(table).verdict
 }

@@ -9,6 +9,6 @@ pub returns-then-has_role : goal.returns-then-has_role
 unfolding capacity_at
 returns-then-has_role c = let t : has_role 2 c.args.rows.now c.args.r ≡ true = sym c.has_role.ensures ∙ c.if-has_role.true in simp t c.natural_field.ensures
 
-pub returns : goal.returns
+pub returns-else-has_role : goal.returns-else-has_role
 unfolding capacity_at
-returns c = let t : has_role 2 c.args.rows.now c.args.r ≡ false = sym c.has_role.ensures ∙ c.if-has_role.false in simp t
+returns-else-has_role c = let t : has_role 2 c.args.rows.now c.args.r ≡ false = sym c.has_role.ensures ∙ c.if-has_role.false in simp t

@@ -9,6 +9,6 @@ pub returns-then-is_variable : goal.returns-then-is_variable
 unfolding cells_at
 returns-then-is_variable c = let t : is_variable c.args.rows.now c.args.r ≡ true = sym c.is_variable.ensures ∙ c.if-is_variable.true in simp t c.natural_field.ensures
 
-pub returns : goal.returns
+pub returns-else-is_variable : goal.returns-else-is_variable
 unfolding cells_at
-returns c = let t : is_variable c.args.rows.now c.args.r ≡ false = sym c.is_variable.ensures ∙ c.if-is_variable.false in simp t
+returns-else-is_variable c = let t : is_variable c.args.rows.now c.args.r ≡ false = sym c.is_variable.ensures ∙ c.if-is_variable.false in simp t

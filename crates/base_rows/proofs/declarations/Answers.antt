@@ -1,25 +1,14 @@
--- While every row so far declares, the rest of the rows decides. Assumes nothing.
-use mathlib.Core.Path.{◌≡◌, sym, ap, ◌∙◌}
-use Prim.Native.Nat.{ℕ, ◌≤◌, ◌-◌}
-use borrow.Author.Tests.{not-true, not-false}
-use Rattle.meaning.specs.Rows.{row_count}
-use Rattle.meaning.specs.Declarations.{leading, declarations}
-use Rattle.base_rows.proofs.Leading.{leading-none, leading-more, leading-stop}
-use borrow.Author.Rules.{rules}
-use native.Mathlib.Omega.{arith}
+-- The first row that declares nothing, or the count of rows, is how many declarations lead. Assumes nothing.
+use Rattle.std.proofs.Common.{◌≡◌, true, false, arith, rules, tests}
+use Rattle.std.proofs.lemmas.Iterator.{first_from_Range}
+use Rattle.meaning.specs.Declarations.{declares}
+use Rattle.base_rows.proofs.Leading.{leading-found}
 use Rattle.base_rows.proofs.declarations.Goals as goal
 
-pub loop-r-init : goal.loop-r-init
-unfolding declarations
-loop-r-init c =
-    let e : c.row_count-n.result - 0 ≡ row_count c.args.rows.now = omega (arith, c.row_count-n.ensures) in
-    (c.row_count-n.ensures, omega arith, ap (λ (n : ℕ). leading c.args.rows.now n 0) e)
-
-pub returns-then-not-declares : goal.returns-then-not-declares
-returns-then-not-declares c = sym (leading-stop c.args.rows.now c.row_count-n.result c.loop-r.r c.loop-r-test.true (sym c.declares.ensures ∙ c.if-not-declares.true)) ∙ c.loop-r.invariant.2
-
-pub loop-r-preserved : goal.loop-r-preserved
-loop-r-preserved c = (c.loop-r.invariant.0, omega arith, sym (leading-more c.args.rows.now c.row_count-n.result c.loop-r.r c.loop-r-test.true (sym c.declares.ensures ∙ c.if-not-declares.false)) ∙ c.loop-r.invariant.2)
-
 pub returns : goal.returns
-returns c = let e : c.row_count-n.result - c.loop-r.r ≡ 0 = omega arith in sym (leading-none c.args.rows.now c.loop-r.r) ∙ rw e at c.loop-r.invariant.2
+returns c =
+    let rows = c.args.rows.now in
+    let found = first_from_Range _ _ _ _ (λ r. declares rows r ≡ false) (λ r. declares rows r ≡ true) c.find.ensures.ran
+    (λ x q k. search (rules, tests))
+    (λ x q k. (search rules, search (rules, tests))) in
+    rw (c.unwrap_or.ensures, c.row_count-n.ensures) (leading-found rows c.find.result (rw c.row_count-n.ensures at found))

@@ -9,6 +9,6 @@ pub returns-then-is_channel : goal.returns-then-is_channel
 unfolding elements_at
 returns-then-is_channel c = let t : is_channel c.args.rows.now c.args.r ≡ true = sym c.is_channel.ensures ∙ c.if-is_channel.true in simp t c.natural_field.ensures
 
-pub returns : goal.returns
+pub returns-else-is_channel : goal.returns-else-is_channel
 unfolding elements_at
-returns c = let t : is_channel c.args.rows.now c.args.r ≡ false = sym c.is_channel.ensures ∙ c.if-is_channel.false in simp t
+returns-else-is_channel c = let t : is_channel c.args.rows.now c.args.r ≡ false = sym c.is_channel.ensures ∙ c.if-is_channel.false in simp t

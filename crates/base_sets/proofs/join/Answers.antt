@@ -10,16 +10,10 @@ use Rattle.base_sets.proofs.SetLaws.{join-start, join_step, join-done}
 use Rattle.base_sets.proofs.join.Goals as goal
 
 pub loop-i-init : goal.loop-i-init
-loop-i-init c = (join-start c.args.sets.now c.args.more.now, refl)
-
-pub loop-i-smaller : goal.loop-i-smaller
-loop-i-smaller c = simp length-set (omega arith)
+loop-i-init c = join-start c.args.sets.now c.args.more.now
 
 pub loop-i-preserved : goal.loop-i-preserved
-loop-i-preserved c = (
-  c.loop-i.invariant.0 ∙ join_step c.loop-i.sets c.args.more.now c.loop-i.i c.loop-i-test.true (search rules),
-  length-set c.loop-i.sets c.loop-i.i _ ∙ c.loop-i.invariant.1,
-)
+loop-i-preserved c = c.loop-i.invariant ∙ join_step c.loop-i.sets c.args.more.now c.loop-i.i (search rules) (search rules)
 
 pub returns : goal.returns
-returns c = sym (c.loop-i.invariant.0 ∙ join-done c.loop-i.sets c.args.more.now c.loop-i.i c.loop-i-test.false)
+returns c = sym (c.loop-i.invariant ∙ join-done c.loop-i.sets c.args.more.now c.loop-i.i (search rules))

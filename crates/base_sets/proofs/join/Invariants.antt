@@ -9,7 +9,4 @@ use Rattle.base_sets.proofs.SetLaws.{join-start, join_step, join-done}
 use Rattle.base_sets.proofs.join.Given as goal
 
 abbrev pub invariant-loop-i : goal.invariant-loop-i
-invariant-loop-i l = (set_union l.initial.sets l.more ≡ take l.i l.sets ++ set_union (drop l.i l.sets) (drop l.i l.more)) × (length l.sets ≡ length l.initial.sets)
-
-abbrev pub decreases-loop-i : goal.decreases-loop-i
-decreases-loop-i l = length l.sets - l.i
+invariant-loop-i l = set_union l.initial.sets l.more ≡ take l.i l.sets ++ set_union (drop l.i l.sets) (drop l.i l.more)

@@ -9,7 +9,4 @@ use Rattle.base_sets.proofs.SetLaws.{range-start, with_none, with-next, range-ne
 use Rattle.base_sets.proofs.put_range.Given as goal
 
 abbrev pub invariant-loop-k : goal.invariant-loop-k
-invariant-loop-k l = (with_all l.initial.sets (in_sort l.sort (numbers_from l.first l.n)) ≡ with_all l.sets (in_sort l.sort (numbers_from (l.first + l.k) (l.n - l.k)))) × (l.k ≤ l.n) × (length l.sets ≡ length l.initial.sets)
-
-abbrev pub decreases-loop-k : goal.decreases-loop-k
-decreases-loop-k l = l.n - l.k
+invariant-loop-k l = with_all l.initial.sets (in_sort l.sort (numbers_from l.first l.n)) ≡ with_all l.sets (in_sort l.sort (numbers_from (l.first + l.k) (l.n - l.k)))

@@ -5,5 +5,5 @@ use Rattle.check_blocks.proofs.RowFaults.{no-block-fault}
 use borrow.Author.Rules.{rules}
 use Rattle.check_blocks.proofs.block_fault.Goals as goal
 
-pub returns : goal.returns
-returns c = sym (ap verdict_of (no-block-fault c.args.rows.now (sym c.has_block.ensures ∙ c.if-has_block.false)))
+pub returns-else-has_block : goal.returns-else-has_block
+returns-else-has_block c = sym (ap verdict_of (no-block-fault c.args.rows.now (sym c.has_block.ensures ∙ c.if-has_block.false)))

@@ -11,7 +11,5 @@ use Rattle.check_blocks.proofs.RowFaults.{fault-at, no-fault}
 use Rattle.check_blocks.proofs.first_block_fault.Given as goal
 
 abbrev pub invariant-loop-r : goal.invariant-loop-r
-invariant-loop-r l = (l.d ≡ declarations l.rows) × (l.n ≡ row_count l.rows) × (l.r ≤ l.n) × ((j : ℕ) → j < l.r → block_fault_at l.rows (declarations l.rows) j ≡ false)
+invariant-loop-r l = (l.d ≡ declarations l.rows) × (l.n ≡ row_count l.rows) × ((j : ℕ) → j < l.r → block_fault_at l.rows (declarations l.rows) j ≡ false)
 
-abbrev pub decreases-loop-r : goal.decreases-loop-r
-decreases-loop-r l = l.n - l.r

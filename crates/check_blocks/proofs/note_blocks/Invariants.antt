@@ -10,7 +10,5 @@ use Rattle.check_blocks.proofs.LowestBlocks.{noted_more}
 use Rattle.check_blocks.proofs.note_blocks.Given as goal
 
 abbrev pub invariant-loop-r : goal.invariant-loop-r
-invariant-loop-r l = (l.n ≡ row_count l.rows) × (l.r ≤ l.n) × BlocksNoted l.rows l.r l.blocks
+invariant-loop-r l = (l.n ≡ row_count l.rows) × BlocksNoted l.rows l.r l.blocks
 
-abbrev pub decreases-loop-r : goal.decreases-loop-r
-decreases-loop-r l = l.n - l.r

@@ -10,5 +10,3 @@ use Rattle.check_components.proofs.gather_all.Given as goal
 abbrev pub invariant-loop-r : goal.invariant-loop-r
 invariant-loop-r l = SetsFrom l.rows l.sets l.r × (l.r ≤ row_count l.rows) × (length l.initial.sets ≡ 16 * row_count l.rows)
 
-abbrev pub decreases-loop-r : goal.decreases-loop-r
-decreases-loop-r l = l.r

@@ -10,4 +10,4 @@ use Rattle.check_components.proofs.store.Goals as goal
 pub returns : goal.returns
 returns c =
     let at = 16 * c.args.r in
-    ap (λ (ws : List ℕ). take at c.args.sets.now ++ (ws ++ drop (at + 16 - at) (drop at c.args.sets.now))) c.copy.ensures ∙ stored-part c.args.sets.now c.args.own.now c.args.r
+    ap (λ (ws : List ℕ). take at c.args.sets.now ++ (ws ++ drop (at + 16 - at) (drop at c.args.sets.now))) c.copy_from_slice.ensures.after ∙ stored-part c.args.sets.now c.args.own.now c.args.r

@@ -7,12 +7,12 @@ use Rattle.base_sets.proofs.SetLaws.{one-call}
 use Rattle.check_subscripts.proofs.CountLaws.{counts-as}
 use Rattle.check_subscripts.proofs.count.Goals as goal
 
-pub returns-in-Of : goal.returns-in-Of
-returns-in-Of c =
+pub returns-in-Some : goal.returns-in-Some
+returns-in-Some c =
     one-call _ _ c.count_value.ensures
-    (ap (in_sort c.args.sort) (counts-as c.args.first c.args.size (content_at c.args.rows.now c.args.e).expr c.constant_at.ensures c.in-Of.is))
+    (ap (in_sort c.args.sort) (counts-as c.args.first c.args.size (content_at c.args.rows.now c.args.e).expr c.constant_at.ensures c.in-Some.is))
 
-pub returns-in-Varies : goal.returns-in-Varies
-returns-in-Varies c =
+pub returns-in-None : goal.returns-in-None
+returns-in-None c =
     one-call _ _ c.put_range.ensures
-    (ap (in_sort c.args.sort) (counts-as c.args.first c.args.size (content_at c.args.rows.now c.args.e).expr c.constant_at.ensures c.in-Varies.is))
+    (ap (in_sort c.args.sort) (counts-as c.args.first c.args.size (content_at c.args.rows.now c.args.e).expr c.constant_at.ensures c.in-None.is))

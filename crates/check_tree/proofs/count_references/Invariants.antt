@@ -11,7 +11,4 @@ use native.Mathlib.Omega.{arith}
 use Rattle.check_tree.proofs.count_references.Given as goal
 
 abbrev pub invariant-loop-r : goal.invariant-loop-r
-invariant-loop-r l = (l.n ≡ row_count l.rows) × (l.r ≤ l.n) × (l.counts ≡ one_more_for l.initial.counts (targets_below l.rows l.r))
-
-abbrev pub decreases-loop-r : goal.decreases-loop-r
-decreases-loop-r l = l.n - l.r
+invariant-loop-r l = (l.n ≡ row_count l.rows) × (l.counts ≡ one_more_for l.initial.counts (targets_below l.rows l.r))

@@ -1,29 +1,16 @@
--- `has_par` meets its contract: no row before r is a PAR.
-use mathlib.Core.Path.{◌≡◌, sym, ◌∙◌}
-use mathlib.Core.Bool.{false≢true}
-use Prim.Native.Nat.{ℕ, ◌-◌, ◌<◌}
-use native.Mathlib.Omega.{arith}
-use borrow.Author.Count.{below_more}
-use Rattle.meaning.specs.Rows.{kind_at}
+-- No row is a PAR if none passes the test. Assumes nothing.
+use Rattle.std.proofs.Common.{rules, tests, arith, sym, ◌∙◌, eqb}
+use mathlib.Core.Path.{refl}
+use Rattle.std.proofs.lemmas.Iterator.{YieldsList-from_range}
+use Rattle.std.proofs.lemmas.Iterator.Search.{any_from_yields_List}
+use borrow.Author.Tests.{eqb-false}
+use Rattle.meaning.specs.Rows.{row_count, kind_at}
+use Rattle.base_rows.proofs.LowestFound.{any-found, none-passes}
 use Rattle.check_usage.proofs.has_par.Goals as goal
 
-pub loop-r-init : goal.loop-r-init
-loop-r-init c = λ k l. absurd (omega arith)
-
-pub natural-requires : goal.natural-requires
-natural-requires c = omega arith
-
-pub returns-then-natural-eq31 : goal.returns-then-natural-eq31
-returns-then-natural-eq31 c = λ e. absurd (false≢true (sym e))
-
-pub overflow_add-r : goal.overflow_add-r
-overflow_add-r c = omega arith
-
-pub loop-r-smaller : goal.loop-r-smaller
-loop-r-smaller c = omega arith
-
-pub loop-r-preserved : goal.loop-r-preserved
-loop-r-preserved c = below_more _ _ c.loop-r.invariant (λ e. c.if-natural-eq31.false (c.natural.ensures ∙ e))
-
 pub returns : goal.returns
-returns c = λ e k l. c.loop-r.invariant k (omega arith)
+returns c =
+    let rows = c.args.rows.now in
+    let n = row_count rows in
+    let found = any_from_yields_List (λ r. eqb (kind_at rows r) 31) _ _ c.any.result c.any.ensures.ran (YieldsList-from_range 0 n n refl (omega arith)) (λ x b q k. search (rules, tests)) in
+    λ e r l k. eqb-false (kind_at rows r) 31 (none-passes (λ r. eqb (kind_at rows r) 31) n (sym (any-found (λ r. eqb (kind_at rows r) 31) n) ∙ sym found ∙ e) r l) k

@@ -12,23 +12,6 @@ use Rattle.check_usage.proofs.Compared.{have-sets}
 use Rattle.check_usage.proofs.FirstClash.{par-tests, no_pairs}
 use Rattle.check_usage.proofs.in_par.Goals as goal
 
-pub natural-requires : goal.natural-requires
-natural-requires c = omega arith
-
-pub operand-requires : goal.operand-requires
-operand-requires c = omega arith
-
-pub members_of-count-requires : goal.members_of-count-requires
-members_of-count-requires c = omega arith
-
-pub slice_bounds-among-end : goal.slice_bounds-among-end
-slice_bounds-among-end c = omega arith
-
-pub slice_bounds-among-end-then-natural-eq31 : goal.slice_bounds-among-end-then-natural-eq31
-slice_bounds-among-end-then-natural-eq31 c =
-    let m = c.members_of-count in
-    omega (arith, length-take m.result m.new.members, m.ensures.0, m.auto.members, c.requires.2)
-
 pub among-requires : goal.among-requires
 among-requires c =
     let m = c.members_of-count in
@@ -36,9 +19,6 @@ among-requires c =
     let a = c.operand.result in
     let l = length-take m.result m.new.members in
     (omega (arith, l, m.ensures.0), omega (arith, l, m.ensures.0, c.requires.3), subst (λ (ps : List ℕ). HaveSets ps c.args.sets.now) (sym m.ensures.1) (have-sets rows c.args.sets.now c.requires.0.gathered.pars.0 (content_at rows a).listed (listed-stand rows a)))
-
-pub shape_of-members-then-natural-eq31 : goal.shape_of-members-then-natural-eq31
-shape_of-members-then-natural-eq31 c = omega arith
 
 pub returns-then-natural-eq31 : goal.returns-then-natural-eq31
 returns-then-natural-eq31 c =

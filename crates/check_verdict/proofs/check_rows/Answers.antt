@@ -6,4 +6,4 @@ use Rattle.meaning.proofs.AnswerLaws.{counted-rows}
 use Rattle.check_verdict.proofs.check_rows.Goals as goal
 
 pub returns : goal.returns
-returns c = ap (λ (x : Checked). x.verdict) (c.check_rows_counted-c.ensures ∙ counted-rows _)
+returns c = ap (λ (x : Checked). x.verdict) (c.check_rows_counted.ensures ∙ counted-rows _)

@@ -6,4 +6,4 @@ use Rattle.meaning.proofs.AnswerLaws.{counted-bytes}
 use Rattle.check_verdict.proofs.check_table.Goals as goal
 
 pub returns : goal.returns
-returns c = ap (λ (x : Checked). x.verdict) (c.check_table_counted-c.ensures ∙ counted-bytes _)
+returns c = ap (λ (x : Checked). x.verdict) (c.check_table_counted.ensures ∙ counted-bytes _)

@@ -11,7 +11,5 @@ use native.Mathlib.Omega.{arith}
 use Rattle.check_form.proofs.fields.first_form_fault_at.Given as goal
 
 abbrev pub invariant-loop-r : goal.invariant-loop-r
-invariant-loop-r l = (l.n ≡ row_count l.rows) × (l.r ≤ l.n) × ((j : ℕ) → j < l.r → form_fault_at l.rows l.d j ≡ false)
+invariant-loop-r l = (l.n ≡ row_count l.rows) × ((j : ℕ) → j < l.r → form_fault_at l.rows l.d j ≡ false)
 
-abbrev pub decreases-loop-r : goal.decreases-loop-r
-decreases-loop-r l = l.n - l.r

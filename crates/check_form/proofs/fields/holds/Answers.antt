@@ -7,6 +7,7 @@ use Rattle.meaning.specs.Basics.{inside}
 use Rattle.meaning.specs.Verdict.{may_hold}
 use Rattle.base_kinds.specs.Table.{field_meant}
 use Rattle.base_kinds.proofs.Sorts.{other-sort}
+use Rattle.base_rows.proofs.Signs.{no-bits}
 use borrow.Author.Rules.{rules}
 use native.Mathlib.Omega.{arith}
 use Rattle.check_form.proofs.FieldLaws.{value-inside}
@@ -61,4 +62,4 @@ unfolding may_hold
 returns-in_default c =
     let no = c.in_default.in_default-own.rest in
     rw (other-sort c.args.entry no.0.0.0.0.0.0.0.0.1 no.0.0.0.0.0.0.0.1 no.0.0.0.0.0.0.1 no.0.0.0.0.0.1 no.0.0.0.0.1 no.0.0.0.1 no.0.0.1 no.0.1 no.1)
-    (rw (to_z-of_z w32 c.args.z c.ranges.z) at c.same.ensures)
+    (no-bits c.args.z c.ranges.z)

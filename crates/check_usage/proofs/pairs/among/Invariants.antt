@@ -3,11 +3,8 @@ use Prim.Native.Nat.{◌+◌, ◌*◌, ◌-◌, ◌≤◌}
 use native.Mathlib.Omega.{arith}
 use lib.ListN.{length, drop}
 use Rattle.check_usage.specs.Search.{meet_by, tests_of, searched}
-use Rattle.check_usage.proofs.SearchLaws.{member-clashes, member-passes, member-most, no-member-left}
 use Rattle.check_usage.proofs.pairs.among.Given as goal
 
 abbrev pub invariant-loop-i : goal.invariant-loop-i
 invariant-loop-i l = (searched l.before (tests_of (meet_by l.sets l.number) l.members) ≡ searched l.pairs (tests_of (meet_by l.sets l.number) (drop l.i l.members))) × (l.pairs ≤ l.before + 1024 * l.i)
 
-abbrev pub decreases-loop-i : goal.decreases-loop-i
-decreases-loop-i l = length l.members - l.i

@@ -1,37 +1,40 @@
--- The bytes' own refusal, or that of the rows read, for all of which there is room. Assumes nothing.
-use mathlib.Core.Path.{sym, ◌∙◌}
+-- The bytes' own refusal, or that of the rows read, if there is room for them. Assumes nothing.
+use mathlib.Core.Path.{refl, sym, ◌∙◌}
 use native.Mathlib.Omega.{arith}
 use lib.Seq.{length-take-le}
 use borrow.Author.Rules.{rules}
 use Rattle.read_table.proofs.RowsRead.{RowsRead, refused-read, rows-read, never-full}
 use Rattle.check_verdict.proofs.Verdicts.{bytes-refused, rows-judged}
-use Rattle.check_verdict.proofs.check_large.Goals as goal
+use Rattle.check_verdict.proofs.check_in.Goals as goal
 
-pub overflow_mul-large : goal.overflow_mul-large
-overflow_mul-large c =
+pub overflow_mul-n : goal.overflow_mul-n
+overflow_mul-n c =
     let read : RowsRead c.args.table.now c.read_table.new.rows c.in-Rows.n = rows-read _ _ _ _ c.read_table.ensures _ c.in-Rows.is in
     let few = (read).few in omega arith
 
-pub slice_bounds-large-end : goal.slice_bounds-large-end
-slice_bounds-large-end c =
+pub slice_bounds-check_rows_counted-end : goal.slice_bounds-check_rows_counted-end
+slice_bounds-check_rows_counted-end c =
     let read : RowsRead c.args.table.now c.read_table.new.rows c.in-Rows.n = rows-read _ _ _ _ c.read_table.ensures _ c.in-Rows.is in
     (read).fits
 
-pub slice_bounds-check_rows_counted-end : goal.slice_bounds-check_rows_counted-end
-slice_bounds-check_rows_counted-end c =
+pub slice_bounds-check_rows_counted-end-in-Rows : goal.slice_bounds-check_rows_counted-end-in-Rows
+slice_bounds-check_rows_counted-end-in-Rows c =
     let read : RowsRead c.args.table.now c.read_table.new.rows c.in-Rows.n = rows-read _ _ _ _ c.read_table.ensures _ c.in-Rows.is in
     sym (length-take-le _ _ (read).fits)
 
 pub returns-in-Refused : goal.returns-in-Refused
 returns-in-Refused c =
     let table = c.args.table.now in
-    c.refused.ensures ∙ bytes-refused table c.in-Refused.number c.in-Refused.place (refused-read table _ _ _ c.read_table.ensures c.in-Refused.number c.in-Refused.place c.in-Refused.is)
+    record {
+      checked = c.refused.ensures ∙ bytes-refused table c.in-Refused.number c.in-Refused.place (refused-read table _ _ _ c.read_table.ensures c.in-Refused.number c.in-Refused.place c.in-Refused.is);
+      room = λ l. refl;
+    }
 
 pub returns-in-Rows : goal.returns-in-Rows
 returns-in-Rows c =
     let read : RowsRead c.args.table.now c.read_table.new.rows c.in-Rows.n = rows-read _ _ _ _ c.read_table.ensures _ c.in-Rows.is in
     let r = read in
-    (rw r.rows_are at c.check_rows_counted.ensures) ∙ rows-judged _ r.no-fault
+    record { checked = (rw r.rows_are at c.check_rows_counted.ensures) ∙ rows-judged _ r.no-fault; room = λ l. refl }
 
 pub returns-in-Full : goal.returns-in-Full
-returns-in-Full c = absurd (never-full _ _ _ _ c.read_table.ensures (omega arith) c.in-Full.is)
+returns-in-Full c = record { checked = tt; room = λ l. absurd (never-full _ _ _ _ c.read_table.ensures l c.in-Full.is) }
