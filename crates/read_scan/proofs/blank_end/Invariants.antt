@@ -9,6 +9,3 @@ use Rattle.read_scan.proofs.blank_end.Given as goal
 
 abbrev pub invariant-loop-at : goal.invariant-loop-at
 invariant-loop-at l = l.at + blanks (drop l.at l.line) ≡ l.from + blanks (drop l.from l.line)
-
-abbrev pub decreases-loop-at : goal.decreases-loop-at
-decreases-loop-at l = length l.line - l.at

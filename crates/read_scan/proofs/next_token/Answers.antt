@@ -35,21 +35,19 @@ slice_bounds-token_of-end c =
     let from = c.blank_end-from.result in
     (to-within line from c.chunk_end-to.result c.if-line-from.false (looked-for line from c.reach-end.result c.chunk_end-to.result c.reach-end.ensures c.chunk_end-to.ensures)).1
 
-pub returns-then-found-eq-NO_TOKEN : goal.returns-then-found-eq-NO_TOKEN
-returns-then-found-eq-NO_TOKEN c =
+pub returns-in-Some : goal.returns-in-Some
+returns-in-Some c =
     let a = c.args in
     let line = a.line.now in
     let from = c.blank_end-from.result in
-    c.none_at-then-found-eq-NO_TOKEN.ensures
-    ∙ next-none line a.at from c.blank_end-from.ensures c.chunk_end-to.result c.token_of-found.result c.if-line-from.false
-    (looked-for line from c.reach-end.result c.chunk_end-to.result c.reach-end.ensures c.chunk_end-to.ensures) c.token_of-found.ensures c.if-found-eq-NO_TOKEN.true
+    next-there line a.at from c.blank_end-from.ensures c.chunk_end-to.result c.if-line-from.false
+    (looked-for line from c.reach-end.result c.chunk_end-to.result c.reach-end.ensures c.chunk_end-to.ensures) c.in-Some.token (sym c.in-Some.is ∙ c.token_of.ensures)
 
-pub returns : goal.returns
-returns c =
+pub returns-in-None : goal.returns-in-None
+returns-in-None c =
     let a = c.args in
     let line = a.line.now in
     let from = c.blank_end-from.result in
-    let fits : SFits w32 c.token_of-found.result.value = search rules in
-    rw (to_z-of_z w32 _ fits)
-    (next-there line a.at from c.blank_end-from.ensures c.chunk_end-to.result c.token_of-found.result c.if-line-from.false
-    (looked-for line from c.reach-end.result c.chunk_end-to.result c.reach-end.ensures c.chunk_end-to.ensures) c.token_of-found.ensures c.if-found-eq-NO_TOKEN.false)
+    c.none_at-in-None.ensures
+    ∙ next-none line a.at from c.blank_end-from.ensures c.chunk_end-to.result c.if-line-from.false
+    (looked-for line from c.reach-end.result c.chunk_end-to.result c.reach-end.ensures c.chunk_end-to.ensures) (sym c.in-None.is ∙ c.token_of.ensures)
