@@ -52,10 +52,7 @@ const RULES: [[u8; 3]; 28] = [
 fn rule_at(rules: &[[u8; 3]], sort: usize) -> [u8; 3]
     ensures { result ≡ rule_at rules.now sort }
 {
-    if rules.len() <= sort {
-        return NONE;
-    }
-    rules[sort]
+    rules.get(sort).copied().unwrap_or(NONE)
 }
 
 // The class of a line, by its first mark and what stands before and after it.
@@ -63,15 +60,12 @@ fn class_by_mark(sort: u8, before: &[u8], after: &[u8]) -> u8
     requires { (length before.now ≤ 32768) × (length after.now ≤ 32768) }
     ensures { result ≡ class_by_mark sort before.now after.now }
 {
-    let rules = RULES;
-    let rule = rule_at(&rules, sort as usize);
-    if !parts::is_part(rule[0], before) {
-        return NO_LINE;
+    let [asked_before, asked_after, class] = rule_at(&RULES, usize::from(sort));
+    if parts::is_part(asked_before, before) && parts::is_part(asked_after, after) {
+        class
+    } else {
+        NO_LINE
     }
-    if !parts::is_part(rule[1], after) {
-        return NO_LINE;
-    }
-    rule[2]
 }
 
 // The class of a line, from the sorts of its tokens.

@@ -40,58 +40,47 @@ const NUMBERED_SORTS: [u8; 3] = [sorts::NUMBER, sorts::NAME, sorts::COLON];
 pub fn first_mark(sorts: &[u8]) -> usize
     ensures { result ≡ mark_at sorts.now }
 {
-    let mut at: usize = 0;
-    while at < sorts.len() {
-        if sorts::SKIP <= sorts[at] {
+    for (at, sort) in sorts.iter().enumerate() {
+        if sorts::SKIP <= *sort {
             return at;
         }
-        at += 1;
     }
-    at
+    sorts.len()
 }
 
 // Whether a part has no token.
 fn is_nothing(part: &[u8]) -> bool
     ensures { result ≡ is_empty part.now }
 {
-    part.len() == 0
+    part.is_empty()
 }
 
 // Whether a part is a size or nothing.
 fn is_size(part: &[u8]) -> bool
     ensures { result ≡ size_in part.now }
 {
-    if is_nothing(part) {
-        return true;
-    }
-    let expected = SIZE_SORTS;
-    scan::same(part, &expected)
+    is_nothing(part) || scan::same(part, &SIZE_SORTS)
 }
 
 // Whether a part is a name and a colon.
 fn is_named(part: &[u8]) -> bool
     ensures { result ≡ named_in part.now }
 {
-    let expected = NAMED_SORTS;
-    scan::same(part, &expected)
+    scan::same(part, &NAMED_SORTS)
 }
 
 // Whether a part is a number, a name and a colon.
 fn is_numbered(part: &[u8]) -> bool
     ensures { result ≡ numbered_in part.now }
 {
-    let expected = NUMBERED_SORTS;
-    scan::same(part, &expected)
+    scan::same(part, &NUMBERED_SORTS)
 }
 
 // Whether there is nothing before and after a mark.
 fn is_alone(before: &[u8], after: &[u8]) -> bool
     ensures { result ≡ alone_in before.now after.now }
 {
-    if !is_nothing(before) {
-        return false;
-    }
-    is_nothing(after)
+    is_nothing(before) && is_nothing(after)
 }
 
 // Whether there is an element before and after a mark.
@@ -99,10 +88,7 @@ fn is_exchange(before: &[u8], after: &[u8]) -> bool
     requires { (length before.now ≤ 32768) × (length after.now ≤ 32768) }
     ensures { result ≡ exchange_in before.now after.now }
 {
-    if !read_shapes::is_element(before) {
-        return false;
-    }
-    read_shapes::is_element(after)
+    read_shapes::is_element(before) && read_shapes::is_element(after)
 }
 
 // Whether a part is what a guard waits for: SKIP, or an input.
@@ -116,8 +102,7 @@ fn is_event(part: &[u8]) -> bool
     }
     let before = &part[..at];
     let after = &part[at + 1..];
-    let sort = part[at];
-    match sort {
+    match part[at] {
         sorts::SKIP => is_alone(before, after),
         sorts::ASKS => is_exchange(before, after),
         _ => false,

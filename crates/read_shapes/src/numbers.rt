@@ -9,9 +9,6 @@ pub const HAS: u8 = 1;
 // a bare name has been read so far
 pub const HAS_NAME: u8 = 2;
 
-// the tokens have failed
-pub const STOPPED: u8 = 3;
-
 // an operator may follow the operand
 pub const INITIAL: u8 = 0;
 

@@ -1,24 +1,12 @@
--- The tests in turn. Assumes nothing.
-use mathlib.Core.Path.{ap}
-use mathlib.Core.Bool.{not}
-use Rattle.read_classes.specs.Rules.{rules}
-use Rattle.read_classes.proofs.RuleSteps.{refused-before, refused-after, accepted}
+use Rattle.std.proofs.Common.{rules, ◌≡◌, ◌≤◌, length, ℕ, ◌+◌, ◌-◌, ◌*◌, ◌<◌, ◌/◌, ◌%◌, Bool, true, false, nat_eq, nat_lt, List, [], ◌∷◌, ◌++◌, slice_index_or, slice_set, bit_and, bit_or, Fits, w8, w32, w64, Bor, MutBor}
+use Rattle.read_classes.specs.Rules.{rule_at, class_by_mark}
+use Rattle.read_classes.specs.LineClasses.{class_by_sorts}
 use Rattle.read_classes.proofs.class_by_mark.Goals as goal
 
-pub returns-then-not-is_part : goal.returns-then-not-is_part
-unfolding rules
-returns-then-not-is_part c =
-    let a = c.args in
-    refused-before a.sort a.before.now a.after.now c.rule_at-rule.result c.rule_at-rule.ensures c.is_part.result c.is_part.ensures (ap not c.if-not-is_part.true)
+-- src/lib.rt:59:1
+pub returns-then-is_part-2 : goal.returns-then-is_part-2
+returns-then-is_part-2 c = ?
 
-pub returns-then-not-is_part-2 : goal.returns-then-not-is_part-2
-unfolding rules
-returns-then-not-is_part-2 c =
-    let a = c.args in
-    refused-after a.sort a.before.now a.after.now c.rule_at-rule.result c.rule_at-rule.ensures c.is_part.result c.is_part.ensures (ap not c.if-not-is_part.false) c.is_part-2.result c.is_part-2.ensures (ap not c.if-not-is_part-2.true)
-
-pub returns : goal.returns
-unfolding rules
-returns c =
-    let a = c.args in
-    accepted a.sort a.before.now a.after.now c.rule_at-rule.result c.rule_at-rule.ensures c.is_part.result c.is_part.ensures (ap not c.if-not-is_part.false) c.is_part-2.result c.is_part-2.ensures (ap not c.if-not-is_part-2.false)
+-- src/lib.rt:59:1
+pub returns-else-is_part : goal.returns-else-is_part
+returns-else-is_part c = ?

@@ -52,4 +52,4 @@ pub returns-in_default : goal.returns-in_default
 returns-in_default c =
     let a = c.args in
     let n = c.in_default.in_default-own.rest in
-    c.stop.ensures ∙ having-other a.mode a.kind a.depth a.top a.sort n.0.0.0.0.0.0.1 n.0.0.0.0.0.1 n.0.0.0.0.1 n.0.0.0.1 n.0.0.1 n.0.1 n.1
+    having-other a.mode a.kind a.depth a.top a.sort n.0.0.0.0.0.0.1 n.0.0.0.0.0.1 n.0.0.0.0.1 n.0.0.0.1 n.0.0.1 n.0.1 n.1

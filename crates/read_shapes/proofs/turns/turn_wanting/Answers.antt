@@ -1,6 +1,8 @@
 -- By the sort. Assumes nothing.
 use mathlib.Core.Path.{sym, ap, ◌∙◌}
 use Prim.Native.Nat.{ℕ}
+use Rattle.std.specs.Prelude.{Some}
+use Rattle.read_shapes.specs.declared.Turn.{Turn}
 use borrow.Author.Rules.{rules}
 use Rattle.read_shapes.specs.Turns.{unless_element_turn, if_initial_turn, turn_wanting}
 use Rattle.read_shapes.proofs.TurnSteps.{wanting-other}
@@ -10,7 +12,7 @@ pub returns-in-1 : goal.returns-in-1
 unfolding turn_wanting
 returns-in-1 c =
     let a = c.args in
-    c.keep.ensures ∙ ap (λ (n : ℕ). turn_wanting a.kind a.depth n) (sym c.in-1.is)
+    ap (λ (t : Turn). Some t) c.keep.ensures ∙ ap (λ (n : ℕ). turn_wanting a.kind a.depth n) (sym c.in-1.is)
 
 pub returns-in-2 : goal.returns-in-2
 unfolding turn_wanting
@@ -46,4 +48,4 @@ pub returns-in_default : goal.returns-in_default
 returns-in_default c =
     let a = c.args in
     let n = c.in_default.in_default-own.rest in
-    c.stop.ensures ∙ wanting-other a.kind a.depth a.sort n.0.0.0.0.0.1 n.0.0.0.0.1 n.0.0.0.1 n.0.0.1 n.0.1 n.1
+    wanting-other a.kind a.depth a.sort n.0.0.0.0.0.1 n.0.0.0.0.1 n.0.0.0.1 n.0.0.1 n.0.1 n.1
