@@ -1,12 +1,27 @@
-use Rattle.std.proofs.Common.{rules, ◌≡◌, ◌≤◌, length, ℕ, ◌+◌, ◌-◌, ◌*◌, ◌<◌, ◌/◌, ◌%◌, Bool, true, false, nat_eq, nat_lt, List, [], ◌∷◌, ◌++◌, slice_index_or, slice_set, bit_and, bit_or, Fits, w8, w32, w64, Bor, MutBor}
-use Rattle.read_classes.specs.Rules.{rule_at, class_by_mark}
-use Rattle.read_classes.specs.LineClasses.{class_by_sorts}
+-- The two tests in turn, by the rule of the sort. Assumes nothing.
+use mathlib.Core.Path.{sym, ap, ◌∙◌}
+use Prim.Native.Nat.{ℕ}
+use Rattle.read_classes.specs.Rules.{rules, rule_at}
+use Rattle.read_classes.proofs.RuleSteps.{refused-before, refused-after, accepted}
 use Rattle.read_classes.proofs.class_by_mark.Goals as goal
+use Rattle.read_classes.proofs.class_by_mark.Goals.{else-is_part-via-then-is_part+else-is_part-2, else-is_part-via-else-is_part}
 
--- src/lib.rt:59:1
 pub returns-then-is_part-2 : goal.returns-then-is_part-2
-returns-then-is_part-2 c = ?
+unfolding rules
+returns-then-is_part-2 c =
+    let a = c.args in
+    accepted a.sort a.before.now a.after.now c.rule_at.result (c.rule_at.ensures ∙ ap (λ (n : ℕ). rule_at rules n) c.from.ensures)
+    (sym c.if-is_part.ensures) (sym c.if-is_part-2.ensures)
 
--- src/lib.rt:59:1
 pub returns-else-is_part : goal.returns-else-is_part
-returns-else-is_part c = ?
+unfolding rules
+returns-else-is_part c =
+    let a = c.args in
+    elim c.else-is_part.branch [
+      else-is_part-via-then-is_part+else-is_part-2 w ↦
+        refused-after a.sort a.before.now a.after.now c.rule_at.result (c.rule_at.ensures ∙ ap (λ (n : ℕ). rule_at rules n) c.from.ensures)
+        (sym w.if-is_part.ensures) (sym w.if-is_part-2.ensures)
+    | else-is_part-via-else-is_part w ↦
+        refused-before a.sort a.before.now a.after.now c.rule_at.result (c.rule_at.ensures ∙ ap (λ (n : ℕ). rule_at rules n) c.from.ensures)
+        (sym w.if-is_part.ensures)
+    ]
