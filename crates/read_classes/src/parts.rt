@@ -6,26 +6,18 @@ ghost use Rattle.read_classes.specs.Rules.{is_empty, size_in, named_in, numbered
 use read_table::scan;
 use read_tokens::sorts;
 
-// What a part may be: nothing.
-pub const NOTHING: u8 = 0;
-
-// an expression
-pub const PHRASE: u8 = 1;
-
-// an element
-pub const ELEMENT: u8 = 2;
-
-// a size, or nothing
-pub const SIZE: u8 = 3;
-
-// a name and a colon
-pub const NAMED: u8 = 4;
-
-// a number, a name and a colon
-pub const NUMBERED: u8 = 5;
-
-// what a guard waits for: SKIP, or an input
-pub const EVENT: u8 = 6;
+// What a part of a line may be: nothing; an expression; an element; a size, or nothing; a name and a colon; a number, a name and a colon; what a guard waits for,
+// SKIP or an input.
+#[derive(Clone, Copy)]
+pub enum Part {
+    Nothing,
+    Phrase,
+    Element,
+    Size,
+    Named,
+    Numbered,
+    Event,
+}
 
 // The sorts of a size's tokens.
 const SIZE_SORTS: [u8; 3] = [sorts::SQUARE_OPEN, sorts::NUMBER, sorts::SQUARE_CLOSE];
@@ -37,6 +29,7 @@ const NAMED_SORTS: [u8; 2] = [sorts::NAME, sorts::COLON];
 const NUMBERED_SORTS: [u8; 3] = [sorts::NUMBER, sorts::NAME, sorts::COLON];
 
 // The place of the first mark; the number of tokens if there is none.
+// kept: the theorem `PartedAt` and the definition `mark_at` have that number where no mark is.
 pub fn first_mark(sorts: &[u8]) -> usize
     ensures { result ≡ mark_at sorts.now }
 {
@@ -110,18 +103,18 @@ fn is_event(part: &[u8]) -> bool
 }
 
 // Whether a part is what is asked for.
-pub fn is_part(asked: u8, part: &[u8]) -> bool
+#[tactic(auto, unfolding(crate::specs::Rules::part_is))]
+pub fn is_part(asked: Part, part: &[u8]) -> bool
     requires { length part.now ≤ 32768 }
     ensures { result ≡ part_is asked part.now }
 {
     match asked {
-        NOTHING => is_nothing(part),
-        PHRASE => read_shapes::is_phrase(part),
-        ELEMENT => read_shapes::is_element(part),
-        SIZE => is_size(part),
-        NAMED => is_named(part),
-        NUMBERED => is_numbered(part),
-        EVENT => is_event(part),
-        _ => false,
+        Part::Nothing => is_nothing(part),
+        Part::Phrase => read_shapes::is_phrase(part),
+        Part::Element => read_shapes::is_element(part),
+        Part::Size => is_size(part),
+        Part::Named => is_named(part),
+        Part::Numbered => is_numbered(part),
+        Part::Event => is_event(part),
     }
 }

@@ -10,7 +10,7 @@ pub returns-then-is_part-2 : goal.returns-then-is_part-2
 unfolding rules
 returns-then-is_part-2 c =
     let a = c.args in
-    accepted a.sort a.before.now a.after.now c.rule_at.result (c.rule_at.ensures ∙ ap (λ (n : ℕ). rule_at rules n) c.from.ensures)
+    accepted a.sort a.before.now a.after.now c.rule_at-asked_before.result (c.rule_at-asked_before.ensures ∙ ap (λ (n : ℕ). rule_at rules n) c.from.ensures)
     (sym c.if-is_part.ensures) (sym c.if-is_part-2.ensures)
 
 pub returns-else-is_part : goal.returns-else-is_part
@@ -19,9 +19,9 @@ returns-else-is_part c =
     let a = c.args in
     elim c.else-is_part.branch [
       else-is_part-via-then-is_part+else-is_part-2 w ↦
-        refused-after a.sort a.before.now a.after.now c.rule_at.result (c.rule_at.ensures ∙ ap (λ (n : ℕ). rule_at rules n) c.from.ensures)
+        refused-after a.sort a.before.now a.after.now c.rule_at-asked_before.result (c.rule_at-asked_before.ensures ∙ ap (λ (n : ℕ). rule_at rules n) c.from.ensures)
         (sym w.if-is_part.ensures) (sym w.if-is_part-2.ensures)
     | else-is_part-via-else-is_part w ↦
-        refused-before a.sort a.before.now a.after.now c.rule_at.result (c.rule_at.ensures ∙ ap (λ (n : ℕ). rule_at rules n) c.from.ensures)
+        refused-before a.sort a.before.now a.after.now c.rule_at-asked_before.result (c.rule_at-asked_before.ensures ∙ ap (λ (n : ℕ). rule_at rules n) c.from.ensures)
         (sym w.if-is_part.ensures)
     ]
