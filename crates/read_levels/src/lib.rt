@@ -17,6 +17,7 @@ struct Step {
 }
 
 // The line may not stand there.
+// kept: a byte of the two tables (the definition `beneath_table`), which `step_at` turns into none.
 const NONE: u8 = 7;
 
 // What is expected beneath a line, by number. A row for what is expected where it stands; in a row first no line, and then the line's class: a variable's
@@ -96,6 +97,7 @@ fn step_at(stack: &[u8], depth: usize, level: usize, class: u8) -> Option<Step>
 }
 
 // The lines of a text, listed. The stack is for what is expected at each level, the shallowest first.
+// kept: the lists are lent apart, since there is no heap; the records `Room` and `OutlineRead` say all of them at once.
 fn outline_with(
     text: &[u8],
     kinds: &mut [u8],
@@ -113,6 +115,7 @@ fn outline_with(
     let mut count: usize = 0;
     let mut first: usize = 0;
     let mut at: usize = 0;
+    // kept: the place goes on by the bytes of a line, not by one
     while at < text.len() {
         let fault = (count + 1) as u32;
         let line = read_lines::list_line(text, at, first, sorts, values).ok_or(fault)?;

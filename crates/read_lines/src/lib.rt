@@ -67,6 +67,7 @@ pub fn list_line(
     let level = indent(text, at);
     let mut place = at + 2 * level;
     let mut count = first;
+    // kept: the place goes on by the bytes of a token, not by one
     while place < text.len() {
         let next = read_scan::next_token(text, place);
         let Some(token) = next.token else {

@@ -33,6 +33,7 @@ fn listed(text: &[u8], from: usize, size: usize) -> &[u8]
 }
 
 // Chains the listed names by their keys, from the last to the first.
+// kept: a map needs a heap; the chains are lent lists, and a name is found in those of its key.
 pub fn index(text: &[u8], froms: &[u16], sizes: &[u8], heads: &mut [u16], nexts: &mut [u16])
     requires { (length froms.now ≡ length sizes.now) × (length froms.now ≤ 32768) × (length froms.now ≤ length nexts.old) × (heads.old ≡ replicate key_limit 0) }
     ensures { Indexed (names_at text.now froms.now sizes.now) heads.new nexts.new × (length nexts.new ≡ length nexts.old) }

@@ -1,4 +1,5 @@
 // States and kinds by number.
+// kept: a kind stands in a byte of the stack, with 8 more for a square bracket (the definition `opening_at`), so that the longest stack has 32,769 bytes.
 
 // an operand is wanted
 pub const WANTS: u8 = 0;

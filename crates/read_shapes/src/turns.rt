@@ -100,6 +100,7 @@ fn square_on(mode: u8, kind: u8, depth: usize) -> Option<Turn>
 }
 
 // A token where an operand is wanted.
+#[tactic(auto, unfolding(crate::specs::Turns::turn_wanting))]
 fn turn_wanting(kind: u8, depth: usize, sort: u8) -> Option<Turn>
     requires { depth < 32768 }
     ensures { result ≡ turns.turn_wanting kind depth sort }
@@ -116,6 +117,7 @@ fn turn_wanting(kind: u8, depth: usize, sort: u8) -> Option<Turn>
 }
 
 // A token after an operand.
+#[tactic(auto, unfolding(crate::specs::Turns::turn_having))]
 fn turn_having(mode: u8, kind: u8, depth: usize, top: u8, sort: u8) -> Option<Turn>
     requires { (kind < 8) × (depth < 32768) }
     ensures { result ≡ turns.turn_having mode kind depth top sort }
@@ -133,6 +135,7 @@ fn turn_having(mode: u8, kind: u8, depth: usize, top: u8, sort: u8) -> Option<Tu
 }
 
 // What a token does.
+#[tactic(auto, unfolding(crate::specs::Turns::turn_of))]
 pub fn turn(mode: u8, kind: u8, depth: usize, top: u8, sort: u8) -> Option<Turn>
     requires { (kind < 8) × (depth < 32768) }
     ensures { result ≡ turns.turn_of mode kind depth top sort }

@@ -9,6 +9,7 @@ use crate::Lexeme;
 use crate::sorts::*;
 use read_table::scan;
 
+// kept: a table for each first letter, so that a word is compared with three spellings at most; rows of bytes, as the definition `lexeme_in` has them.
 // The words that begin with A. A line is a spelling with zeros behind it, how many bytes the spelling has, the token's sort and its value.
 const WORDS_A: [[u8; 10]; 2] = [
     [b'A', b'L', b'T', 0, 0, 0, 0, 3, ALT, 0],
