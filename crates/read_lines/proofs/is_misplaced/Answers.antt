@@ -15,17 +15,17 @@ overflow_sub-at c = let h = c.requires.0 (c.if-begun.true) in omega (arith, h)
 pub returns-then-is_word_byte : goal.returns-then-is_word_byte
 returns-then-is_word_byte c =
     elim c.if-begun.branch [
-      then-begun w ↦
-        c.is_word_byte-then-is_word_byte.ensures
-        ∙ rw (le-ltb _ _ c.if-at-from.false, w.if-begun.true, sym w.is_word_byte.ensures ∙ sym w.value-is ∙ c.if-is_word_byte.true)
-    | else-begun w ↦ absurd (false≢true (sym w.if-begun.false ∙ sym w.value-is ∙ c.if-is_word_byte.true))
+      | then-begun w ↦
+          c.is_word_byte-then-is_word_byte.ensures
+          ∙ rw (le-ltb _ _ c.if-at-from.false, w.if-begun.true, sym w.is_word_byte.ensures ∙ sym w.value-is ∙ c.if-is_word_byte.true)
+      | else-begun w ↦ absurd (false≢true (sym w.if-begun.false ∙ sym w.value-is ∙ c.if-is_word_byte.true))
     ]
 
 pub returns-else-is_word_byte : goal.returns-else-is_word_byte
 returns-else-is_word_byte c =
     elim c.if-begun.branch [
-      then-begun w ↦
-        c.if-is_word_byte.false
-        ∙ rw (le-ltb _ _ c.if-at-from.false, w.if-begun.true, sym w.is_word_byte.ensures ∙ sym w.value-is ∙ c.if-is_word_byte.false)
-    | else-begun w ↦ c.if-is_word_byte.false ∙ rw (le-ltb _ _ c.if-at-from.false, w.if-begun.false)
+      | then-begun w ↦
+          c.if-is_word_byte.false
+          ∙ rw (le-ltb _ _ c.if-at-from.false, w.if-begun.true, sym w.is_word_byte.ensures ∙ sym w.value-is ∙ c.if-is_word_byte.false)
+      | else-begun w ↦ c.if-is_word_byte.false ∙ rw (le-ltb _ _ c.if-at-from.false, w.if-begun.false)
     ]

@@ -1,10 +1,6 @@
 -- The loop keeps where the spaces end. Assumes nothing.
-use mathlib.Core.Path.{◌≡◌, refl, ◌∙◌}
-use Prim.Native.Nat.{◌+◌, ◌-◌}
+use mathlib.Core.Path.{refl, ◌∙◌}
 use native.Mathlib.Omega.{arith}
-use borrow.Author.Rules.{rules}
-use lib.ListN.{length, drop}
-use Rattle.read_scan.specs.Nexts.{blanks}
 use Rattle.read_scan.proofs.BlankSteps.{blanks-ended, blanks-stop, blanks-go-on}
 use Rattle.read_scan.proofs.blank_end.Goals as goal
 

@@ -3,12 +3,8 @@ use mathlib.Core.Path.{◌≡◌, sym, ap, ◌∙◌}
 use mathlib.Core.List.{List}
 use Prim.Native.Nat.{ℕ, ◌+◌}
 use native.Mathlib.Omega.{arith}
-use mir.Syntax.{w32}
-use mir.Val.{SFits}
-use mir.ValLaws.{to_z-of_z}
 use lib.ListN.{take, drop}
 use lib.Seq.{length-take-le}
-use borrow.Author.Rules.{rules}
 use Rattle.read_tokens.specs.Chunks.{chunk_size}
 use Rattle.read_scan.specs.Nexts.{reach_from}
 use Rattle.read_scan.proofs.NextSteps.{reach-within, to-within, next-past-end, next-none, next-there}

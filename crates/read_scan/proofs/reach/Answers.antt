@@ -1,5 +1,4 @@
 -- By how many bytes are left. Assumes nothing.
-use borrow.Author.Rules.{rules}
 use borrow.Author.Tests.{lt-ltb, le-ltb}
 use Rattle.read_scan.proofs.reach.Goals as goal
 

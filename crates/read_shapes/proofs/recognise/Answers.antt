@@ -27,7 +27,7 @@ loop-sort-preserved c =
       omega (arith, d.1, l.invariant.0),
       d.0,
       sym (turn-goes-on c.args.sorts.now l.stack l.mode l.kind l.depth l.sort-index c.loop-sort-test.true c.turn.result c.turn.ensures room l.invariant.1 c.in-Some.turn c.in-Some.is)
-      ∙ l.invariant.2,
+          ∙ l.invariant.2,
     )
 
 pub returns : goal.returns
