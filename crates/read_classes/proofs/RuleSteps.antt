@@ -9,20 +9,7 @@ use lib.Dec.{eqb}
 use borrow.Author.Tests.{ne_eqb, not-true, not-false}
 use Rattle.meaning.specs.Basics.{if_else}
 use Rattle.read_tokens.specs.Sorts as sorts
-use Rattle.read_classes.specs.Rules.{is_empty, alone_in, exchange_in, event_by_mark, part_is, rules, rule_at, class_by_rule, class_by_mark}
-
--- whether there is no token, by their number
-pub nothing-told : (ss : List ℕ) → eqb (length ss) 0 ≡ is_empty ss
-nothing-told [] = refl
-nothing-told (s ∷ ss) = ne_eqb (suc (length ss)) 0 (λ e. omega (arith, e))
-
--- the first of two tests fails
-pub first-fails : {t b : Bool} (c : Bool) → t ≡ b → not t ≡ true → false ≡ b && c
-first-fails {t = t} c e h = ap (λ (x : Bool). x && c) (sym (not-true t h) ∙ e)
-
--- it holds: the second decides
-pub first_holds : {t b u c : Bool} → t ≡ b → not t ≡ false → u ≡ c → u ≡ b && c
-first_holds {t = t} {u = u} e h f = ap₂ (λ (x y : Bool). x && y) (sym (not-false t h) ∙ e) f
+use Rattle.read_classes.specs.Rules.{is_empty, alone_in, exchange_in, event_by_mark, Rule, part_is, rules, rule_at, class_by_rule, class_by_mark}
 
 module _ (s : ℕ) (bs cs : List ℕ) where
   -- SKIP
@@ -37,27 +24,24 @@ module _ (s : ℕ) (bs cs : List ℕ) where
   pub event-other : (s ≡ sorts.skip → ⊥) → (s ≡ sorts.asks → ⊥) → false ≡ event_by_mark s bs cs
   event-other n m = rw (ne_eqb s sorts.skip n, ne_eqb s sorts.asks m)
 
--- nothing else is asked for
-pub part-other : (k : ℕ) (ss : List ℕ) → (k ≡ 0 → ⊥) → (k ≡ 1 → ⊥) → (k ≡ 2 → ⊥) → (k ≡ 3 → ⊥) → (k ≡ 4 → ⊥) → (k ≡ 5 → ⊥) → (k ≡ 6 → ⊥) → false ≡ part_is k ss
-unfolding part_is
-part-other k ss a b c d e f g = rw (ne_eqb k 0 a, ne_eqb k 1 b, ne_eqb k 2 c, ne_eqb k 3 d, ne_eqb k 4 e, ne_eqb k 5 f, ne_eqb k 6 g)
-
-module _ (s : ℕ) (bs cs : List ℕ) (r : List ℕ) (is : r ≡ rule_at rules s) where
+module _ (s : ℕ) (bs cs : List ℕ) (r : Rule) (is : r ≡ rule_at rules s) where
   -- by the rule of the sort
   by-rule : class_by_rule r bs cs ≡ class_by_mark s bs cs
   unfolding class_by_mark
-  by-rule = ap (λ (x : List ℕ). class_by_rule x bs cs) is
+  by-rule = ap (λ (x : Rule). class_by_rule x bs cs) is
 
-  module _ (t : Bool) (first : t ≡ part_is (get_or r 0 0) bs) where
-    -- what stands before is not what is asked for
-    pub refused-before : not t ≡ true → 0 ≡ class_by_mark s bs cs
-    refused-before h = ap (λ (b : Bool). if_else b (get_or r 2 0) 0) (first-fails (part_is (get_or r 1 0) cs) first h) ∙ by-rule
+  -- what stands before is not what is asked for
+  pub refused-before : part_is r.0 bs ≡ false → 0 ≡ class_by_mark s bs cs
+  refused-before h = sym (ap (λ (b : Bool). if_else (b && part_is r.1 cs) r.2 0) h) ∙ by-rule
 
-    module _ (taken : not t ≡ false) (u : Bool) (second : u ≡ part_is (get_or r 1 0) cs) where
-      -- what stands after is not
-      pub refused-after : not u ≡ true → 0 ≡ class_by_mark s bs cs
-      refused-after h = ap (λ (b : Bool). if_else b (get_or r 2 0) 0) (sym (not-true u h) ∙ first_holds first taken second) ∙ by-rule
+  module _ (first : part_is r.0 bs ≡ true) where
+    by-second : (t : Bool) → part_is r.1 cs ≡ t → if_else t r.2 0 ≡ class_by_mark s bs cs
+    by-second t h = sym (ap₂ (λ (b c : Bool). if_else (b && c) r.2 0) first h) ∙ by-rule
 
-      -- both are
-      pub accepted : not u ≡ false → get_or r 2 0 ≡ class_by_mark s bs cs
-      accepted h = ap (λ (b : Bool). if_else b (get_or r 2 0) 0) (sym (not-false u h) ∙ first_holds first taken second) ∙ by-rule
+    -- what stands after is not
+    pub refused-after : part_is r.1 cs ≡ false → 0 ≡ class_by_mark s bs cs
+    refused-after h = by-second false h
+
+    -- both are
+    pub accepted : part_is r.1 cs ≡ true → r.2 ≡ class_by_mark s bs cs
+    accepted h = by-second true h

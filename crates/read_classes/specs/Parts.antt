@@ -1,15 +1,16 @@
 -- The tokens of a line parted at its first mark.
 use Rattle.std.specs.Prelude.{◌≡◌, Bool, List, [], ◌∷◌, map, ℕ, suc, ◌≤◌, length, get_or, take, drop, leb}
-use Rattle.std.proofs.Math.Option.{Option, some}
+use Rattle.std.proofs.Math.Option.{Option, none, some}
 use Rattle.meaning.specs.Basics.{if_else}
 use Rattle.grammar.specs.Grammar.{Token, mark}
 use Rattle.grammar.specs.Lines.{Cut, uncut, parted, cut_at_mark}
 use Rattle.read_tokens.specs.Sorts as sorts
-use Rattle.read_tokens.specs.Lexemes.{lexeme_of}
+use Rattle.read_tokens.specs.Held.{token_sort}
 
 -- the sort of a token, or 0 where there is none
 abbrev pub sort_of : Option Token → ℕ
-sort_of o = (lexeme_of o).sort
+sort_of none = sorts.no_token
+sort_of (some t) = token_sort t
 
 -- whether a token is a mark
 abbrev pub is_mark : Option Token → Bool

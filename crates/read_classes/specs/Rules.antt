@@ -7,6 +7,8 @@ use Rattle.grammar.specs.Shapes.{initial, element}
 use Rattle.grammar.specs.Classes.{Class, variable-line, other-declaration, leaf, input-line, member-lines, choice-lines, option-lines, while-line, test-line, guard-line}
 use Rattle.read_tokens.specs.Sorts as sorts
 use Rattle.read_shapes.specs.Phrases.{phrase_in}
+use Rattle.read_classes.specs.declared.parts.Part.{Part}
+use Rattle.read_classes.specs.declared.parts.Part.TheVariants.{Nothing, Phrase, Element, Size, Named, Numbered, Event}
 use Rattle.read_classes.specs.ClassNumbers.{number_of, class_number}
 use Rattle.read_classes.specs.Parts.{mark_at}
 
@@ -47,61 +49,35 @@ event_by_mark s bs cs = if_else (eqb s sorts.skip) (alone_in bs cs) (if_else (eq
 abbrev pub event_in : List ℕ → Bool
 event_in ss = at_mark event_by_mark ss
 
--- What a part may be, by number ----------------------------------------------------------------------------------------------------
-
--- nothing
-abbrev pub asks_nothing : ℕ
-asks_nothing = 0
-
--- an expression
-abbrev pub asks_phrase : ℕ
-asks_phrase = 1
-
--- an element
-abbrev pub asks_element : ℕ
-asks_element = 2
-
--- a size or nothing
-abbrev pub asks_size : ℕ
-asks_size = 3
-
--- a name and a colon
-abbrev pub asks_name : ℕ
-asks_name = 4
-
--- a number, a name and a colon
-abbrev pub asks_numbered : ℕ
-asks_numbered = 5
-
--- what a guard waits for
-abbrev pub asks_event : ℕ
-asks_event = 6
+-- Parts -----------------------------------------------------------------------------------------------------------------------------
 
 -- whether tokens of some sorts are what is asked for
-unfoldable pub part_is : ℕ → List ℕ → Bool
-part_is k ss =
-    if_else (eqb k asks_nothing) (is_empty ss)
-    (if_else (eqb k asks_phrase) (phrase_in initial ss)
-    (if_else (eqb k asks_element) (phrase_in element ss)
-    (if_else (eqb k asks_size) (size_in ss)
-    (if_else (eqb k asks_name) (named_in ss)
-    (if_else (eqb k asks_numbered) (numbered_in ss)
-    (if_else (eqb k asks_event) (event_in ss) false))))))
+unfoldable pub part_is : Part → List ℕ → Bool
+part_is Nothing ss = is_empty ss
+part_is Phrase ss = phrase_in initial ss
+part_is Element ss = phrase_in element ss
+part_is Size ss = size_in ss
+part_is Named ss = named_in ss
+part_is Numbered ss = numbered_in ss
+part_is Event ss = event_in ss
 
 -- Rules -------------------------------------------------------------------------------------------------------------------------------
 
 -- what stands before the first mark, what stands after it, and the number of the line's class
-abbrev pub rule : ℕ → ℕ → Class → List ℕ
-rule b c k = b ∷ c ∷ number_of k ∷ []
+abbrev pub Rule : Type 0
+Rule = Part × Part × ℕ
+
+abbrev pub rule : Part → Part → Class → Rule
+rule b c k = (b, c, number_of k)
 
 -- a sort that parts no line
-abbrev pub no_rule : List ℕ
-no_rule = asks_nothing ∷ asks_nothing ∷ class_number none ∷ []
+abbrev pub no_rule : Rule
+no_rule = (Nothing, Nothing, class_number none)
 
 -- the rules by sort: no mark; the sorts of no marks; SKIP, STOP, SEQ, PAR, IF, ALT, WHILE; `:=`, `?`, `!`, `&`; INT, CHAN, HOSTIN, HOSTOUT
-unfoldable pub rules : List (List ℕ)
+unfoldable pub rules : List Rule
 rules =
-    rule asks_phrase asks_nothing test-line
+    rule Phrase Nothing test-line
     ∷ no_rule
     ∷ no_rule
     ∷ no_rule
@@ -114,30 +90,30 @@ rules =
     ∷ no_rule
     ∷ no_rule
     ∷ no_rule
-    ∷ rule asks_nothing asks_nothing leaf
-    ∷ rule asks_nothing asks_nothing leaf
-    ∷ rule asks_nothing asks_nothing member-lines
-    ∷ rule asks_nothing asks_nothing member-lines
-    ∷ rule asks_nothing asks_nothing choice-lines
-    ∷ rule asks_nothing asks_nothing option-lines
-    ∷ rule asks_nothing asks_phrase while-line
-    ∷ rule asks_element asks_phrase leaf
-    ∷ rule asks_element asks_element input-line
-    ∷ rule asks_element asks_phrase leaf
-    ∷ rule asks_phrase asks_event guard-line
-    ∷ rule asks_size asks_name variable-line
-    ∷ rule asks_size asks_name other-declaration
-    ∷ rule asks_nothing asks_name other-declaration
-    ∷ rule asks_nothing asks_numbered other-declaration
+    ∷ rule Nothing Nothing leaf
+    ∷ rule Nothing Nothing leaf
+    ∷ rule Nothing Nothing member-lines
+    ∷ rule Nothing Nothing member-lines
+    ∷ rule Nothing Nothing choice-lines
+    ∷ rule Nothing Nothing option-lines
+    ∷ rule Nothing Phrase while-line
+    ∷ rule Element Phrase leaf
+    ∷ rule Element Element input-line
+    ∷ rule Element Phrase leaf
+    ∷ rule Phrase Event guard-line
+    ∷ rule Size Named variable-line
+    ∷ rule Size Named other-declaration
+    ∷ rule Nothing Named other-declaration
+    ∷ rule Nothing Numbered other-declaration
     ∷ []
 
 -- the rule of a table for a sort
-abbrev pub rule_at : List (List ℕ) → ℕ → List ℕ
-rule_at table s = if_else (ltb s (length table)) (get_or table s []) no_rule
+abbrev pub rule_at : List Rule → ℕ → Rule
+rule_at table s = if_else (ltb s (length table)) (get_or table s no_rule) no_rule
 
 -- the class by a rule
-abbrev pub class_by_rule : List ℕ → List ℕ → List ℕ → ℕ
-class_by_rule r bs cs = if_else (part_is (get_or r 0 0) bs && part_is (get_or r 1 0) cs) (get_or r 2 0) (class_number none)
+abbrev pub class_by_rule : Rule → List ℕ → List ℕ → ℕ
+class_by_rule r bs cs = if_else (part_is r.0 bs && part_is r.1 cs) r.2 (class_number none)
 
 -- the class by the sort of the first mark
 unfoldable pub class_by_mark : ℕ → List ℕ → List ℕ → ℕ

@@ -1,4 +1,5 @@
 // The classes of lines by number.
+// kept: a class stands in a byte with what is expected, in a list that crates lend each other (the definition `kind_number`).
 
 // no line
 pub const NO_LINE: u8 = 0;

@@ -9,16 +9,16 @@ pub mod classes; // classes.rt: the classes by number
 mod parts; // parts.rt: the parts of a line
 
 use classes::*;
+use parts::Part;
 pub use parts::first_mark;
-use parts::*;
 use read_tokens::sorts::NO_TOKEN;
 
 // A sort that parts no line.
-const NONE: [u8; 3] = [NOTHING, NOTHING, NO_LINE];
+const NONE: (Part, Part, u8) = (Part::Nothing, Part::Nothing, NO_LINE);
 
 // By the sort of a line's first mark: what stands before it, what stands after it, and the line's class.
-const RULES: [[u8; 3]; 28] = [
-    [PHRASE, NOTHING, TEST_LINE], // 0 no mark
+const RULES: [(Part, Part, u8); 28] = [
+    (Part::Phrase, Part::Nothing, TEST_LINE), // 0 no mark
     NONE, // 1
     NONE, // 2
     NONE, // 3
@@ -31,31 +31,28 @@ const RULES: [[u8; 3]; 28] = [
     NONE, // 10
     NONE, // 11
     NONE, // 12
-    [NOTHING, NOTHING, LEAF], // 13 SKIP
-    [NOTHING, NOTHING, LEAF], // 14 STOP
-    [NOTHING, NOTHING, MEMBER_LINES], // 15 SEQ
-    [NOTHING, NOTHING, MEMBER_LINES], // 16 PAR
-    [NOTHING, NOTHING, CHOICE_LINES], // 17 IF
-    [NOTHING, NOTHING, OPTION_LINES], // 18 ALT
-    [NOTHING, PHRASE, WHILE_LINE], // 19 WHILE
-    [ELEMENT, PHRASE, LEAF], // 20 `:=`
-    [ELEMENT, ELEMENT, INPUT_LINE], // 21 `?`
-    [ELEMENT, PHRASE, LEAF], // 22 `!`
-    [PHRASE, EVENT, GUARD_LINE], // 23 `&`
-    [SIZE, NAMED, VARIABLE_LINE], // 24 INT
-    [SIZE, NAMED, OTHER_DECLARATION], // 25 CHAN
-    [NOTHING, NAMED, OTHER_DECLARATION], // 26 HOSTIN
-    [NOTHING, NUMBERED, OTHER_DECLARATION], // 27 HOSTOUT
+    (Part::Nothing, Part::Nothing, LEAF), // 13 SKIP
+    (Part::Nothing, Part::Nothing, LEAF), // 14 STOP
+    (Part::Nothing, Part::Nothing, MEMBER_LINES), // 15 SEQ
+    (Part::Nothing, Part::Nothing, MEMBER_LINES), // 16 PAR
+    (Part::Nothing, Part::Nothing, CHOICE_LINES), // 17 IF
+    (Part::Nothing, Part::Nothing, OPTION_LINES), // 18 ALT
+    (Part::Nothing, Part::Phrase, WHILE_LINE), // 19 WHILE
+    (Part::Element, Part::Phrase, LEAF), // 20 `:=`
+    (Part::Element, Part::Element, INPUT_LINE), // 21 `?`
+    (Part::Element, Part::Phrase, LEAF), // 22 `!`
+    (Part::Phrase, Part::Event, GUARD_LINE), // 23 `&`
+    (Part::Size, Part::Named, VARIABLE_LINE), // 24 INT
+    (Part::Size, Part::Named, OTHER_DECLARATION), // 25 CHAN
+    (Part::Nothing, Part::Named, OTHER_DECLARATION), // 26 HOSTIN
+    (Part::Nothing, Part::Numbered, OTHER_DECLARATION), // 27 HOSTOUT
 ];
 
 // The rule of a table for a sort.
-fn rule_at(rules: &[[u8; 3]], sort: usize) -> [u8; 3]
+fn rule_at(rules: &[(Part, Part, u8)], sort: usize) -> (Part, Part, u8)
     ensures { result ≡ rule_at rules.now sort }
 {
-    if rules.len() <= sort {
-        return NONE;
-    }
-    rules[sort]
+    rules.get(sort).copied().unwrap_or(NONE)
 }
 
 // The class of a line, by its first mark and what stands before and after it.
@@ -63,15 +60,12 @@ fn class_by_mark(sort: u8, before: &[u8], after: &[u8]) -> u8
     requires { (length before.now ≤ 32768) × (length after.now ≤ 32768) }
     ensures { result ≡ class_by_mark sort before.now after.now }
 {
-    let rules = RULES;
-    let rule = rule_at(&rules, sort as usize);
-    if !parts::is_part(rule[0], before) {
-        return NO_LINE;
+    let (asked_before, asked_after, class) = rule_at(&RULES, usize::from(sort));
+    if parts::is_part(asked_before, before) && parts::is_part(asked_after, after) {
+        class
+    } else {
+        NO_LINE
     }
-    if !parts::is_part(rule[1], after) {
-        return NO_LINE;
-    }
-    rule[2]
 }
 
 // The class of a line, from the sorts of its tokens.

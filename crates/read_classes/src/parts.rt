@@ -6,26 +6,18 @@ ghost use Rattle.read_classes.specs.Rules.{is_empty, size_in, named_in, numbered
 use read_table::scan;
 use read_tokens::sorts;
 
-// What a part may be: nothing.
-pub const NOTHING: u8 = 0;
-
-// an expression
-pub const PHRASE: u8 = 1;
-
-// an element
-pub const ELEMENT: u8 = 2;
-
-// a size, or nothing
-pub const SIZE: u8 = 3;
-
-// a name and a colon
-pub const NAMED: u8 = 4;
-
-// a number, a name and a colon
-pub const NUMBERED: u8 = 5;
-
-// what a guard waits for: SKIP, or an input
-pub const EVENT: u8 = 6;
+// What a part of a line may be: nothing; an expression; an element; a size, or nothing; a name and a colon; a number, a name and a colon; what a guard waits for,
+// SKIP or an input.
+#[derive(Clone, Copy)]
+pub enum Part {
+    Nothing,
+    Phrase,
+    Element,
+    Size,
+    Named,
+    Numbered,
+    Event,
+}
 
 // The sorts of a size's tokens.
 const SIZE_SORTS: [u8; 3] = [sorts::SQUARE_OPEN, sorts::NUMBER, sorts::SQUARE_CLOSE];
@@ -37,61 +29,51 @@ const NAMED_SORTS: [u8; 2] = [sorts::NAME, sorts::COLON];
 const NUMBERED_SORTS: [u8; 3] = [sorts::NUMBER, sorts::NAME, sorts::COLON];
 
 // The place of the first mark; the number of tokens if there is none.
+// kept: the theorem `PartedAt` and the definition `mark_at` have that number where no mark is.
 pub fn first_mark(sorts: &[u8]) -> usize
     ensures { result ≡ mark_at sorts.now }
 {
-    let mut at: usize = 0;
-    while at < sorts.len() {
-        if sorts::SKIP <= sorts[at] {
+    for (at, sort) in sorts.iter().enumerate() {
+        if sorts::SKIP <= *sort {
             return at;
         }
-        at += 1;
     }
-    at
+    sorts.len()
 }
 
 // Whether a part has no token.
 fn is_nothing(part: &[u8]) -> bool
     ensures { result ≡ is_empty part.now }
 {
-    part.len() == 0
+    part.is_empty()
 }
 
 // Whether a part is a size or nothing.
 fn is_size(part: &[u8]) -> bool
     ensures { result ≡ size_in part.now }
 {
-    if is_nothing(part) {
-        return true;
-    }
-    let expected = SIZE_SORTS;
-    scan::same(part, &expected)
+    is_nothing(part) || scan::same(part, &SIZE_SORTS)
 }
 
 // Whether a part is a name and a colon.
 fn is_named(part: &[u8]) -> bool
     ensures { result ≡ named_in part.now }
 {
-    let expected = NAMED_SORTS;
-    scan::same(part, &expected)
+    scan::same(part, &NAMED_SORTS)
 }
 
 // Whether a part is a number, a name and a colon.
 fn is_numbered(part: &[u8]) -> bool
     ensures { result ≡ numbered_in part.now }
 {
-    let expected = NUMBERED_SORTS;
-    scan::same(part, &expected)
+    scan::same(part, &NUMBERED_SORTS)
 }
 
 // Whether there is nothing before and after a mark.
 fn is_alone(before: &[u8], after: &[u8]) -> bool
     ensures { result ≡ alone_in before.now after.now }
 {
-    if !is_nothing(before) {
-        return false;
-    }
-    is_nothing(after)
+    is_nothing(before) && is_nothing(after)
 }
 
 // Whether there is an element before and after a mark.
@@ -99,10 +81,7 @@ fn is_exchange(before: &[u8], after: &[u8]) -> bool
     requires { (length before.now ≤ 32768) × (length after.now ≤ 32768) }
     ensures { result ≡ exchange_in before.now after.now }
 {
-    if !read_shapes::is_element(before) {
-        return false;
-    }
-    read_shapes::is_element(after)
+    read_shapes::is_element(before) && read_shapes::is_element(after)
 }
 
 // Whether a part is what a guard waits for: SKIP, or an input.
@@ -116,8 +95,7 @@ fn is_event(part: &[u8]) -> bool
     }
     let before = &part[..at];
     let after = &part[at + 1..];
-    let sort = part[at];
-    match sort {
+    match part[at] {
         sorts::SKIP => is_alone(before, after),
         sorts::ASKS => is_exchange(before, after),
         _ => false,
@@ -125,18 +103,18 @@ fn is_event(part: &[u8]) -> bool
 }
 
 // Whether a part is what is asked for.
-pub fn is_part(asked: u8, part: &[u8]) -> bool
+#[tactic(auto, unfolding(crate::specs::Rules::part_is))]
+pub fn is_part(asked: Part, part: &[u8]) -> bool
     requires { length part.now ≤ 32768 }
     ensures { result ≡ part_is asked part.now }
 {
     match asked {
-        NOTHING => is_nothing(part),
-        PHRASE => read_shapes::is_phrase(part),
-        ELEMENT => read_shapes::is_element(part),
-        SIZE => is_size(part),
-        NAMED => is_named(part),
-        NUMBERED => is_numbered(part),
-        EVENT => is_event(part),
-        _ => false,
+        Part::Nothing => is_nothing(part),
+        Part::Phrase => read_shapes::is_phrase(part),
+        Part::Element => read_shapes::is_element(part),
+        Part::Size => is_size(part),
+        Part::Named => is_named(part),
+        Part::Numbered => is_numbered(part),
+        Part::Event => is_event(part),
     }
 }

@@ -16,9 +16,7 @@ fn sort_rows(sort: u8) -> u32
 {
     match sort {
         sorts::NAME => 2,
-        sorts::NUMBER..=sorts::OR => 1,
-        sorts::SKIP..=sorts::WHILE => 1,
-        sorts::AMPERSAND => 1,
+        sorts::NUMBER..=sorts::OR | sorts::SKIP..=sorts::WHILE | sorts::AMPERSAND => 1,
         _ => 0,
     }
 }
@@ -27,20 +25,7 @@ fn sort_rows(sort: u8) -> u32
 fn sort_less(sort: u8) -> u32
     ensures { result ≡ sort_less sort }
 {
-    if sort == sorts::SQUARE_OPEN {
-        return 1;
-    }
-    0
-}
-
-// What is left of some rows; none where more are taken away.
-fn difference(rows: u32, less: u32) -> u32
-    ensures { result ≡ rows - less }
-{
-    if rows < less {
-        return 0;
-    }
-    rows - less
+    u32::from(sort == sorts::SQUARE_OPEN)
 }
 
 // The rows of the tokens of a line.
@@ -50,13 +35,11 @@ fn token_rows(sorts: &[u8]) -> u32
 {
     let mut rows: u32 = 0;
     let mut less: u32 = 0;
-    let mut at: usize = 0;
-    while at < sorts.len() {
-        rows += sort_rows(sorts[at]);
-        less += sort_less(sorts[at]);
-        at += 1;
+    for sort in sorts {
+        rows += sort_rows(*sort);
+        less += sort_less(*sort);
     }
-    difference(rows, less)
+    rows.saturating_sub(less)
 }
 
 // The row of a member, choice or option, by what is expected.
@@ -64,9 +47,7 @@ fn listed_rows(expected: u8) -> u32
     ensures { result ≡ listed_at expected }
 {
     match expected {
-        expectations::NOTHING => 0,
-        expectations::ONE_PROCESS => 0,
-        expectations::HEADS => 0,
+        expectations::NOTHING | expectations::ONE_PROCESS | expectations::HEADS => 0,
         _ => 1,
     }
 }
@@ -75,20 +56,14 @@ fn listed_rows(expected: u8) -> u32
 fn block_rows(expected: u8) -> u32
     ensures { result ≡ block_at expected }
 {
-    if expected == expectations::HEADS {
-        return 0;
-    }
-    1
+    u32::from(expected != expectations::HEADS)
 }
 
 // The row of a line's declaration, by its kind.
 fn declaration_rows(kind: u8) -> u32
     ensures { result ≡ declaration_rows kind }
 {
-    if kind % 16 <= classes::OTHER_DECLARATION {
-        return 1;
-    }
-    0
+    u32::from(kind % 16 <= classes::OTHER_DECLARATION)
 }
 
 // The rows that a line makes in the tree of processes, by its kind and the sorts of its tokens.
@@ -98,9 +73,10 @@ pub fn line_rows(kind: u8, sorts: &[u8]) -> u32
 {
     let expected = kind / 16;
     if kind % 16 <= classes::OTHER_DECLARATION {
-        return block_rows(expected);
+        block_rows(expected)
+    } else {
+        listed_rows(expected) + token_rows(sorts)
     }
-    listed_rows(expected) + token_rows(sorts)
 }
 
 // The rows of all lines, with those of declarations.
@@ -109,15 +85,13 @@ pub fn count_rows(kinds: &[u8], count: usize, ends: &[u16], sorts: &[u8]) -> u32
     ensures { result ≡ rows_listed count kinds.now ends.now sorts.now }
 {
     let mut rows: u32 = 0;
-    let mut line: usize = 0;
     let mut first: usize = 0;
-    while line < count {
+    for line in 0..count {
         let kind = kinds[line];
         let end = ends[line] as usize;
         rows += declaration_rows(kind);
         rows += line_rows(kind, &sorts[first..end]);
         first = end;
-        line += 1;
     }
     rows
 }
@@ -127,12 +101,10 @@ pub fn own_rows(kinds: &[u8], count: usize, ends: &[u16], sorts: &[u8], owns: &m
     requires { Spans count kinds.now ends.now sorts.now × (count ≤ 1024) }
     ensures { owns.new ≡ sets owns.old 0 (owns_listed count kinds.now ends.now sorts.now) }
 {
-    let mut line: usize = 0;
     let mut first: usize = 0;
-    while line < count {
+    for line in 0..count {
         let end = ends[line] as usize;
         owns[line] = line_rows(kinds[line], &sorts[first..end]) as usize;
         first = end;
-        line += 1;
     }
 }

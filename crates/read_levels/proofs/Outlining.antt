@@ -4,6 +4,9 @@ use mathlib.Core.Bool.{Bool, true, false}
 use mathlib.Core.List.{List, [], ◌∷◌, ◌++◌, map, append-nil}
 use mathlib.Core.Option
 use mathlib.Core.Option.{Option, none, some, none-ne-some}
+use Rattle.std.specs.Prelude as does
+use Rattle.std.specs.Prelude.{Some, None, Ok, Err}
+use Rattle.std.specs.Option.{ok_or}
 use Prim.Native.Nat.{ℕ, zero, suc, ◌+◌, ◌≤◌, ◌<◌}
 use native.Mathlib.Numerals.{add-one}
 use native.Mathlib.Decide.{dec_lt}
@@ -28,19 +31,38 @@ use Rattle.read_classes.specs.LineClasses.{class_by_sorts}
 use Rattle.read_classes.proofs.ClassLaws.{class-told}
 use Rattle.read_lines.specs.declared.Listed.{Listed}
 use Rattle.read_lines.specs.LineParts.{line_from}
-use Rattle.read_lines.specs.LineRead.{SpeltLine, LineRead}
+use Rattle.read_lines.specs.LineRead.{line_written, SpeltLine, LineRead}
 use Rattle.read_lines.proofs.LineLaws.{first-line, no_line, text-line}
-use Rattle.read_levels.specs.declared.Outlined.TheVariants.{Lines, Fault}
 use Rattle.read_levels.specs.declared.Step.{Step}
 use Rattle.read_levels.specs.Kinds.{expect_number, kind_number, expect_at, expectations, kinds_from, kinds_of}
 use Rattle.read_levels.specs.Listing.{Listing, listing, start_of, LineListed, LinesListed, TextListed, level_on, LevelsListed}
-use Rattle.read_levels.specs.Steps.{none_number, Numbered, ended_to, step_at, line_class}
+use Rattle.read_levels.specs.Steps.{Numbered, ended_to, step_at}
 use Rattle.read_levels.specs.Outlines.{Room, fault_of, OutlineRead}
 use Rattle.read_levels.proofs.TableTells.{class-few}
 use Rattle.read_levels.proofs.LevelLaws.{Holds, expect-top, holds-numbered, ended-all}
-use Rattle.read_levels.proofs.StepLaws.{taking, Taken, Stepped, refused, stands, no-line-stepped, stepped}
+use Rattle.read_levels.proofs.StepLaws.{taking, Taken, Stepped, refused, stands, stepped}
 use Rattle.read_levels.proofs.ListingLaws.{starts, line_kept, line_before}
 use Rattle.read_levels.proofs.LineSteps.{by-snoc, map_snoc, accept-snoc, kinds-snoc, level-low, start-set}
+
+-- where a line's tokens end, how deep it stands and what its class is
+pub record LineBounds (r : Listed) (sorts : List ℕ) (room first at : ℕ) : Type 0 where
+  pub level-low : r.level + 2 ≤ 16386
+  pub stack-room : r.level + 2 ≤ room
+  pub few : r.count ≤ 32768
+  pub onward : at < r.next
+  pub begins : first ≤ r.count
+  pub within : r.count ≤ length sorts
+  pub short : length sorts ≤ 32768
+  pub class-low : class_by_sorts (part sorts first r.count) < 11
+
+-- what is there where a refusal is made of none
+pub ok_some : {A : Type 0} (q : does.Option A) (e : ℕ) (x : A) → ok_or q e ≡ Ok x → q ≡ Some x
+ok_some None e x h = cc
+ok_some (Some y) e x h = cc
+
+pub ok_none : {A : Type 0} (q : does.Option A) (e f : ℕ) → ok_or q e ≡ Err f → (q ≡ None) × (e ≡ f)
+ok_none None e f h = (refl, cc)
+ok_none (Some y) e f h = cc
 
 -- what is still to come: where the text is at fault, and the lines
 abbrev place_left : List ℕ → Levels → ℕ → ℕ → Option ℕ
@@ -184,7 +206,7 @@ module _ (text : List ℕ) (levels₀ : List ℕ) (g₀ : Listing) (room : Room 
           sym (ap or_none (o.lines_left_lem [] none_left) ∙ append-nil o.done)
 
       -- all levels may end
-      pub outlining-ends : true ≡ ended_to stack 0 depth → OutlineRead text (Lines count) levels g
+      pub outlining-ends : true ≡ ended_to stack 0 depth → OutlineRead text (Ok count) levels g
       outlining-ends e =
           record {
             place = fault-at-end true e;
@@ -196,85 +218,84 @@ module _ (text : List ℕ) (levels₀ : List ℕ) (g₀ : Listing) (room : Room 
           }
 
     -- a text that is at fault
-    faulty : (m : ℕ) → grammar_fault text ≡ some m → (levels : List ℕ) (g : Listing) → OutlineRead text (Fault m) levels g
+    faulty : (m : ℕ) → grammar_fault text ≡ some m → (levels : List ℕ) (g : Listing) → OutlineRead text (Err m) levels g
     faulty m e levels g = record { place = e; listed = λ n i. absurd (none-ne-some m (sym (ap fault_of i))) }
 
     -- a level may not end
-    pub outlining-unended : length text ≤ at → false ≡ ended_to stack 0 depth → OutlineRead text (Fault (count + 1)) levels g
+    pub outlining-unended : length text ≤ at → false ≡ ended_to stack 0 depth → OutlineRead text (Err (count + 1)) levels g
     outlining-unended end e = faulty (count + 1) (fault-at-end end false e) levels g
 
-    module _ (more : at < length text) (roomy : 16386 ≤ length stack₀) (r : Listed) (sorts : List ℕ) (values : List ℤ) (read : LineRead text at first g.sorts g.values r sorts values) where
-      -- a spelt line by its tokens
-      module _ (p : SpeltLine text at first r sorts values) where
-        line-told : text_line (line_from text at) ≡ at_level r.level (line_spelt p.tokens)
-        line-told = text-line (line_from text at) ∙ ap lined_of p.is-written
+    -- the line is not spelt
+    pub outlining-unspelt : at < length text → line_written (line_from text at) ≡ none → (levels : List ℕ) (g : Listing) → OutlineRead text (Err (count + 1)) levels g
+    unfolding take_line
+    outlining-unspelt more h =
+        faulty (count + 1)
+        (fault-left
+        ∙ left-none text o.opened (suc count) at more (ap (take_line IsTextLine text_line (some o.opened)) (text-line (line_from text at) ∙ ap lined_of h))
+        ∙ ap some (sym (add-one count)))
 
-        class-is : class_by_sorts (part sorts first r.count) ≡ class_number (Option.map class_of (line_spelt p.tokens))
-        class-is = ap class_by_sorts p.sorts-held ∙ class-told p.tokens ∙ ap class_number (sym (grammar-classes.class-told p.tokens))
+    module _ (more : at < length text) (roomy : 16386 ≤ length stack₀) (q : does.Option Listed) (sorts : List ℕ) (values : List ℤ) (read : LineRead text at first g.sorts g.values q sorts values)
+        (r : Listed) (there : q ≡ Some r) where
+      abbrev here : SpeltLine text at first r sorts values
+      here = read.read r there
 
-        -- the stack is deep enough for it
-        level-fits : r.level + 2 ≤ 16386
-        level-fits =
-            let a = level-low (line_from text at) r.level p.tokens p.is-written in
-            let b = length-take (line_size (drop at text)) (drop at text) in
-            let c = length-drop at text in
-            let d = short in
-            omega (arith, a, b, c, d)
+      -- the line by its tokens
+      line-told : text_line (line_from text at) ≡ at_level r.level (line_spelt here.tokens)
+      line-told = text-line (line_from text at) ∙ ap lined_of here.is-written
 
-        -- its tokens are within the lists
-        tokens-fit : (first ≤ r.count) × (r.count ≤ length sorts)
-        tokens-fit = let c = p.counted in (omega (arith, c), omega (arith, p.few, p.inside.1, room.sorts-long, o.sorts-long, read.sorts-length))
+      class-is : class_by_sorts (part sorts first r.count) ≡ class_number (Option.map class_of (line_spelt here.tokens))
+      class-is = ap class_by_sorts here.sorts-held ∙ class-told here.tokens ∙ ap class_number (sym (grammar-classes.class-told here.tokens))
 
-      -- what the class is asked for
-      pub class-asked : (r.spelt ≡ true → (first ≤ r.count) × (r.count ≤ length sorts)) × (length sorts ≤ 32768)
-      class-asked = ((λ i. tokens-fit (read.read i)), omega (arith, room.short, o.sorts-long, read.sorts-length))
+      -- the stack is deep enough for it
+      level-fits : r.level + 2 ≤ 16386
+      level-fits =
+          let a = level-low (line_from text at) r.level here.tokens here.is-written in
+          let b = length-take (line_size (drop at text)) (drop at text) in
+          let c = length-drop at text in
+          let d = short in
+          omega (arith, a, b, c, d)
 
-      pub class_low : line_class r.spelt sorts first r.count < 11
-      class_low = go r.spelt refl
-        where
-          go : (t : Bool) → r.spelt ≡ t → line_class t sorts first r.count < 11
-          go true i = let p = read.read i in let e = class-is p in let f = class-few (Option.map class_of (line_spelt p.tokens)) in omega (arith, e, f)
-          go false i = omega arith
+      -- its tokens are within the lists
+      tokens-fit : (first ≤ r.count) × (r.count ≤ length sorts)
+      tokens-fit = let c = here.counted in (omega (arith, c), omega (arith, here.few, here.inside.1, room.sorts-long, o.sorts-long, read.sorts-length))
 
-      module _ (class : ℕ) (classed : class ≡ line_class r.spelt sorts first r.count) (s : Step) (does : s ≡ step_at stack depth r.level class) where
-        step_is : (t : Bool) → r.spelt ≡ t → s ≡ step_at stack (length o.opened) r.level (line_class t sorts first r.count)
-        step_is t i = does ∙ ap₂ (λ (d c : ℕ). step_at stack d r.level c) (sym o.deep) (classed ∙ ap (λ (t : Bool). line_class t sorts first r.count) i)
+      -- what is put is within its bounds, and the class is asked for what is there
+      pub bounded : LineBounds r sorts (length stack) first at
+      bounded =
+          let d = short in
+          let f = class-few (Option.map class_of (line_spelt here.tokens)) in
+          record {
+            level-low = level-fits;
+            stack-room = omega (arith, level-fits, roomy, o.stack-long);
+            few = omega (arith, here.few, here.inside.1, d);
+            onward = here.inside.0;
+            begins = tokens-fit.0;
+            within = tokens-fit.1;
+            short = omega (arith, room.short, o.sorts-long, read.sorts-length);
+            class-low = omega (arith, class-is, f);
+          }
 
-        spelt-steps : (i : r.spelt ≡ true) → Stepped stack o.opened r.level (line_spelt (read.read i).tokens) s
-        spelt-steps i =
-            let p = read.read i in
-            stepped stack o.opened r.level o.holds (omega (arith, level-fits p, roomy, o.stack-long)) (line_spelt p.tokens) s
-            (step_is true i ∙ ap (step_at stack (length o.opened) r.level) (class-is p))
+      module _ (class : ℕ) (classed : class ≡ class_by_sorts (part sorts first r.count)) (w : does.Option Step) (told : w ≡ step_at stack depth r.level class) where
+        steps : Stepped stack o.opened r.level (line_spelt here.tokens) w
+        steps =
+            stepped stack o.opened r.level o.holds (omega (arith, level-fits, roomy, o.stack-long)) (line_spelt here.tokens) w
+            (told ∙ ap₂ (λ (d c : ℕ). step_at stack d r.level c) (sym o.deep) (classed ∙ class-is))
 
         -- the line is not taken
-        pub outlining-refused : s.beneath ≡ none_number → (levels : List ℕ) (g : Listing) → OutlineRead text (Fault (count + 1)) levels g
+        pub outlining-refused : w ≡ None → (levels : List ℕ) (g : Listing) → OutlineRead text (Err (count + 1)) levels g
         unfolding take_line
-        outlining-refused b = faulty (count + 1) (fault-left ∙ left-none text o.opened (suc count) at more (go r.spelt refl) ∙ ap some (sym (add-one count)))
+        outlining-refused b =
+            faulty (count + 1)
+            (fault-left
+            ∙ left-none text o.opened (suc count) at more (ap (take_line IsTextLine text_line (some o.opened)) line-told ∙ by-step (line_spelt here.tokens) steps)
+            ∙ ap some (sym (add-one count)))
           where
-            by-step : (q : Option OutlineLine) → Stepped stack o.opened r.level q s → taking o.opened r.level q ≡ none
-            by-step q (refused _ t) = t
-            by-step q (stands x _ u _) = absurd (u b)
+            by-step : (p : Option OutlineLine) → Stepped stack o.opened r.level p w → taking o.opened r.level p ≡ none
+            by-step p (refused _ t) = t
+            by-step p (stands x _ t u _) = let z : None ≡ Some t = sym b ∙ u in cc
 
-            go : (t : Bool) → r.spelt ≡ t → take_line IsTextLine text_line (some o.opened) (text_line (line_from text at)) ≡ none
-            go true i = let p = read.read i in ap (take_line IsTextLine text_line (some o.opened)) (line-told p) ∙ by-step (line_spelt p.tokens) (spelt-steps i)
-            go false i = ap (take_line IsTextLine text_line (some o.opened)) (text-line (line_from text at) ∙ ap lined_of (read.refused i))
-
-        -- the line is taken: it is spelt
-        module _ (b : s.beneath ≡ none_number → ⊥) where
-          line-spelt : r.spelt ≡ true
-          line-spelt = go r.spelt refl
-            where
-              go : (t : Bool) → r.spelt ≡ t → r.spelt ≡ true
-              go true i = i
-              go false i = absurd (b (no-line-stepped stack o.opened r.level o.holds s (step_is false i)))
-
-          abbrev here : SpeltLine text at first r sorts values
-          here = read.read line-spelt
-
-          -- what is put is within its bounds
-          pub line-fits : (r.level + 2 ≤ 16386) × (r.count ≤ 32768) × (at < r.next)
-          line-fits = let d = short in (level-fits here, omega (arith, here.few, here.inside.1, d), here.inside.0)
-
+        -- the line is taken
+        module _ (s : Step) (b : w ≡ Some s) where
           abbrev Later : Listing
           Later = listing (set g.kinds count s.kind) (set g.ends count r.count) sorts values
 
@@ -313,7 +334,7 @@ module _ (text : List ℕ) (levels₀ : List ℕ) (g₀ : Listing) (room : Room 
               last =
                   let a : start_of Later.ends count ≡ first = start-set g.ends count count r.count (omega arith) ∙ o.begins in
                   let b : get_or Later.ends count 0 ≡ r.count = get_or-set_same g.ends count r.count 0 (count_fits more).3 in
-                  let (i, w) = tokens-fit here in
+                  let (i, w) = tokens-fit in
                   record {
                     tokens = here.tokens;
                     spelt = e;
@@ -327,17 +348,17 @@ module _ (text : List ℕ) (levels₀ : List ℕ) (g₀ : Listing) (room : Room 
           pub outlining-goes-on : Outlining text levels₀ g₀ stack₀ (set levels count r.level) Later
               (set (set stack r.level s.after) (r.level + 1) s.beneath) (r.level + 2) (count + 1) r.count r.next
           unfolding take_line accept_line
-          outlining-goes-on = go (line_spelt here.tokens) refl (spelt-steps line-spelt)
+          outlining-goes-on = go (line_spelt here.tokens) refl steps
             where
               ends_low : get_or Later.ends count 0 ≡ r.count → (j : ℕ) → Dec (j < count) → j < suc count → get_or Later.ends j 0 ≤ r.count
-              ends_low put j (yes i) h = let a = get_or-set_other g.ends count j r.count 0 (λ q. omega arith) in let b = o.ended j i in let c = (tokens-fit here).0 in omega (arith, a, b, c)
+              ends_low put j (yes i) h = let a = get_or-set_other g.ends count j r.count 0 (λ q. omega arith) in let b = o.ended j i in let c = tokens-fit.0 in omega (arith, a, b, c)
               ends_low put j (no i) h = let e : j ≡ count = omega arith in rw e (omega (arith, put))
 
               onward : (x : OutlineLine) → line_spelt here.tokens ≡ some x → Taken stack o.opened r.level x s
                   → Outlining text levels₀ g₀ stack₀ (set levels count r.level) Later (set (set stack r.level s.after) (suc r.level) s.beneath) (r.level + 2) (suc count) r.count r.next
               onward x e t =
                   let y = lined r.level x in
-                  let is : text_line (line_from text at) ≡ some y = line-told here ∙ ap (at_level r.level) e in
+                  let is : text_line (line_from text at) ≡ some y = line-told ∙ ap (at_level r.level) e in
                   let after : take_line IsTextLine text_line (some o.opened) (text_line (line_from text at)) ≡ some t.later = ap (take_line IsTextLine text_line (some o.opened)) is ∙ t.taken in
                   let (_, _, levels-room, ends-room) = count_fits more in
                   let put = get_or-set_same g.ends count r.count 0 ends-room in
@@ -345,7 +366,7 @@ module _ (text : List ℕ) (levels₀ : List ℕ) (g₀ : Listing) (room : Room 
                     opened = t.later;
                     done = o.done ++ (y ∷ []);
                     deep = let d = t.deep in omega arith;
-                    few = level-fits here;
+                    few = level-fits;
                     holds = t.holds;
                     stack-long = length-set (set stack r.level s.after) (suc r.level) s.beneath ∙ length-set stack r.level s.after ∙ o.stack-long;
                     levels-long = length-set levels count r.level ∙ o.levels-long;
@@ -365,11 +386,13 @@ module _ (text : List ℕ) (levels₀ : List ℕ) (g₀ : Listing) (room : Room 
                     lines_left_lem = λ ls f. o.lines_left_lem (y ∷ ls) (lines-first text at y ls more is (ap (lines_left text) (sym here.next-is) ∙ f)) ∙ ap some (sym (append_snoc o.done y ls));
                   }
 
-              go : (q : Option OutlineLine) → line_spelt here.tokens ≡ q → Stepped stack o.opened r.level q s
+              go : (q : Option OutlineLine) → line_spelt here.tokens ≡ q → Stepped stack o.opened r.level q w
                   → Outlining text levels₀ g₀ stack₀ (set levels count r.level) Later (set (set stack r.level s.after) (r.level + 1) s.beneath) (r.level + 2) (count + 1) r.count r.next
-              go q e (refused z _) = absurd (b z)
-              go q e (stands x i _ t) =
+              go q e (refused z _) = let y : None ≡ Some s = sym z ∙ b in cc
+              go q e (stands x i u j t) =
+                  let z : Some u ≡ Some s = sym j ∙ b in
+                  let same : u ≡ s = cc in
                   subst₂ (λ (j n : ℕ). Outlining text levels₀ g₀ stack₀ (set levels count r.level) Later (set (set stack r.level s.after) j s.beneath) (r.level + 2) n r.count r.next)
                   (sym (add-one r.level))
                   (sym (add-one count))
-                  (onward x (e ∙ i) t)
+                  (onward x (e ∙ i) (subst (Taken stack o.opened r.level x) same t))

@@ -1,10 +1,8 @@
 -- What the code tells of a text: its lines as they are listed, or where it is at fault.
-use Rattle.std.specs.Prelude.{◌≡◌, List, ℕ, ◌≤◌, length}
+use Rattle.std.specs.Prelude.{◌≡◌, List, ℕ, ◌≤◌, length, Result, Ok, Err}
 use Rattle.std.proofs.Math.Option.{Option, none, some}
 use Rattle.grammar.specs.TextBytes.{max_text, grammar_fault}
 use Rattle.grammar.specs.TextRows.{text_lines}
-use Rattle.read_levels.specs.declared.Outlined.{Outlined}
-use Rattle.read_levels.specs.declared.Outlined.TheVariants.{Lines, Fault}
 use Rattle.read_levels.specs.Listing.{Listing, TextListed, LevelsListed}
 
 -- the lent lists have room for the lines and tokens of so many bytes
@@ -17,11 +15,11 @@ pub record Room (n : ℕ) (levels : List ℕ) (g : Listing) : Type 0 where
   pub short : length g.sorts ≤ max_text
 
 -- where the text is at fault, as the code tells it
-abbrev pub fault_of : Outlined → Option ℕ
-fault_of (Lines n) = none
-fault_of (Fault l) = some l
+abbrev pub fault_of : Result ℕ ℕ → Option ℕ
+fault_of (Ok n) = none
+fault_of (Err l) = some l
 
 -- what the code tells of a text, and the lists after it
-pub record OutlineRead (text : List ℕ) (r : Outlined) (levels : List ℕ) (g : Listing) : Type 0 where
+pub record OutlineRead (text : List ℕ) (r : Result ℕ ℕ) (levels : List ℕ) (g : Listing) : Type 0 where
   pub place : grammar_fault text ≡ fault_of r
-  pub listed : (n : ℕ) → r ≡ Lines n → TextListed text n g × LevelsListed (text_lines text) n levels
+  pub listed : (n : ℕ) → r ≡ Ok n → TextListed text n g × LevelsListed (text_lines text) n levels

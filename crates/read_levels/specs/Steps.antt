@@ -1,12 +1,10 @@
 -- What a line does to the levels, by number: the levels are bytes, the shallowest first.
-use Rattle.std.specs.Prelude.{Bool, true, false, List, [], ◌∷◌, map, ℕ, zero, suc, ◌+◌, ◌*◌, ◌<◌, get_or, ltb}
+use Rattle.std.specs.Prelude as does
+use Rattle.std.specs.Prelude.{Some, None, eqb, Bool, true, false, List, [], ◌∷◌, map, ℕ, zero, suc, ◌+◌, ◌*◌, ◌<◌, get_or, ltb}
 use Rattle.std.proofs.Math.Option.{Option, none, some}
 use Rattle.meaning.specs.Basics.{if_else}
 use Rattle.grammar.specs.Outline.{Expect, members, choices, options, nothing, one-process, one-member, heads}
 use Rattle.grammar.specs.Classes.{Class, variable-line, other-declaration, leaf, input-line, member-lines, choice-lines, option-lines, while-line, test-line, guard-line, beneath_by_class, after_by_class}
-use Rattle.read_classes.specs.ClassNumbers.{class_number}
-use Rattle.read_classes.specs.LineClasses.{class_by_sorts}
-use Rattle.read_tokens.specs.Held.{part}
 use Rattle.read_levels.specs.declared.Step.{Step}
 use Rattle.read_levels.specs.Kinds.{expect_number}
 
@@ -60,18 +58,12 @@ unfoldable pub ended_to : List ℕ → ℕ → ℕ → Bool
 ended_to stack low zero = true
 ended_to stack low (suc d) = let rest = ended_to stack low d in if_else (ltb d low) true (if_else (ltb (get_or stack d 0) (expect_number one-process)) rest false)
 
--- a line that may not stand where it stands
-abbrev pub no_step : Step
-no_step = record { kind = 0; beneath = none_number; after = none_number }
-
--- a line of a class where something is expected: its kind, and what is expected beneath it and after it
-abbrev pub step_for : ℕ → ℕ → Step
-step_for e c = record { kind = 16 * e + c; beneath = table_at beneath_table e c; after = table_at after_table e c }
+-- a line of a class where something is expected: its kind, and what is expected beneath it and after it; none if it may not stand there
+abbrev pub step_for : ℕ → ℕ → does.Option Step
+step_for e c =
+    let step : Step = record { kind = 16 * e + c; beneath = table_at beneath_table e c; after = table_at after_table e c } in
+    if_else (eqb (table_at beneath_table e c) none_number) None (Some step)
 
 -- a line of a class at a level
-unfoldable pub step_at : List ℕ → ℕ → ℕ → ℕ → Step
-step_at stack depth l c = if_else (ltb l depth) (if_else (ended_to stack (suc l) depth) (step_for (get_or stack l 0) c) no_step) no_step
-
--- the class of the line whose tokens stand from a place to a place; without them it is no line
-abbrev pub line_class : Bool → List ℕ → ℕ → ℕ → ℕ
-line_class spelt sorts from to = if_else spelt (class_by_sorts (part sorts from to)) (class_number none)
+unfoldable pub step_at : List ℕ → ℕ → ℕ → ℕ → does.Option Step
+step_at stack depth l c = if_else (ltb l depth) (if_else (ended_to stack (suc l) depth) (step_for (get_or stack l 0) c) None) None

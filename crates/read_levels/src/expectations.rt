@@ -1,4 +1,5 @@
 // What may be expected where a line stands, by number.
+// kept: it stands in a byte with the class, in a list that crates lend each other (the definition `kind_number`).
 
 // processes
 pub const MEMBERS: u8 = 0;

@@ -1,22 +1,15 @@
 // The lines of a text by what is expected where they stand. Refusal 12.
 #![tactic(auto)]
 
-ghost use Rattle.std.specs.Prelude.{◌≡◌, true, ◌≤◌, ◌<◌, length};
-ghost use Rattle.read_levels.specs.Steps.{beneath_table, after_table, table_at, Numbered, ended_to, step_at, line_class};
+ghost use Rattle.std.specs.Prelude.{◌≡◌, ◌≤◌, ◌<◌, length};
+ghost use Rattle.read_levels.specs.Steps.{beneath_table, after_table, table_at, Numbered, ended_to, step_at};
 ghost use Rattle.read_levels.specs.Listing.{listing};
 ghost use Rattle.read_levels.specs.Outlines.{Room, OutlineRead};
 
 pub mod expectations; // expectations.rt: what may be expected where a line stands
 
-// The lines of a text: how many, or at which line it is at fault.
-#[derive(Drop)]
-pub enum Outlined {
-    Lines(usize),
-    Fault(u32),
-}
-
-// What a line does: its kind, and what is expected beneath it and after it at its level. Where it may not stand, none is expected beneath it.
-#[derive(Drop)]
+// What a line does: its kind, and what is expected beneath it and after it at its level.
+#[derive(Clone, Copy)]
 struct Step {
     kind: u8,
     beneath: u8,
@@ -24,6 +17,7 @@ struct Step {
 }
 
 // The line may not stand there.
+// kept: a byte of the two tables (the definition `beneath_table`), which `step_at` turns into none.
 const NONE: u8 = 7;
 
 // What is expected beneath a line, by number. A row for what is expected where it stands; in a row first no line, and then the line's class: a variable's
@@ -69,14 +63,12 @@ fn after(expected: u8, class: u8) -> u8
     row[class as usize]
 }
 
-// Whether each level from the deepest to a level may end.
+// Whether each level from a level to the deepest may end.
 fn ended_to(stack: &[u8], depth: usize, low: usize) -> bool
     requires { depth ≤ length stack.now }
     ensures { result ≡ ended_to stack.now low depth }
 {
-    let mut d = depth;
-    while low < d {
-        d -= 1;
+    for d in low..depth {
         if expectations::ONE_PROCESS <= stack[d] {
             return false;
         }
@@ -84,42 +76,28 @@ fn ended_to(stack: &[u8], depth: usize, low: usize) -> bool
     true
 }
 
-// What a line of a class does at a level.
-fn step_at(stack: &[u8], depth: usize, level: usize, class: u8) -> Step
+// What a line of a class does at a level; none if it may not stand there.
+fn step_at(stack: &[u8], depth: usize, level: usize, class: u8) -> Option<Step>
     requires { (depth ≤ length stack.now) × Numbered stack.now depth × (class < 11) }
     ensures { result ≡ step_at stack.now depth level class }
 {
-    let none = Step {
-        kind: 0,
-        beneath: NONE,
-        after: NONE,
-    };
-    if depth <= level {
-        return none;
-    }
-    if !ended_to(stack, depth, level + 1) {
-        return none;
+    if depth <= level || !ended_to(stack, depth, level + 1) {
+        return None;
     }
     let expected = stack[level];
-    Step {
+    let beneath = beneath(expected, class);
+    if beneath == NONE {
+        return None;
+    }
+    Some(Step {
         kind: 16 * expected + class,
-        beneath: beneath(expected, class),
+        beneath,
         after: after(expected, class),
-    }
-}
-
-// The class of the line whose tokens stand from a place to a place; 0 if its bytes are not spelt.
-fn class_at(spelt: bool, sorts: &[u8], from: usize, to: usize) -> u8
-    requires { (spelt ≡ true → (from ≤ to) × (to ≤ length sorts.now)) × (length sorts.now ≤ 32768) }
-    ensures { result ≡ line_class spelt sorts.now from to }
-{
-    if !spelt {
-        return 0;
-    }
-    read_classes::class_of(&sorts[from..to])
+    })
 }
 
 // The lines of a text, listed. The stack is for what is expected at each level, the shallowest first.
+// kept: the lists are lent apart, since there is no heap; the records `Room` and `OutlineRead` say all of them at once.
 fn outline_with(
     text: &[u8],
     kinds: &mut [u8],
@@ -128,7 +106,7 @@ fn outline_with(
     sorts: &mut [u8],
     values: &mut [i32],
     stack: &mut [u8],
-) -> Outlined
+) -> Result<usize, u32>
     requires { Room (length text.now) levels.old (listing kinds.old ends.old sorts.old values.old) × (16386 ≤ length stack.old) }
     ensures { OutlineRead text.now result levels.new (listing kinds.new ends.new sorts.new values.new) }
 {
@@ -137,32 +115,31 @@ fn outline_with(
     let mut count: usize = 0;
     let mut first: usize = 0;
     let mut at: usize = 0;
+    // kept: the place goes on by the bytes of a line, not by one
     while at < text.len() {
-        let line = read_lines::list_line(text, at, first, sorts, values);
-        let level = line.level;
-        let end = line.count;
-        let class = class_at(line.spelt, sorts, first, end);
-        let step = step_at(stack, depth, level, class);
-        if step.beneath == NONE {
-            return Outlined::Fault((count + 1) as u32);
-        }
+        let fault = (count + 1) as u32;
+        let line = read_lines::list_line(text, at, first, sorts, values).ok_or(fault)?;
+        let class = read_classes::class_of(&sorts[first..line.count]);
+        let step = step_at(stack, depth, line.level, class).ok_or(fault)?;
         kinds[count] = step.kind;
-        levels[count] = level as u16;
-        ends[count] = end as u16;
-        stack[level] = step.after;
-        stack[level + 1] = step.beneath;
-        depth = level + 2;
+        levels[count] = line.level as u16;
+        ends[count] = line.count as u16;
+        stack[line.level] = step.after;
+        stack[line.level + 1] = step.beneath;
+        depth = line.level + 2;
         count += 1;
-        first = end;
+        first = line.count;
         at = line.next;
     }
     if ended_to(stack, depth, 0) {
-        return Outlined::Lines(count);
+        Ok(count)
+    } else {
+        Err((count + 1) as u32)
     }
-    Outlined::Fault((count + 1) as u32)
 }
 
-// The lines of a text, listed: of each its kind, its level and where its tokens end, and the tokens one after the other.
+// The lines of a text, listed: of each its kind, its level and where its tokens end, and the tokens one after the other. How many lines they are, or the line
+// at which the text is at fault.
 pub fn outline(
     text: &[u8],
     kinds: &mut [u8],
@@ -170,7 +147,7 @@ pub fn outline(
     ends: &mut [u16],
     sorts: &mut [u8],
     values: &mut [i32],
-) -> Outlined
+) -> Result<usize, u32>
     requires { Room (length text.now) levels.old (listing kinds.old ends.old sorts.old values.old) }
     ensures { OutlineRead text.now result levels.new (listing kinds.new ends.new sorts.new values.new) }
 {

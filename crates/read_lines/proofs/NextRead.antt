@@ -2,7 +2,7 @@
 use mathlib.Core.Path.{◌≡◌, refl, sym, ap, ap₂, subst, ◌∙◌}
 use mathlib.Core.Bool.{Bool, true, false, ◌&&◌, ◌||◌, and-false}
 use mathlib.Core.List.{List, [], ◌∷◌}
-use mathlib.Core.Option.{Option, none, some, none-ne-some}
+use mathlib.Core.Option.{Option, none, some, none-ne-some, some-injective}
 use Prim.Native.Nat.{ℕ, zero, suc, ◌+◌, ◌-◌, ◌≤◌, ◌<◌}
 use native.Mathlib.Omega.{arith}
 use lib.IntN.{pos}
@@ -19,7 +19,7 @@ use Rattle.grammar.specs.Grammar.{Token, name}
 use Rattle.grammar.specs.Scan.{Edge, start, blank, token, may_not_follow, front, put_token, read}
 use Rattle.grammar.specs.Tokens.{hang, is_word_byte, needs_space, is_wordlike, token_of, is_word, or_number, token_spelt, symbols}
 use Rattle.read_tokens.specs.Sorts as sorts
-use Rattle.read_tokens.specs.Lexemes.{lexeme_of, token_lexeme}
+use Rattle.read_tokens.specs.Lexemes.{token_lexeme}
 use Rattle.read_tokens.specs.Chunks.{chunk_size}
 use Rattle.read_tokens.specs.Held.{token_sort, token_by, name_held, placed}
 use Rattle.read_tokens.proofs.HeldLaws.{held-told, name-held-told, name-by-sort}
@@ -178,7 +178,7 @@ module _ (text : List ℕ) (p : ℕ) where
             ap (λ (s : ℕ). token_by (name_held text) s (pos (placed from (to - from)))) i
             ∙ name-held-told text n from (to - from) (omega arith) (same-letters ∙ ap (λ (m : ℕ). take m (drop from text)) (sym k))
             ∙ ap some (sym j)
-        go false e = held-told (name_held text) t (λ n q. eqb-false (token_sort t) sorts.name e (ap (λ (o : Option Token). (lexeme_of o).sort) q))
+        go false e = held-told (name_held text) t (λ n q. eqb-false (token_sort t) sorts.name e (ap token_sort (some-injective t (name n) q)))
 
   -- no token is next: the line is ended if there are tokens before, and its line feed is at the place
   pub end_read : p < length text → token_of (chunk_in text from) ≡ none → (any : Bool) (e : Edge Token) → EdgeAt text p any e

@@ -1,5 +1,6 @@
 -- A line of a text whose tokens are listed.
-use Rattle.std.specs.Prelude.{◌≡◌, true, false, List, map, ℕ, ◌+◌, ◌≤◌, ◌<◌, ℤ, length, take, drop}
+use Rattle.std.specs.Prelude as lines
+use Rattle.std.specs.Prelude.{◌≡◌, Some, None, List, map, ℕ, ◌+◌, ◌≤◌, ◌<◌, ℤ, length, take, drop}
 use Rattle.std.proofs.Math.Option.{Option, none, some}
 use Rattle.meaning.specs.Lines as bytes
 use Rattle.meaning.specs.Lines.{line_size}
@@ -34,11 +35,11 @@ pub record SpeltLine (text : List ℕ) (at first : ℕ) (r : Listed) (sorts : Li
   pub sorts-held : part sorts first r.count ≡ map token_sort tokens
   pub values-held : tokens_held text (part sorts first r.count) (part values first r.count) ≡ map some tokens
 
--- the line at a place is read: the lists before a place are kept, and the line is spelt, or it is none of the grammar
-pub record LineRead (text : List ℕ) (at first : ℕ) (sorts : List ℕ) (values : List ℤ) (r : Listed) (sorts' : List ℕ) (values' : List ℤ) : Type 0 where
+-- the line at a place is read: the lists before a place are kept, and the line is spelt, or none is listed and it is none of the grammar
+pub record LineRead (text : List ℕ) (at first : ℕ) (sorts : List ℕ) (values : List ℤ) (r : lines.Option Listed) (sorts' : List ℕ) (values' : List ℤ) : Type 0 where
   pub sorts-length : length sorts' ≡ length sorts
   pub values_length : length values' ≡ length values
   pub sorts-kept : take first sorts' ≡ take first sorts
   pub values-kept : take first values' ≡ take first values
-  pub refused : r.spelt ≡ false → line_written (line_from text at) ≡ none
-  pub read : r.spelt ≡ true → SpeltLine text at first r sorts' values'
+  pub refused : r ≡ None → line_written (line_from text at) ≡ none
+  pub read : (l : Listed) → r ≡ Some l → SpeltLine text at first l sorts' values'

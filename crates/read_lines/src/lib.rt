@@ -5,12 +5,11 @@ ghost use Rattle.std.specs.Prelude.{◌≡◌, true, false, ◌≤◌, ◌<◌, 
 ghost use Rattle.read_lines.specs.LineParts.{indent_of, misplaced, held_value, ended_at};
 ghost use Rattle.read_lines.specs.LineRead.{LineRead};
 
-use read_tokens::sorts as sort_numbers;
+use read_tokens::sorts;
 
-// What is listed of a line: whether it is spelt, its level, where its tokens end in the lists, and where the next line begins.
-#[derive(Drop)]
+// What is listed of a line that is spelt: its level, where its tokens end in the lists, and where the next line begins.
+#[derive(Clone, Copy)]
 pub struct Listed {
-    pub spelt: bool,
     pub level: usize,
     pub count: usize,
     pub next: usize,
@@ -31,13 +30,7 @@ fn is_misplaced(text: &[u8], begun: bool, at: usize, from: usize, to: usize) -> 
     if at < from {
         return !begun;
     }
-    if !begun {
-        return false;
-    }
-    if !read_tokens::is_word_byte(text[at - 1]) {
-        return false;
-    }
-    read_tokens::is_word_byte(text[to - 1])
+    begun && read_tokens::is_word_byte(text[at - 1]) && read_tokens::is_word_byte(text[to - 1])
 }
 
 // The number that is listed of a token: of a name where it stands and how many bytes it has.
@@ -45,10 +38,11 @@ fn held_value(sort: u8, value: i32, from: usize, to: usize) -> i32
     requires { (from ≤ to) × (to ≤ 32768) }
     ensures { result ≡ held_value sort value from to }
 {
-    if sort == sort_numbers::NAME {
-        return (32 * from + (to - from)) as i32;
+    if sort == sorts::NAME {
+        (32 * from + (to - from)) as i32
+    } else {
+        value
     }
-    value
 }
 
 // Whether a line is ended at a place: it has tokens, and its line feed is there.
@@ -56,52 +50,41 @@ fn is_ended(text: &[u8], begun: bool, at: usize) -> bool
     requires { at < length text.now }
     ensures { result ≡ ended_at text.now begun at }
 {
-    begun && text[at] == 10
+    begun && text[at] == b'\n'
 }
 
-// A line that is not spelt.
-fn unspelt(at: usize) -> Listed
-    ensures { result.spelt ≡ false }
-{
-    Listed {
-        spelt: false,
-        level: 0,
-        count: 0,
-        next: at,
-    }
-}
-
-// Lists the tokens of the line at a place, from a place of the lists on.
+// Lists the tokens of the line at a place, from a place of the lists on; none if the line is not spelt.
 pub fn list_line(
     text: &[u8],
     at: usize,
     first: usize,
     sorts: &mut [u8],
     values: &mut [i32],
-) -> Listed
+) -> Option<Listed>
     requires { (at < length text.now) × (length text.now ≤ 32768) × (first ≤ at) × (length text.now ≤ length sorts.old) × (length text.now ≤ length values.old) }
     ensures { LineRead text.now at first sorts.old values.old result sorts.new values.new }
 {
     let level = indent(text, at);
     let mut place = at + 2 * level;
     let mut count = first;
+    // kept: the place goes on by the bytes of a token, not by one
     while place < text.len() {
         let next = read_scan::next_token(text, place);
-        if next.sort == sort_numbers::NO_TOKEN {
-            return Listed {
-                spelt: is_ended(text, first < count, place),
+        let Some(token) = next.token else {
+            let line = Listed {
                 level,
                 count,
                 next: place + 1,
             };
-        }
+            return is_ended(text, first < count, place).then_some(line);
+        };
         if is_misplaced(text, first < count, place, next.from, next.to) {
-            return unspelt(at);
+            return None;
         }
-        sorts[count] = next.sort;
-        values[count] = held_value(next.sort, next.value, next.from, next.to);
+        sorts[count] = token.sort;
+        values[count] = held_value(token.sort, token.value, next.from, next.to);
         count += 1;
         place = next.to;
     }
-    unspelt(at)
+    None
 }

@@ -8,7 +8,7 @@ pub use marks::mark;
 pub use roles::{had_after, is_between};
 
 // A name or number; a round bracket that opens, a square one; one that closes; an operator that can stand between operands; another token.
-#[derive(Drop)]
+#[derive(Clone, Copy, PartialEq, Eq)]
 pub enum Role {
     Operand,
     RoundOpening,

@@ -13,9 +13,7 @@ fn note(sort: u8, had: bool, depth: usize, k: usize, starts: &mut [u16], marks: 
     marks[k] = 0;
     if !had {
         starts[depth] = k as u16;
-        return;
-    }
-    if roles::is_between(sort) {
+    } else if roles::is_between(sort) {
         marks[starts[depth] as usize] = 1;
     }
 }
@@ -27,12 +25,9 @@ pub fn mark(sorts: &[u8], starts: &mut [u16], marks: &mut [u8])
 {
     let mut had = false;
     let mut depth: usize = 0;
-    let mut k: usize = 0;
-    while k < sorts.len() {
-        let sort = sorts[k];
-        note(sort, had, depth, k, starts, marks);
-        had = roles::had_after(sort);
-        depth = roles::depth_after(sort, depth);
-        k += 1;
+    for (k, sort) in sorts.iter().enumerate() {
+        note(*sort, had, depth, k, starts, marks);
+        had = roles::had_after(*sort);
+        depth = roles::depth_after(*sort, depth);
     }
 }

@@ -7,20 +7,16 @@ use crate::Role;
 use read_tokens::sorts;
 
 // The role of a token of a sort.
+#[tactic(auto, unfolding(crate::specs::Roles::role_of))]
 pub fn role_of(sort: u8) -> Role
     ensures { result ≡ roles.role_of sort }
 {
     match sort {
-        sorts::NAME => Role::Operand,
-        sorts::NUMBER => Role::Operand,
-        sorts::MINUS => Role::Between,
-        sorts::ARITH => Role::Between,
-        sorts::AND => Role::Between,
-        sorts::OR => Role::Between,
+        sorts::NAME | sorts::NUMBER => Role::Operand,
+        sorts::MINUS | sorts::ARITH | sorts::AND | sorts::OR => Role::Between,
         sorts::ROUND_OPEN => Role::RoundOpening,
         sorts::SQUARE_OPEN => Role::SquareOpening,
-        sorts::ROUND_CLOSE => Role::Closing,
-        sorts::SQUARE_CLOSE => Role::Closing,
+        sorts::ROUND_CLOSE | sorts::SQUARE_CLOSE => Role::Closing,
         _ => Role::Other,
     }
 }
@@ -29,14 +25,7 @@ pub fn role_of(sort: u8) -> Role
 pub fn had_after(sort: u8) -> bool
     ensures { result ≡ roles.had_after (roles.role_of sort) }
 {
-    match role_of(sort) {
-        Role::Operand => true,
-        Role::RoundOpening => false,
-        Role::SquareOpening => false,
-        Role::Closing => true,
-        Role::Between => false,
-        Role::Other => false,
-    }
+    matches!(role_of(sort), Role::Operand | Role::Closing)
 }
 
 // How many brackets are open after it.
@@ -45,12 +34,9 @@ pub fn depth_after(sort: u8, depth: usize) -> usize
     ensures { result ≡ roles.depth_after (roles.role_of sort) depth }
 {
     match role_of(sort) {
-        Role::Operand => depth,
-        Role::RoundOpening => depth + 1,
-        Role::SquareOpening => depth + 1,
+        Role::RoundOpening | Role::SquareOpening => depth + 1,
         Role::Closing => depth - 1,
-        Role::Between => depth,
-        Role::Other => depth,
+        Role::Operand | Role::Between | Role::Other => depth,
     }
 }
 
@@ -58,12 +44,5 @@ pub fn depth_after(sort: u8, depth: usize) -> usize
 pub fn is_between(sort: u8) -> bool
     ensures { result ≡ roles.is_between (roles.role_of sort) }
 {
-    match role_of(sort) {
-        Role::Operand => false,
-        Role::RoundOpening => false,
-        Role::SquareOpening => false,
-        Role::Closing => false,
-        Role::Between => true,
-        Role::Other => false,
-    }
+    role_of(sort) == Role::Between
 }

@@ -2,7 +2,6 @@
 #![tactic(auto)]
 
 ghost use Rattle.std.specs.Prelude.{◌≡◌, ◌≤◌, length, replicate};
-ghost use Rattle.meaning.specs.Lines as lines;
 ghost use Rattle.grammar.specs.TextRows.{name_row};
 ghost use Rattle.read_names.specs.Listed.{name_at, names_at};
 ghost use Rattle.read_names.specs.Keys.{key_limit, key_of, Indexed};
@@ -14,57 +13,40 @@ fn key_of(name: &[u8]) -> usize
     ensures { result ≡ key_of name.now }
 {
     let mut key: usize = 0;
-    let mut at: usize = 0;
-    while at < name.len() {
-        key = (33 * key + name[at] as usize) % 4096;
-        at += 1;
+    for b in name {
+        key = (33 * key + usize::from(*b)) % 4096;
     }
     key
 }
 
-// The key of the listed name that begins at a place and has so many bytes.
-fn listed_key(text: &[u8], from: usize, size: usize) -> usize
-    ensures { result ≡ key_of (name_at text.now from size) }
+// The listed name that begins at a place and has so many bytes, as far as the text goes.
+fn listed(text: &[u8], from: usize, size: usize) -> &[u8]
+    ensures { result.now ≡ name_at text.now from size }
 {
     if text.len() <= from {
-        return 0;
+        return &[];
     }
-    let left = text.len() - from;
-    if left < size {
-        return key_of(&text[from..]);
+    if text.len() - from < size {
+        return &text[from..];
     }
-    key_of(&text[from..from + size])
-}
-
-// Whether a name is the listed one that begins at a place and has so many bytes.
-fn is_listed(text: &[u8], from: usize, size: usize, name: &[u8]) -> bool
-    ensures { result ≡ lines.same name.now (name_at text.now from size) }
-{
-    if text.len() <= from {
-        return name.len() == 0;
-    }
-    let left = text.len() - from;
-    if left < size {
-        return scan::same(name, &text[from..]);
-    }
-    scan::same(name, &text[from..from + size])
+    &text[from..from + size]
 }
 
 // Chains the listed names by their keys, from the last to the first.
+// kept: a map needs a heap; the chains are lent lists, and a name is found in those of its key.
 pub fn index(text: &[u8], froms: &[u16], sizes: &[u8], heads: &mut [u16], nexts: &mut [u16])
     requires { (length froms.now ≡ length sizes.now) × (length froms.now ≤ 32768) × (length froms.now ≤ length nexts.old) × (heads.old ≡ replicate key_limit 0) }
     ensures { Indexed (names_at text.now froms.now sizes.now) heads.new nexts.new × (length nexts.new ≡ length nexts.old) }
 {
-    let mut at = froms.len();
-    while 0 < at {
-        at -= 1;
-        let key = listed_key(text, froms[at] as usize, sizes[at] as usize);
+    for at in (0..froms.len()).rev() {
+        let key = key_of(listed(text, froms[at] as usize, sizes[at] as usize));
         nexts[at] = heads[key];
         heads[key] = (at + 1) as u16;
     }
 }
 
 // The first of the listed names that is a name; as many as there are if none is.
+// kept: the definition `name_row` of the crate `grammar` has that number where no name is.
 pub fn find(
     text: &[u8],
     froms: &[u16],
@@ -76,10 +58,11 @@ pub fn find(
     requires { (length froms.now ≡ length sizes.now) × Indexed (names_at text.now froms.now sizes.now) heads.now nexts.now }
     ensures { result ≡ name_row (names_at text.now froms.now sizes.now) name.now }
 {
+    // kept: the place goes along a chain of the index, not by one
     let mut at = heads[key_of(name)] as usize;
     while 0 < at {
         let row = at - 1;
-        if is_listed(text, froms[row] as usize, sizes[row] as usize, name) {
+        if scan::same(name, listed(text, froms[row] as usize, sizes[row] as usize)) {
             return row;
         }
         at = nexts[row] as usize;

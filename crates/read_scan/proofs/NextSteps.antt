@@ -4,6 +4,8 @@ use mathlib.Core.Bool.{Bool, true, false}
 use mathlib.Core.Logic.{◌⊎◌, inl, inr}
 use mathlib.Core.List.{List, [], ◌∷◌}
 use mathlib.Core.Option.{Option, none, some, none-ne-some}
+use Rattle.std.specs.Prelude as found
+use Rattle.std.specs.Prelude.{Some, None}
 use Prim.Native.Nat.{ℕ, zero, suc, ◌+◌, ◌-◌, ◌≤◌, ◌<◌}
 use native.Mathlib.Omega.{arith}
 use lib.ListN.{length, take, drop, drop_of_length-le, length-drop}
@@ -15,7 +17,6 @@ use Rattle.meaning.specs.Lines.{same}
 use Rattle.meaning.specs.Numerals as numerals
 use Rattle.grammar.specs.Grammar.{Token}
 use Rattle.grammar.specs.Tokens.{hang, token_spelt, symbols, is_word, or_number, token_of}
-use Rattle.read_tokens.specs.Sorts as sorts
 use Rattle.read_tokens.specs.Lexemes.{lexeme_of}
 use Rattle.read_tokens.specs.Chunks.{chunk_size}
 use Rattle.read_tokens.specs.declared.Lexeme.{Lexeme}
@@ -132,21 +133,20 @@ module _ (line : List ℕ) (at from : ℕ) (begins : from ≡ at + blanks (drop 
   unfolding chunk_size
   next-past-end h = next-is none (from + chunk_size (drop from line)) (ap (λ (bs : List ℕ). token_of (take (chunk_size bs) bs)) (drop_of_length-le line h) ∙ no_bytes) refl
 
-  module _ (to : ℕ) (found : Lexeme) (inside : from < length line) (ends : to ≡ from + chunk_size (drop from (take (reach_from line from) line)))
-      (is : found ≡ lexeme_of (token_of (take (to - from) (drop from line)))) where
-    sort-is : found.sort ≡ (lexeme_of (token_of (chunk_in line from))).sort
-    sort-is = ap (λ (l : Lexeme). l.sort) is ∙ ap (λ (o : Option Token). (lexeme_of o).sort) (same-token line from to inside ends)
+  module _ (to : ℕ) (inside : from < length line) (ends : to ≡ from + chunk_size (drop from (take (reach_from line from) line))) where
+    same-lexeme : lexeme_of (token_of (take (to - from) (drop from line))) ≡ lexeme_of (token_of (chunk_in line from))
+    same-lexeme = ap lexeme_of (same-token line from to inside ends)
 
     -- the bytes are no token
-    pub next-none : found.sort ≡ sorts.no_token → standing none from from ≡ next_in line at
-    next-none h = next-is none (from + chunk_size (drop from line)) (no-token (token_of (chunk_in line from)) (sym sort-is ∙ h)) refl
+    pub next-none : None ≡ lexeme_of (token_of (take (to - from) (drop from line))) → standing none from from ≡ next_in line at
+    next-none h = next-is none (from + chunk_size (drop from line)) (no-token (token_of (chunk_in line from)) (sym (h ∙ same-lexeme))) refl
 
     -- they are one
-    pub next-there : (found.sort ≡ sorts.no_token → ⊥) → record { sort = found.sort; value = found.value; from = from; to = to } ≡ next_in line at
-    next-there h = go (token_of (chunk_in line from)) refl
+    pub next-there : (l : Lexeme) → Some l ≡ lexeme_of (token_of (take (to - from) (drop from line))) → record { token = Some l; from = from; to = to } ≡ next_in line at
+    next-there l h = go (token_of (chunk_in line from)) refl
       where
-        go : (o : Option Token) → token_of (chunk_in line from) ≡ o → record { sort = found.sort; value = found.value; from = from; to = to } ≡ next_in line at
-        go none e = absurd (h (sort-is ∙ ap (λ (o : Option Token). (lexeme_of o).sort) e))
+        go : (o : Option Token) → token_of (chunk_in line from) ≡ o → record { token = Some l; from = from; to = to } ≡ next_in line at
+        go none e = let q : Some l ≡ None = h ∙ same-lexeme ∙ ap lexeme_of e in cc
         go (some t) e =
-            ap (λ (l : Lexeme). record { sort = l.sort; value = l.value; from = from; to = to }) (is ∙ ap lexeme_of (same-token line from to inside ends ∙ e))
+            ap (λ (o : found.Option Lexeme). record { token = o; from = from; to = to }) (h ∙ same-lexeme ∙ ap lexeme_of e)
             ∙ next-is (some t) to e (token-ends line from to inside ends t e)

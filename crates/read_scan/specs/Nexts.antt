@@ -1,11 +1,10 @@
 -- The next token of a line from a place on.
-use Rattle.std.specs.Prelude.{List, [], ◌∷◌, ℕ, suc, ◌+◌, ◌-◌, pos, length, take, drop, eqb, ltb}
+use Rattle.std.specs.Prelude.{List, [], ◌∷◌, ℕ, suc, ◌+◌, ◌-◌, length, take, drop, eqb, ltb, Some, None}
 use Rattle.std.proofs.Math.Option.{Option, none, some}
 use Rattle.meaning.specs.Basics.{if_else}
 use Rattle.grammar.specs.Grammar.{Token}
 use Rattle.grammar.specs.Scan.{space}
 use Rattle.grammar.specs.Tokens.{token_of}
-use Rattle.read_tokens.specs.Sorts as sorts
 use Rattle.read_tokens.specs.Lexemes.{token_lexeme}
 use Rattle.read_tokens.specs.Chunks.{chunk_size}
 use Rattle.read_scan.specs.declared.Next.{Next}
@@ -21,8 +20,8 @@ chunk_in line from = take (chunk_size (drop from line)) (drop from line)
 
 -- a token from a place to a place; no token ends where it begins
 abbrev pub standing : Option Token → ℕ → ℕ → Next
-standing none from to = record { sort = sorts.no_token; value = pos 0; from = from; to = from }
-standing (some t) from to = record { sort = (token_lexeme t).sort; value = (token_lexeme t).value; from = from; to = to }
+standing none from to = record { token = None; from = from; to = from }
+standing (some t) from to = record { token = Some (token_lexeme t); from = from; to = to }
 
 -- the token of the chunk at a place
 abbrev pub next_from : List ℕ → ℕ → Next

@@ -5,13 +5,12 @@ ghost use Rattle.std.specs.Prelude.{◌≡◌, ◌+◌, ◌≤◌, length, drop}
 ghost use Rattle.std.proofs.Math.Option.{none};
 ghost use Rattle.read_scan.specs.Nexts.{blanks, standing, next_in, reach_from};
 
-use read_tokens::sorts;
+use read_tokens::Lexeme;
 
-// The next token of a line: its sort and value, where it begins and where it ends.
-#[derive(Drop)]
+// The next token of a line, where it begins and where it ends. No token ends where it begins.
+#[derive(Clone, Copy)]
 pub struct Next {
-    pub sort: u8,
-    pub value: i32,
+    pub token: Option<Lexeme>,
     pub from: usize,
     pub to: usize,
 }
@@ -20,14 +19,12 @@ pub struct Next {
 pub fn blank_end(line: &[u8], from: usize) -> usize
     ensures { result ≡ from + blanks (drop from line.now) }
 {
-    let mut at = from;
-    while at < line.len() {
+    for at in from..line.len() {
         if line[at] != b' ' {
             return at;
         }
-        at += 1;
     }
-    at
+    from.max(line.len())
 }
 
 // No token at a place.
@@ -35,8 +32,7 @@ fn none_at(from: usize) -> Next
     ensures { result ≡ standing none from from }
 {
     Next {
-        sort: sorts::NO_TOKEN,
-        value: 0,
+        token: None,
         from,
         to: from,
     }
@@ -48,9 +44,10 @@ fn reach(line: &[u8], from: usize) -> usize
     ensures { result ≡ reach_from line.now from }
 {
     if line.len() - from < 32 {
-        return line.len();
+        line.len()
+    } else {
+        from + 32
     }
-    from + 32
 }
 
 // The next token of a line from a place on.
@@ -63,14 +60,12 @@ pub fn next_token(line: &[u8], at: usize) -> Next
     }
     let end = reach(line, from);
     let to = read_tokens::chunk_end(&line[..end], from);
-    let found = read_tokens::token_of(&line[from..to]);
-    if found.sort == sorts::NO_TOKEN {
-        return none_at(from);
-    }
-    Next {
-        sort: found.sort,
-        value: found.value,
-        from,
-        to,
+    match read_tokens::token_of(&line[from..to]) {
+        Some(token) => Next {
+            token: Some(token),
+            from,
+            to,
+        },
+        None => none_at(from),
     }
 }

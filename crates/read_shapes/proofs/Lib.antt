@@ -1,5 +1,4 @@
 pub mod SortTells
 pub mod PhraseLaws
 pub mod TurnMeans
-pub mod TurnSteps
 pub mod RecogniseSteps

@@ -3,6 +3,8 @@ use mathlib.Core.Path.{◌≡◌, refl, sym, ap₂, subst}
 use mathlib.Core.Bool.{Bool, true, false}
 use mathlib.Core.List.{List, [], ◌∷◌}
 use mathlib.Core.Option.{Option, none, some}
+use Rattle.std.specs.Prelude as turns
+use Rattle.std.specs.Prelude.{Some, None}
 use Prim.Native.Nat.{ℕ, zero, suc, ◌+◌, ◌-◌, ◌%◌, ◌≤◌, ◌<◌}
 use native.Mathlib.Numerals.{add-one}
 use native.Mathlib.Omega.{arith}
@@ -13,8 +15,8 @@ use borrow.Author.Tests.{ne_eqb, eqb-true, lt-ltb, le-ltb}
 use Rattle.meaning.specs.Basics.{if_else}
 use Rattle.grammar.specs.Grammar.{Link, both, either}
 use Rattle.grammar.specs.Shapes.{initial, final, element, chain, Opening, round-in, square-in, OperandShape, wants, has, unless_element, if_initial, chain_on, round_off, square_off, square_on, shape_complete}
-use Rattle.read_shapes.specs.Numbers.{wanting, having, having_name, stop, kind_at, opening_at, top_first, openings_at, shape_at, complete_at}
-use Rattle.read_shapes.specs.Turns.{by_wanted, by_had, shape_by_sort, kept, stopped, opened, closed, unless_element_turn, if_initial_turn, chain_turn, round_off_turn, square_off_turn, square_on_turn, turn_wanting, turn_having, turn_of}
+use Rattle.read_shapes.specs.Numbers.{wanting, having, having_name, kind_at, opening_at, top_first, openings_at, shape_at, complete_at}
+use Rattle.read_shapes.specs.Turns.{by_wanted, by_had, shape_by_sort, kept, opened, closed, unless_element_turn, if_initial_turn, chain_turn, round_off_turn, square_off_turn, square_on_turn, turn_wanting, turn_having, turn_of}
 use Rattle.read_shapes.specs.declared.Turn.{Turn}
 
 -- Kinds by number ---------------------------------------------------------------------------------------------------------------
@@ -97,76 +99,82 @@ stack-pushed stack d v h = ap₂ (λ (b : ℕ) (bs : List ℕ). b ∷ bs) (get_o
 -- Turns -------------------------------------------------------------------------------------------------------------------------
 
 -- the state after a turn, whose byte is stored above the open brackets
-abbrev pub after : List ℕ → ℕ → Turn → Option OperandShape
-after stack d t = if_else (eqb t.mode stop) none (some (shape_at t.mode t.kind (openings_at (set stack (d + 1) t.pushed) t.depth)))
+abbrev pub after : List ℕ → ℕ → turns.Option Turn → Option OperandShape
+after stack d None = none
+after stack d (Some t) = some (shape_at t.mode t.kind (openings_at (set stack (d + 1) t.pushed) t.depth))
 
--- a turn leads to a state; its kind is small, and it opens at most one bracket
-abbrev pub Does : List ℕ → ℕ → Turn → Option OperandShape → Type 0
-Does stack d t q = (after stack d t ≡ q) × (t.kind < 8) × (t.depth ≤ d + 1)
+-- its kind is small, and it opens at most one bracket
+abbrev pub Small : ℕ → turns.Option Turn → Type 0
+Small d None = Unit {0}
+Small d (Some t) = (t.kind < 8) × (t.depth ≤ d + 1)
+
+-- a turn leads to a state
+abbrev pub Does : List ℕ → ℕ → turns.Option Turn → Option OperandShape → Type 0
+Does stack d t q = (after stack d t ≡ q) × Small d t
 
 module _ (stack : List ℕ) where
-  stop-does : (d e : ℕ) → e ≤ d + 1 → Does stack d (stopped e) none
-  stop-does d e h = (refl, omega arith, h)
+  stop-does : (d : ℕ) → Does stack d None none
+  stop-does d = (refl, tt)
 
-  keep-does : (m k d : ℕ) → eqb m stop ≡ false → k < 8 → Does stack d (kept m k d) (some (shape_at m k (openings_at stack d)))
-  keep-does m k d h l = (rw (h, stack_above stack d (d + 1) 0 (omega arith)) refl, l, omega arith)
+  keep-does : (m k d : ℕ) → k < 8 → Does stack d (Some (kept m k d)) (some (shape_at m k (openings_at stack d)))
+  keep-does m k d l = (rw (stack_above stack d (d + 1) 0 (omega arith)) refl, (l, omega arith))
 
-  open-does : (b d : ℕ) → suc d < length stack → Does stack d (opened b d) (some (wants initial (opening_at b ∷ openings_at stack d)))
+  open-does : (b d : ℕ) → suc d < length stack → Does stack d (Some (opened b d)) (some (wants initial (opening_at b ∷ openings_at stack d)))
   unfolding kind_at
-  open-does b d h = (rw (add-one d, stack-pushed stack d b h) refl, omega arith, omega arith)
+  open-does b d h = (rw (add-one d, stack-pushed stack d b h) refl, (omega arith, omega arith))
 
-  close-does : (top d : ℕ) → Does stack (suc d) (closed top (suc d)) (some (has (kind_at (top % 8)) (openings_at stack d) false))
+  close-does : (top d : ℕ) → Does stack (suc d) (Some (closed top (suc d))) (some (has (kind_at (top % 8)) (openings_at stack d) false))
   close-does top d =
       let e : suc d - 1 ≡ d = omega arith in
-      (rw (e, stack_above stack d (suc d + 1) 0 (omega arith)) refl, omega arith, omega arith)
+      (rw (e, stack_above stack d (suc d + 1) 0 (omega arith)) refl, (omega arith, omega arith))
 
   -- the same after a test
-  unless-does : (k d : ℕ) (t : Turn) (q : OperandShape) → Does stack d t (some q) → Does stack d (unless_element_turn k t) (unless_element (kind_at k) q)
+  unless-does : (k d : ℕ) (t : Turn) (q : OperandShape) → Does stack d (Some t) (some q) → Does stack d (unless_element_turn k t) (unless_element (kind_at k) q)
   unless-does k d t q h = subst (Does stack d (unless_element_turn k t)) (sym (unless-number k q)) (go (eqb k 2))
     where
-      go : (b : Bool) → Does stack d (if_else b (stopped t.depth) t) (if_else b none (some q))
-      go true = stop-does d t.depth h.2
+      go : (b : Bool) → Does stack d (if_else b None (Some t)) (if_else b none (some q))
+      go true = stop-does d
       go false = h
 
-  initial-does : (k d : ℕ) (t : Turn) (q : OperandShape) → Does stack d t (some q) → Does stack d (if_initial_turn k t) (if_initial (kind_at k) q)
+  initial-does : (k d : ℕ) (t : Turn) (q : OperandShape) → Does stack d (Some t) (some q) → Does stack d (if_initial_turn k t) (if_initial (kind_at k) q)
   initial-does k d t q h = subst (Does stack d (if_initial_turn k t)) (sym (initial-number k q)) (go (eqb k 0))
     where
-      go : (b : Bool) → Does stack d (if_else b t (stopped t.depth)) (if_else b (some q) none)
+      go : (b : Bool) → Does stack d (if_else b (Some t) None) (if_else b (some q) none)
       go true = h
-      go false = stop-does d t.depth h.2
+      go false = stop-does d
 
   chain-does : (l : Link) (k d : ℕ) → Does stack d (chain_turn (chain_number l) k d) (chain_on l (kind_at k) (openings_at stack d))
   unfolding kind_at
   chain-does l k d = subst (Does stack d (chain_turn (chain_number l) k d)) (sym (chain-number l k (openings_at stack d))) (go l (eqb k 0) (eqb k (chain_number l)))
     where
-      linked : (l : Link) → Does stack d (kept wanting (chain_number l) d) (some (wants (chain l) (openings_at stack d)))
-      linked both = keep-does wanting 3 d refl (omega arith)
-      linked either = keep-does wanting 4 d refl (omega arith)
+      linked : (l : Link) → Does stack d (Some (kept wanting (chain_number l) d)) (some (wants (chain l) (openings_at stack d)))
+      linked both = keep-does wanting 3 d (omega arith)
+      linked either = keep-does wanting 4 d (omega arith)
 
       go : (l : Link) (a b : Bool)
-          → Does stack d (if_else a (kept wanting (chain_number l) d) (if_else b (kept wanting (chain_number l) d) (stopped d))) (if_else a (some (wants (chain l) (openings_at stack d))) (if_else b (some (wants (chain l) (openings_at stack d))) none))
+          → Does stack d (if_else a (Some (kept wanting (chain_number l) d)) (if_else b (Some (kept wanting (chain_number l) d)) None)) (if_else a (some (wants (chain l) (openings_at stack d))) (if_else b (some (wants (chain l) (openings_at stack d))) none))
       go l true b = linked l
       go l false true = linked l
-      go l false false = stop-does d d (omega arith)
+      go l false false = stop-does d
 
   round-does : (d : ℕ) → Does stack d (round_off_turn (get_or stack d 0) d) (round_off (openings_at stack d))
   unfolding round_off top_first opening_at
-  round-does zero = stop-does 0 0 (omega arith)
+  round-does zero = stop-does 0
   round-does (suc d) = let top = get_or stack (suc d) 0 in rw (ne_eqb (suc d) 0 (λ e. omega (arith, e))) (go (ltb top 8))
     where
-      go : (b : Bool) → Does stack (suc d) (if_else b (closed (get_or stack (suc d) 0) (suc d)) (stopped (suc d)))
+      go : (b : Bool) → Does stack (suc d) (if_else b (Some (closed (get_or stack (suc d) 0) (suc d))) None)
           (round_off (if_else b (round-in (kind_at (get_or stack (suc d) 0 % 8))) (square-in (kind_at (get_or stack (suc d) 0 % 8))) ∷ openings_at stack d))
       go true = close-does (get_or stack (suc d) 0) d
-      go false = stop-does (suc d) (suc d) (omega arith)
+      go false = stop-does (suc d)
 
   square-does : (d : ℕ) → Does stack d (square_off_turn (get_or stack d 0) d) (square_off (openings_at stack d))
   unfolding square_off top_first opening_at
-  square-does zero = stop-does 0 0 (omega arith)
+  square-does zero = stop-does 0
   square-does (suc d) = let top = get_or stack (suc d) 0 in rw (ne_eqb (suc d) 0 (λ e. omega (arith, e))) (go (ltb top 8))
     where
-      go : (b : Bool) → Does stack (suc d) (if_else b (stopped (suc d)) (closed (get_or stack (suc d) 0) (suc d)))
+      go : (b : Bool) → Does stack (suc d) (if_else b None (Some (closed (get_or stack (suc d) 0) (suc d))))
           (square_off (if_else b (round-in (kind_at (get_or stack (suc d) 0 % 8))) (square-in (kind_at (get_or stack (suc d) 0 % 8))) ∷ openings_at stack d))
-      go true = stop-does (suc d) (suc d) (omega arith)
+      go true = stop-does (suc d)
       go false = close-does (get_or stack (suc d) 0) d
 
   -- an open bracket of each form
@@ -178,16 +186,16 @@ module _ (stack : List ℕ) where
   unfolding opening_at
   square-number k h = let e : (k + 8) % 8 ≡ k = omega arith in rw (le-ltb (k + 8) 8 (omega arith), e) refl
 
-  bracket-does : (k d : ℕ) → suc d < length stack → k < 8 → Does stack d (opened k d) (some (wants initial (round-in (kind_at k) ∷ openings_at stack d)))
-  bracket-does k d r h = subst (λ (o : Opening). Does stack d (opened k d) (some (wants initial (o ∷ openings_at stack d)))) (round_number k h) (open-does k d r)
+  bracket-does : (k d : ℕ) → suc d < length stack → k < 8 → Does stack d (Some (opened k d)) (some (wants initial (round-in (kind_at k) ∷ openings_at stack d)))
+  bracket-does k d r h = subst (λ (o : Opening). Does stack d (Some (opened k d)) (some (wants initial (o ∷ openings_at stack d)))) (round_number k h) (open-does k d r)
 
   subscript-does : (m k d : ℕ) → suc d < length stack → k < 8 → Does stack d (square_on_turn m k d) (square_on (kind_at k) (openings_at stack d) (eqb m having_name))
   unfolding square_on
   subscript-does m k d r h = go (eqb m having_name)
     where
-      go : (b : Bool) → Does stack d (if_else b (opened (k + 8) d) (stopped d)) (square_on (kind_at k) (openings_at stack d) b)
-      go true = subst (λ (o : Opening). Does stack d (opened (k + 8) d) (some (wants initial (o ∷ openings_at stack d)))) (square-number k h) (open-does (k + 8) d r)
-      go false = stop-does d d (omega arith)
+      go : (b : Bool) → Does stack d (if_else b (Some (opened (k + 8) d)) None) (square_on (kind_at k) (openings_at stack d) b)
+      go true = subst (λ (o : Opening). Does stack d (Some (opened (k + 8) d)) (some (wants initial (o ∷ openings_at stack d)))) (square-number k h) (open-does (k + 8) d r)
+      go false = stop-does d
 
 -- By sort -----------------------------------------------------------------------------------------------------------------------
 
@@ -230,21 +238,21 @@ turn-does stack m k d s r h = go (eqb m wanting)
     go : (b : Bool) → Does stack d (if_else b (turn_wanting k d s) (turn_having m k d (get_or stack d 0) s)) (shape_by_sort (if_else b (wants (kind_at k) os) (has (kind_at k) os (eqb m having_name))) s)
     go true =
         by-wanted (Does stack d) s
-        (keep-does stack having_name k d refl h)
-        (unless-does stack k d (kept having k d) (has (kind_at k) os false) (keep-does stack having k d refl h))
-        (initial-does stack k d (kept wanting 1 d) (wants final os) (keep-does stack wanting 1 d refl (omega arith)))
-        (initial-does stack k d (kept wanting 2 d) (wants element os) (keep-does stack wanting 2 d refl (omega arith)))
+        (keep-does stack having_name k d h)
+        (unless-does stack k d (kept having k d) (has (kind_at k) os false) (keep-does stack having k d h))
+        (initial-does stack k d (kept wanting 1 d) (wants final os) (keep-does stack wanting 1 d (omega arith)))
+        (initial-does stack k d (kept wanting 2 d) (wants element os) (keep-does stack wanting 2 d (omega arith)))
         (unless-does stack k d (opened k d) (wants initial (round-in (kind_at k) ∷ os)) (bracket-does stack k d r h))
-        (stop-does stack d d (omega arith))
+        (stop-does stack d)
     go false =
         by-had (Does stack d) s
-        (initial-does stack k d (kept wanting 1 d) (wants final os) (keep-does stack wanting 1 d refl (omega arith)))
+        (initial-does stack k d (kept wanting 1 d) (wants final os) (keep-does stack wanting 1 d (omega arith)))
         (chain-does stack both k d)
         (chain-does stack either k d)
         (round-does stack d)
         (subscript-does stack m k d r h)
         (square-does stack d)
-        (stop-does stack d d (omega arith))
+        (stop-does stack d)
 
 -- an operand has been read and no bracket is open
 pub complete-means : (stack : List ℕ) (m k d : ℕ) → complete_at m d ≡ shape_complete (some (shape_at m k (openings_at stack d)))

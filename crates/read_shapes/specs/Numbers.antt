@@ -16,10 +16,6 @@ having = 1
 abbrev pub having_name : ℕ
 having_name = 2
 
--- the tokens have failed
-abbrev pub stop : ℕ
-stop = 3
-
 -- the kind of an operand's place
 unfoldable pub kind_at : ℕ → Kind
 kind_at k = if_else (eqb k 0) initial (if_else (eqb k 2) element (if_else (eqb k 3) (chain both) (if_else (eqb k 4) (chain either) final)))

@@ -1,12 +1,13 @@
 -- What a token does to the state of the recogniser, by number; it depends on the token's sort alone.
-use Rattle.std.specs.Prelude.{◌≡◌, true, false, ◌∷◌, ℕ, ◌+◌, ◌-◌, ◌%◌, eqb, ltb}
+use Rattle.std.specs.Prelude as turns
+use Rattle.std.specs.Prelude.{Some, None, ◌≡◌, true, false, ◌∷◌, ℕ, ◌+◌, ◌-◌, ◌%◌, eqb, ltb}
 use Rattle.std.proofs.Math.Option.{Option, none, some}
 use Rattle.meaning.specs.Basics.{if_else}
 use Rattle.grammar.specs.Grammar.{both, either, Token}
 use Rattle.grammar.specs.Shapes.{initial, final, element, round-in, OperandShape, wants, has, unless_element, if_initial, chain_on, round_off, square_off, square_on, shape_after}
 use Rattle.read_tokens.specs.Sorts as sorts
 use Rattle.read_tokens.specs.Held.{token_sort}
-use Rattle.read_shapes.specs.Numbers.{wanting, having, having_name, stop}
+use Rattle.read_shapes.specs.Numbers.{wanting, having, having_name}
 use Rattle.read_shapes.specs.declared.Turn.{Turn}
 
 -- by the sort of a token where an operand is wanted: a name, a number, minus or NOT, GIVEN, a round bracket, another
@@ -33,10 +34,6 @@ SortTells = (q : OperandShape) (t : Token) → shape_after q t ≡ shape_by_sort
 abbrev pub kept : ℕ → ℕ → ℕ → Turn
 kept m k d = record { mode = m; kind = k; depth = d; pushed = 0 }
 
--- the token may not stand there
-abbrev pub stopped : ℕ → Turn
-stopped d = record { mode = stop; kind = 0; depth = d; pushed = 0 }
-
 -- a bracket more
 abbrev pub opened : ℕ → ℕ → Turn
 opened b d = record { mode = wanting; kind = 0; depth = d + 1; pushed = b }
@@ -45,40 +42,40 @@ opened b d = record { mode = wanting; kind = 0; depth = d + 1; pushed = b }
 abbrev pub closed : ℕ → ℕ → Turn
 closed top d = record { mode = having; kind = top % 8; depth = d - 1; pushed = 0 }
 
--- `unless_element` by number
-abbrev pub unless_element_turn : ℕ → Turn → Turn
-unless_element_turn k t = if_else (eqb k 2) (stopped t.depth) t
+-- `unless_element` by number; none where the token may not stand
+abbrev pub unless_element_turn : ℕ → Turn → turns.Option Turn
+unless_element_turn k t = if_else (eqb k 2) None (Some t)
 
 -- `if_initial` by number
-abbrev pub if_initial_turn : ℕ → Turn → Turn
-if_initial_turn k t = if_else (eqb k 0) t (stopped t.depth)
+abbrev pub if_initial_turn : ℕ → Turn → turns.Option Turn
+if_initial_turn k t = if_else (eqb k 0) (Some t) None
 
 -- `chain_on` by number
-abbrev pub chain_turn : ℕ → ℕ → ℕ → Turn
-chain_turn c k d = if_else (eqb k 0) (kept wanting c d) (if_else (eqb k c) (kept wanting c d) (stopped d))
+abbrev pub chain_turn : ℕ → ℕ → ℕ → turns.Option Turn
+chain_turn c k d = if_else (eqb k 0) (Some (kept wanting c d)) (if_else (eqb k c) (Some (kept wanting c d)) None)
 
 -- `round_off` by number
-abbrev pub round_off_turn : ℕ → ℕ → Turn
-round_off_turn top d = if_else (eqb d 0) (stopped d) (if_else (ltb top 8) (closed top d) (stopped d))
+abbrev pub round_off_turn : ℕ → ℕ → turns.Option Turn
+round_off_turn top d = if_else (eqb d 0) None (if_else (ltb top 8) (Some (closed top d)) None)
 
 -- `square_off` by number
-abbrev pub square_off_turn : ℕ → ℕ → Turn
-square_off_turn top d = if_else (eqb d 0) (stopped d) (if_else (ltb top 8) (stopped d) (closed top d))
+abbrev pub square_off_turn : ℕ → ℕ → turns.Option Turn
+square_off_turn top d = if_else (eqb d 0) None (if_else (ltb top 8) None (Some (closed top d)))
 
 -- `square_on` by number
-abbrev pub square_on_turn : ℕ → ℕ → ℕ → Turn
-square_on_turn m k d = if_else (eqb m having_name) (opened (k + 8) d) (stopped d)
+abbrev pub square_on_turn : ℕ → ℕ → ℕ → turns.Option Turn
+square_on_turn m k d = if_else (eqb m having_name) (Some (opened (k + 8) d)) None
 
 -- a token of a sort where an operand is wanted
-unfoldable pub turn_wanting : ℕ → ℕ → ℕ → Turn
+unfoldable pub turn_wanting : ℕ → ℕ → ℕ → turns.Option Turn
 turn_wanting k d s =
-    by_wanted s (kept having_name k d) (unless_element_turn k (kept having k d)) (if_initial_turn k (kept wanting 1 d)) (if_initial_turn k (kept wanting 2 d)) (unless_element_turn k (opened k d)) (stopped d)
+    by_wanted s (Some (kept having_name k d)) (unless_element_turn k (kept having k d)) (if_initial_turn k (kept wanting 1 d)) (if_initial_turn k (kept wanting 2 d)) (unless_element_turn k (opened k d)) None
 
 -- a token of a sort after an operand
-unfoldable pub turn_having : ℕ → ℕ → ℕ → ℕ → ℕ → Turn
+unfoldable pub turn_having : ℕ → ℕ → ℕ → ℕ → ℕ → turns.Option Turn
 turn_having m k d top s =
-    by_had s (if_initial_turn k (kept wanting 1 d)) (chain_turn 3 k d) (chain_turn 4 k d) (round_off_turn top d) (square_on_turn m k d) (square_off_turn top d) (stopped d)
+    by_had s (if_initial_turn k (kept wanting 1 d)) (chain_turn 3 k d) (chain_turn 4 k d) (round_off_turn top d) (square_on_turn m k d) (square_off_turn top d) None
 
 -- what a token of a sort does
-unfoldable pub turn_of : ℕ → ℕ → ℕ → ℕ → ℕ → Turn
+unfoldable pub turn_of : ℕ → ℕ → ℕ → ℕ → ℕ → turns.Option Turn
 turn_of m k d top s = if_else (eqb m wanting) (turn_wanting k d s) (turn_having m k d top s)

@@ -12,7 +12,7 @@ mod turns; // turns.rt: what a token does to the state
 use numbers::*;
 
 // What a token does: the mode and kind after it, how many brackets are then open, and what is pushed.
-#[derive(Drop)]
+#[derive(Clone, Copy)]
 struct Turn {
     mode: u8,
     kind: u8,
@@ -24,10 +24,7 @@ struct Turn {
 fn complete(mode: u8, depth: usize) -> bool
     ensures { result ≡ complete_at mode depth }
 {
-    if mode == WANTS {
-        return false;
-    }
-    depth == 0
+    mode != WANTS && depth == 0
 }
 
 // Whether tokens of some sorts go from an operand's place to its end. The stack has a byte more than there are tokens: the lowest is unused.
@@ -38,48 +35,37 @@ fn recognise(first: u8, sorts: &[u8], stack: &mut [u8]) -> bool
     let mut mode: u8 = WANTS;
     let mut kind: u8 = first;
     let mut depth: usize = 0;
-    let mut at: usize = 0;
-    while at < sorts.len() {
-        let turn = turns::turn(mode, kind, depth, stack[depth], sorts[at]);
-        if turn.mode == STOPPED {
+    for sort in sorts {
+        let Some(turn) = turns::turn(mode, kind, depth, stack[depth], *sort) else {
             return false;
-        }
+        };
         stack[depth + 1] = turn.pushed;
         mode = turn.mode;
         kind = turn.kind;
         depth = turn.depth;
-        at += 1;
     }
     complete(mode, depth)
 }
 
-// The recogniser with a small stack.
-fn recognise_short(first: u8, sorts: &[u8]) -> bool
-    requires { (first < 8) × (length sorts.now ≤ 60) }
+// The recogniser with a stack of a size.
+fn recognise_in<const N: usize>(first: u8, sorts: &[u8]) -> bool
+    requires { (first < 8) × (length sorts.now < N) × (N ≤ 32769) }
     ensures { result ≡ phrase_in (kind_at first) sorts.now }
 {
-    let mut stack = [0u8; 64];
+    let mut stack = [0u8; N];
     recognise(first, sorts, &mut stack)
 }
 
-// The recogniser with a stack for the most tokens.
-fn recognise_long(first: u8, sorts: &[u8]) -> bool
-    requires { (first < 8) × (length sorts.now ≤ 32768) }
-    ensures { result ≡ phrase_in (kind_at first) sorts.now }
-{
-    let mut stack = [0u8; 32769];
-    recognise(first, sorts, &mut stack)
-}
-
-// The recogniser, with a stack by the number of tokens.
+// The recogniser, with a small stack or one for the most tokens.
 fn recognise_part(first: u8, sorts: &[u8]) -> bool
     requires { (first < 8) × (length sorts.now ≤ 32768) }
     ensures { result ≡ phrase_in (kind_at first) sorts.now }
 {
     if sorts.len() <= 60 {
-        return recognise_short(first, sorts);
+        recognise_in::<64>(first, sorts)
+    } else {
+        recognise_in::<32769>(first, sorts)
     }
-    recognise_long(first, sorts)
 }
 
 // Whether tokens of some sorts are an expression.

@@ -1,4 +1,4 @@
-// What a token does to the state of the recogniser.
+// What a token does to the state of the recogniser; none where it may not stand.
 ghost use Rattle.std.specs.Prelude.{◌≡◌, ◌<◌};
 ghost use Rattle.read_shapes.specs.Turns as turns;
 
@@ -13,18 +13,6 @@ fn keep(mode: u8, kind: u8, depth: usize) -> Turn
     Turn {
         mode,
         kind,
-        depth,
-        pushed: 0,
-    }
-}
-
-// The end: the token may not stand there.
-fn stop(depth: usize) -> Turn
-    ensures { result ≡ turns.stopped depth }
-{
-    Turn {
-        mode: STOPPED,
-        kind: 0,
         depth,
         pushed: 0,
     }
@@ -57,93 +45,80 @@ fn close(top: u8, depth: usize) -> Turn
 }
 
 // What only the place after GIVEN does not allow.
-fn unless_element(kind: u8, then: Turn) -> Turn
+fn unless_element(kind: u8, then: Turn) -> Option<Turn>
     ensures { result ≡ turns.unless_element_turn kind then }
 {
-    if kind == ELEMENT {
-        return stop(then.depth);
-    }
-    then
+    (kind != ELEMENT).then_some(then)
 }
 
 // What only the first operand's place allows.
-fn if_initial(kind: u8, then: Turn) -> Turn
+fn if_initial(kind: u8, then: Turn) -> Option<Turn>
     ensures { result ≡ turns.if_initial_turn kind then }
 {
-    if kind == INITIAL {
-        return then;
-    }
-    stop(then.depth)
+    (kind == INITIAL).then_some(then)
 }
 
 // AND or OR after an operand.
-fn chain_on(chain: u8, kind: u8, depth: usize) -> Turn
+fn chain_on(chain: u8, kind: u8, depth: usize) -> Option<Turn>
     ensures { result ≡ turns.chain_turn chain kind depth }
 {
-    if kind == INITIAL {
-        return keep(WANTS, chain, depth);
-    }
-    if kind == chain {
-        return keep(WANTS, chain, depth);
-    }
-    stop(depth)
+    (kind == INITIAL || kind == chain).then_some(keep(WANTS, chain, depth))
 }
 
 // The end of a phrase in round brackets.
-fn round_off(top: u8, depth: usize) -> Turn
+fn round_off(top: u8, depth: usize) -> Option<Turn>
     ensures { result ≡ turns.round_off_turn top depth }
 {
-    if depth == 0 {
-        return stop(depth);
+    if 0 < depth && top < 8 {
+        Some(close(top, depth))
+    } else {
+        None
     }
-    if top < 8 {
-        return close(top, depth);
-    }
-    stop(depth)
 }
 
 // The end of a subscript.
-fn square_off(top: u8, depth: usize) -> Turn
+fn square_off(top: u8, depth: usize) -> Option<Turn>
     ensures { result ≡ turns.square_off_turn top depth }
 {
-    if depth == 0 {
-        return stop(depth);
+    if 0 < depth && 8 <= top {
+        Some(close(top, depth))
+    } else {
+        None
     }
-    if top < 8 {
-        return stop(depth);
-    }
-    close(top, depth)
 }
 
 // The beginning of a subscript.
-fn square_on(mode: u8, kind: u8, depth: usize) -> Turn
+fn square_on(mode: u8, kind: u8, depth: usize) -> Option<Turn>
     requires { (kind < 8) × (depth < 32768) }
     ensures { result ≡ turns.square_on_turn mode kind depth }
 {
     if mode == HAS_NAME {
-        return open(kind + 8, depth);
+        Some(open(kind + 8, depth))
+    } else {
+        None
     }
-    stop(depth)
 }
 
 // A token where an operand is wanted.
-fn turn_wanting(kind: u8, depth: usize, sort: u8) -> Turn
+#[tactic(auto, unfolding(crate::specs::Turns::turn_wanting))]
+fn turn_wanting(kind: u8, depth: usize, sort: u8) -> Option<Turn>
     requires { depth < 32768 }
     ensures { result ≡ turns.turn_wanting kind depth sort }
 {
     match sort {
-        sorts::NAME => keep(HAS_NAME, kind, depth),
+        sorts::NAME => Some(keep(HAS_NAME, kind, depth)),
         sorts::NUMBER => unless_element(kind, keep(HAS, kind, depth)),
         sorts::MINUS => if_initial(kind, keep(WANTS, FINAL, depth)),
         sorts::NOT => if_initial(kind, keep(WANTS, FINAL, depth)),
         sorts::GIVEN => if_initial(kind, keep(WANTS, ELEMENT, depth)),
         sorts::ROUND_OPEN => unless_element(kind, open(kind, depth)),
-        _ => stop(depth),
+        _ => None,
     }
 }
 
 // A token after an operand.
-fn turn_having(mode: u8, kind: u8, depth: usize, top: u8, sort: u8) -> Turn
+#[tactic(auto, unfolding(crate::specs::Turns::turn_having))]
+fn turn_having(mode: u8, kind: u8, depth: usize, top: u8, sort: u8) -> Option<Turn>
     requires { (kind < 8) × (depth < 32768) }
     ensures { result ≡ turns.turn_having mode kind depth top sort }
 {
@@ -155,17 +130,19 @@ fn turn_having(mode: u8, kind: u8, depth: usize, top: u8, sort: u8) -> Turn
         sorts::ROUND_CLOSE => round_off(top, depth),
         sorts::SQUARE_OPEN => square_on(mode, kind, depth),
         sorts::SQUARE_CLOSE => square_off(top, depth),
-        _ => stop(depth),
+        _ => None,
     }
 }
 
 // What a token does.
-pub fn turn(mode: u8, kind: u8, depth: usize, top: u8, sort: u8) -> Turn
+#[tactic(auto, unfolding(crate::specs::Turns::turn_of))]
+pub fn turn(mode: u8, kind: u8, depth: usize, top: u8, sort: u8) -> Option<Turn>
     requires { (kind < 8) × (depth < 32768) }
     ensures { result ≡ turns.turn_of mode kind depth top sort }
 {
     if mode == WANTS {
-        return turn_wanting(kind, depth, sort);
+        turn_wanting(kind, depth, sort)
+    } else {
+        turn_having(mode, kind, depth, top, sort)
     }
-    turn_having(mode, kind, depth, top, sort)
 }

@@ -11,7 +11,6 @@ mod names; // names.rt: its names resolved
 mod rows; // rows.rt: its rows written
 
 use names::Named;
-use read_levels::Outlined;
 
 // What reading comes to: so many rows are read, or the text is refused.
 #[derive(Drop)]
@@ -61,10 +60,8 @@ fn read_with(
     ensures { (result, rows.new) ≡ text_read text.now rows.old }
 {
     match read_levels::outline(text, kinds, levels, ends, sorts, values) {
-        Outlined::Fault(line) => TextRead::Refused(12, line),
-        Outlined::Lines(count) => {
-            read_listed(text, kinds, count, levels, ends, sorts, values, rows)
-        }
+        Err(line) => TextRead::Refused(12, line),
+        Ok(count) => read_listed(text, kinds, count, levels, ends, sorts, values, rows),
     }
 }
 

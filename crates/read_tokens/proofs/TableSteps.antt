@@ -3,6 +3,7 @@ use mathlib.Core.Path.{◌≡◌, refl, ap, ◌∙◌}
 use mathlib.Core.Bool.{Bool, true, false}
 use mathlib.Core.List.{List, [], ◌∷◌, map}
 use mathlib.Core.Option.{some}
+use Rattle.std.specs.Prelude.{Option, Some, None}
 use Prim.Native.Nat.{ℕ, suc, ◌+◌, ◌≤◌, ◌<◌}
 use native.Mathlib.Numerals.{add-one}
 use lib.ListN.{length, get_or, drop, drop_of_length-le}
@@ -11,14 +12,13 @@ use Rattle.meaning.specs.Basics.{if_else}
 use Rattle.meaning.specs.Lines.{same}
 use Rattle.grammar.specs.Tokens.{TokenEntry, token_spelt}
 use Rattle.grammar.proofs.LinesSound.{split-and}
-use Rattle.read_tokens.specs.Sorts as sorts
-use Rattle.read_tokens.specs.Lexemes.{plain, token_lexeme, lexeme_of}
+use Rattle.read_tokens.specs.Lexemes.{token_lexeme, lexeme_of}
 use Rattle.read_tokens.specs.Table.{short, all_short, line_spelling, line_lexeme, lexeme_in}
 use Rattle.read_tokens.specs.declared.Lexeme.{Lexeme}
 
 module _ (t : List (List ℕ)) (s : List ℕ) (at : ℕ) where
   -- no line is left
-  pub not_there : length t ≤ at → lexeme_in (drop at t) s ≡ plain sorts.no_token
+  pub not_there : length t ≤ at → lexeme_in (drop at t) s ≡ None
   unfolding lexeme_in
   not_there h = rw (drop_of_length-le t h)
 
@@ -29,7 +29,7 @@ module _ (t : List (List ℕ)) (s : List ℕ) (at : ℕ) where
     line-short e = rw (add-one at) (split-and (short (get_or t at [])) (all_short (drop (suc at) t)) (rw (drop-cons t at [] h) at e))
 
     -- the line spells the bytes
-    pub line-found : same s (line_spelling (get_or t at [])) ≡ true → lexeme_in (drop at t) s ≡ line_lexeme (get_or t at [])
+    pub line-found : same s (line_spelling (get_or t at [])) ≡ true → lexeme_in (drop at t) s ≡ Some (line_lexeme (get_or t at []))
     unfolding lexeme_in
     line-found e = rw (drop-cons t at [] h, e)
 
@@ -49,14 +49,14 @@ line_means l = record { spelling = line_spelling l; lexeme = line_lexeme l }
 abbrev pub entry_means : TokenEntry → Spelt
 entry_means e = record { spelling = e.spelling; lexeme = token_lexeme e.token }
 
-lexeme_among : List Spelt → List ℕ → Lexeme
-lexeme_among [] s = plain sorts.no_token
-lexeme_among (x ∷ xs) s = if_else (same s x.spelling) x.lexeme (lexeme_among xs s)
+lexeme_among : List Spelt → List ℕ → Option Lexeme
+lexeme_among [] s = None
+lexeme_among (x ∷ xs) s = if_else (same s x.spelling) (Some x.lexeme) (lexeme_among xs s)
 
 among-lines : (t : List (List ℕ)) (s : List ℕ) → lexeme_in t s ≡ lexeme_among (map line_means t) s
 unfolding lexeme_in lexeme_among
 among-lines [] s = refl
-among-lines (l ∷ t) s = ap (λ (x : Lexeme). if_else (same s (line_spelling l)) (line_lexeme l) x) (among-lines t s)
+among-lines (l ∷ t) s = ap (λ (x : Option Lexeme). if_else (same s (line_spelling l)) (Some (line_lexeme l)) x) (among-lines t s)
 
 among-entries : (es : List TokenEntry) (s : List ℕ) → lexeme_among (map entry_means es) s ≡ lexeme_of (token_spelt es s)
 unfolding lexeme_among token_spelt
@@ -64,7 +64,7 @@ among-entries [] s = refl
 among-entries (e ∷ es) s = go (same s e.spelling) (among-entries es s)
   where
     go : (b : Bool) → lexeme_among (map entry_means es) s ≡ lexeme_of (token_spelt es s)
-        → if_else b (token_lexeme e.token) (lexeme_among (map entry_means es) s) ≡ lexeme_of (if_else b (some e.token) (token_spelt es s))
+        → if_else b (Some (token_lexeme e.token)) (lexeme_among (map entry_means es) s) ≡ lexeme_of (if_else b (some e.token) (token_spelt es s))
     go true i = refl
     go false i = i
 

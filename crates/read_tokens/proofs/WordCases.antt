@@ -1,19 +1,20 @@
 -- The words by their first byte.
 use mathlib.Core.Path.{◌≡◌, refl, sym, ap, ◌∙◌}
-use mathlib.Core.Bool.{Bool, true, false}
+use mathlib.Core.Bool.{Bool, true, false, false≢true}
 use mathlib.Core.List.{List, [], ◌∷◌, map}
 use mathlib.Core.Option.{Option, some}
 use Prim.Native.Nat.{ℕ}
+use Rattle.std.specs.Prelude as found
+use Rattle.std.specs.Prelude.{None}
 use lib.ListN.{length, get_or}
 use lib.Dec.{eqb}
 use native.Mathlib.Omega.{arith}
-use borrow.Author.Tests.{ne_eqb}
+use borrow.Author.Tests.{ne_eqb, eqb-true}
 use Rattle.meaning.specs.Basics.{if_else}
 use Rattle.meaning.specs.Lines.{same}
 use Rattle.grammar.specs.Grammar.{Token}
 use Rattle.grammar.specs.Tokens.{TokenEntry, token_spelt, words}
-use Rattle.read_tokens.specs.Sorts as sorts
-use Rattle.read_tokens.specs.Lexemes.{plain, lexeme_of}
+use Rattle.read_tokens.specs.Lexemes.{lexeme_of}
 use Rattle.read_tokens.specs.Table.{lexeme_in}
 use Rattle.read_tokens.specs.declared.Lexeme.{Lexeme}
 use Rattle.read_tokens.proofs.TableSteps.{line_means, entry_means, table-means}
@@ -45,21 +46,21 @@ only-beginning b s (e ∷ es) = go (begins b e.spelling) refl (only-beginning b 
     go false q i = rw (other-first b s e.spelling q) i
 
 -- no bytes are no word
-pub no_bytes : (s : List ℕ) → length s ≡ 0 → plain sorts.no_token ≡ lexeme_of (token_spelt words s)
+pub no_bytes : (s : List ℕ) → eqb (length s) 0 ≡ true → None ≡ lexeme_of (token_spelt words s)
 unfolding token_spelt words same
 no_bytes [] e = refl
-no_bytes (b ∷ s) e = absurd (omega arith)
+no_bytes (b ∷ s) e = absurd (let z = eqb-true (length (b ∷ s)) 0 e in omega arith)
 
 -- the first byte is known, and a table has a line for each word that begins with it
-pub first-letter : (s : List ℕ) (k : ℕ) (t : List (List ℕ)) (l : Lexeme) → (length s ≡ 0 → ⊥) → get_or s 0 0 ≡ k → map line_means t ≡ map entry_means (beginning k words)
+pub first-letter : (s : List ℕ) (k : ℕ) (t : List (List ℕ)) (l : found.Option Lexeme) → eqb (length s) 0 ≡ false → get_or s 0 0 ≡ k → map line_means t ≡ map entry_means (beginning k words)
     → l ≡ lexeme_in t s → l ≡ lexeme_of (token_spelt words s)
-first-letter [] k t l n e m h = absurd (n refl)
+first-letter [] k t l n e m h = absurd (false≢true (sym n))
 first-letter (b ∷ s) k t l n e m h =
     h ∙ table-means (beginning k words) t (b ∷ s) m ∙ ap (λ (j : ℕ). lexeme_of (token_spelt (beginning j words) (b ∷ s))) (sym e) ∙ ap lexeme_of (only-beginning b s words)
 
 -- a first byte with which no word begins
 pub first-other : (s : List ℕ) → (get_or s 0 0 ≡ 65 → ⊥) → (get_or s 0 0 ≡ 67 → ⊥) → (get_or s 0 0 ≡ 70 → ⊥) → (get_or s 0 0 ≡ 71 → ⊥) → (get_or s 0 0 ≡ 72 → ⊥) → (get_or s 0 0 ≡ 73 → ⊥) → (get_or s 0 0 ≡ 77 → ⊥)
-    → (get_or s 0 0 ≡ 78 → ⊥) → (get_or s 0 0 ≡ 79 → ⊥) → (get_or s 0 0 ≡ 80 → ⊥) → (get_or s 0 0 ≡ 82 → ⊥) → (get_or s 0 0 ≡ 83 → ⊥) → (get_or s 0 0 ≡ 84 → ⊥) → (get_or s 0 0 ≡ 87 → ⊥) → plain sorts.no_token ≡ lexeme_of (token_spelt words s)
+    → (get_or s 0 0 ≡ 78 → ⊥) → (get_or s 0 0 ≡ 79 → ⊥) → (get_or s 0 0 ≡ 80 → ⊥) → (get_or s 0 0 ≡ 82 → ⊥) → (get_or s 0 0 ≡ 83 → ⊥) → (get_or s 0 0 ≡ 84 → ⊥) → (get_or s 0 0 ≡ 87 → ⊥) → None ≡ lexeme_of (token_spelt words s)
 unfolding token_spelt words same
 first-other [] n1 n2 n3 n4 n5 n6 n7 n8 n9 n10 n11 n12 n13 n14 = refl
 first-other (b ∷ s) n1 n2 n3 n4 n5 n6 n7 n8 n9 n10 n11 n12 n13 n14 =

@@ -1,5 +1,6 @@
 -- A token as the code holds it: its sort, and what the sort does not say of it.
-use Rattle.std.specs.Prelude.{◌≡◌, List, ℕ, ℤ, pos, length}
+use Rattle.std.specs.Prelude as found
+use Rattle.std.specs.Prelude.{◌≡◌, List, ℕ, ℤ, pos, length, Some, None}
 use Rattle.std.proofs.Math.Option.{Option, none, some}
 use Rattle.grammar.specs.Grammar.{both, either, Mark, a-skip, a-stop, a-seq, a-par, an-if, an-alt, a-while, becomes, asks, tells, ampersand, an_int, a-chan, a-hostin, a-hostout, colon, unused, Token, name, number, minus, not-word, given, arith, joins, round-open, round-close, square-open, square-close, mark}
 use Rattle.read_tokens.specs.Sorts as sorts
@@ -50,9 +51,9 @@ token_lexeme square-close = plain sorts.square_close
 token_lexeme (mark m) = mark_lexeme m
 
 -- a token, or that there is none
-abbrev pub lexeme_of : Option Token → Lexeme
-lexeme_of none = plain sorts.no_token
-lexeme_of (some t) = token_lexeme t
+abbrev pub lexeme_of : Option Token → found.Option Lexeme
+lexeme_of none = None
+lexeme_of (some t) = Some (token_lexeme t)
 
 -- no name
 abbrev pub Unnamed : Option Token → Type 0

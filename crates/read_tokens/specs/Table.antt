@@ -1,9 +1,8 @@
 -- The code's constant tables of words: a line is a spelling with zeros behind it, its length, a sort and a value.
-use Rattle.std.specs.Prelude.{Bool, true, ◌&&◌, List, [], ◌∷◌, ℕ, pos, take, get_or, leb}
+use Rattle.std.specs.Prelude.{Bool, true, ◌&&◌, List, [], ◌∷◌, ℕ, pos, take, get_or, leb, Option, Some, None}
 use Rattle.meaning.specs.Basics.{if_else}
 use Rattle.meaning.specs.Lines.{same}
-use Rattle.read_tokens.specs.Sorts as sorts
-use Rattle.read_tokens.specs.Lexemes.{valued, plain}
+use Rattle.read_tokens.specs.Lexemes.{valued}
 use Rattle.read_tokens.specs.declared.Lexeme.{Lexeme}
 
 -- whether a line has room for its spelling
@@ -24,6 +23,6 @@ abbrev pub line_lexeme : List ℕ → Lexeme
 line_lexeme line = valued (get_or line 8 0) (pos (get_or line 9 0))
 
 -- the token that a table has for some bytes
-unfoldable pub lexeme_in : List (List ℕ) → List ℕ → Lexeme
-lexeme_in [] s = plain sorts.no_token
-lexeme_in (l ∷ ls) s = let rest = lexeme_in ls s in if_else (same s (line_spelling l)) (line_lexeme l) rest
+unfoldable pub lexeme_in : List (List ℕ) → List ℕ → Option Lexeme
+lexeme_in [] s = None
+lexeme_in (l ∷ ls) s = let rest = lexeme_in ls s in if_else (same s (line_spelling l)) (Some (line_lexeme l)) rest

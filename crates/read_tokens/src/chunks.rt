@@ -8,34 +8,21 @@ ghost use Rattle.read_tokens.specs.Chunks.{chunk_size};
 pub fn is_letter(b: u8) -> bool
     ensures { result ≡ tokens.is_letter b }
 {
-    match b {
-        b'A'..=b'Z' => true,
-        b'a'..=b'z' => true,
-        _ => false,
-    }
+    b.is_ascii_alphabetic()
 }
 
 // Whether a byte is one of `0` to `9`.
 fn is_digit(b: u8) -> bool
     ensures { result ≡ is_digit b }
 {
-    match b {
-        b'0'..=b'9' => true,
-        _ => false,
-    }
+    b.is_ascii_digit()
 }
 
 // Whether a byte is a letter, a digit or `_`.
 pub fn is_word_byte(b: u8) -> bool
     ensures { result ≡ tokens.is_word_byte b }
 {
-    if is_digit(b) {
-        return true;
-    }
-    if is_letter(b) {
-        return true;
-    }
-    b == b'_'
+    is_digit(b) || is_letter(b) || b == b'_'
 }
 
 // Whether two neighbouring bytes belong to one token.
@@ -58,12 +45,10 @@ pub fn chunk_end(text: &[u8], from: usize) -> usize
     if text.len() <= from {
         return from;
     }
-    let mut last = from;
-    while last + 1 < text.len() {
+    for last in from..text.len() - 1 {
         if !hang(text[last], text[last + 1]) {
             return last + 1;
         }
-        last += 1;
     }
-    last + 1
+    text.len()
 }

@@ -10,7 +10,7 @@ pub use chunks::{chunk_end, is_word_byte};
 pub use tokens::token_of;
 
 // A token as two numbers: its sort, and what the sort does not say of it.
-#[derive(Drop)]
+#[derive(Clone, Copy)]
 pub struct Lexeme {
     pub sort: u8,
     pub value: i32,

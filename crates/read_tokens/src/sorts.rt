@@ -1,4 +1,5 @@
 // The sorts of token. Where nothing is said of a value it is 0.
+// kept: sorts stand in byte lists that crates lend each other, and the definitions `token_sort` and `token_by` have numbers.
 
 // no token
 pub const NO_TOKEN: u8 = 0;

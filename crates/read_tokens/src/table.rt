@@ -9,6 +9,7 @@ use crate::Lexeme;
 use crate::sorts::*;
 use read_table::scan;
 
+// kept: a table for each first letter, so that a word is compared with three spellings at most; rows of bytes, as the definition `lexeme_in` has them.
 // The words that begin with A. A line is a spelling with zeros behind it, how many bytes the spelling has, the token's sort and its value.
 const WORDS_A: [[u8; 10]; 2] = [
     [b'A', b'L', b'T', 0, 0, 0, 0, 3, ALT, 0],
@@ -79,7 +80,7 @@ fn lexeme(sort: u8, value: u8) -> Lexeme
 {
     Lexeme {
         sort,
-        value: value as i32,
+        value: i32::from(value),
     }
 }
 
@@ -93,153 +94,108 @@ fn spells(line: [u8; 10], chunk: &[u8]) -> bool
 }
 
 // The token that a table has for some bytes.
-fn look_up(table: &[[u8; 10]], chunk: &[u8]) -> Lexeme
+fn look_up(table: &[[u8; 10]], chunk: &[u8]) -> Option<Lexeme>
     requires { all_short table.now ≡ true }
     ensures { result ≡ lexeme_in table.now chunk.now }
 {
-    let mut at: usize = 0;
-    while at < table.len() {
-        let line = table[at];
-        if spells(line, chunk) {
-            return lexeme(line[8], line[9]);
+    for line in table {
+        if spells(*line, chunk) {
+            return Some(lexeme(line[8], line[9]));
         }
-        at += 1;
     }
-    lexeme(NO_TOKEN, 0)
+    None
 }
 
 // The word of the grammar that some bytes are, by the first of them.
-pub fn word(chunk: &[u8]) -> Lexeme
+pub fn word(chunk: &[u8]) -> Option<Lexeme>
     ensures { result ≡ lexeme_of (tokens.token_spelt tokens.words chunk.now) }
 {
-    if chunk.len() == 0 {
-        return lexeme(NO_TOKEN, 0);
+    if chunk.is_empty() {
+        return None;
     }
     match chunk[0] {
-        b'A' => {
-            let table = WORDS_A;
-            look_up(&table, chunk)
-        }
-        b'C' => {
-            let table = WORDS_C;
-            look_up(&table, chunk)
-        }
-        b'F' => {
-            let table = WORDS_F;
-            look_up(&table, chunk)
-        }
-        b'G' => {
-            let table = WORDS_G;
-            look_up(&table, chunk)
-        }
-        b'H' => {
-            let table = WORDS_H;
-            look_up(&table, chunk)
-        }
-        b'I' => {
-            let table = WORDS_I;
-            look_up(&table, chunk)
-        }
-        b'M' => {
-            let table = WORDS_M;
-            look_up(&table, chunk)
-        }
-        b'N' => {
-            let table = WORDS_N;
-            look_up(&table, chunk)
-        }
-        b'O' => {
-            let table = WORDS_O;
-            look_up(&table, chunk)
-        }
-        b'P' => {
-            let table = WORDS_P;
-            look_up(&table, chunk)
-        }
-        b'R' => {
-            let table = WORDS_R;
-            look_up(&table, chunk)
-        }
-        b'S' => {
-            let table = WORDS_S;
-            look_up(&table, chunk)
-        }
-        b'T' => {
-            let table = WORDS_T;
-            look_up(&table, chunk)
-        }
-        b'W' => {
-            let table = WORDS_W;
-            look_up(&table, chunk)
-        }
-        _ => lexeme(NO_TOKEN, 0),
+        b'A' => look_up(&WORDS_A, chunk),
+        b'C' => look_up(&WORDS_C, chunk),
+        b'F' => look_up(&WORDS_F, chunk),
+        b'G' => look_up(&WORDS_G, chunk),
+        b'H' => look_up(&WORDS_H, chunk),
+        b'I' => look_up(&WORDS_I, chunk),
+        b'M' => look_up(&WORDS_M, chunk),
+        b'N' => look_up(&WORDS_N, chunk),
+        b'O' => look_up(&WORDS_O, chunk),
+        b'P' => look_up(&WORDS_P, chunk),
+        b'R' => look_up(&WORDS_R, chunk),
+        b'S' => look_up(&WORDS_S, chunk),
+        b'T' => look_up(&WORDS_T, chunk),
+        b'W' => look_up(&WORDS_W, chunk),
+        _ => None,
     }
 }
 
 // The symbol that a byte is.
-fn one_byte(b: u8) -> Lexeme
+fn one_byte(b: u8) -> Option<Lexeme>
     ensures { result ≡ lexeme_of (tokens.token_spelt tokens.symbols (b ∷ [])) }
 {
     match b {
-        b':' => lexeme(COLON, 0),
-        b'=' => lexeme(ARITH, 8),
-        b'<' => lexeme(ARITH, 10),
-        b'>' => lexeme(ARITH, 12),
-        b'[' => lexeme(SQUARE_OPEN, 0),
-        b']' => lexeme(SQUARE_CLOSE, 0),
-        b'(' => lexeme(ROUND_OPEN, 0),
-        b')' => lexeme(ROUND_CLOSE, 0),
-        b'+' => lexeme(ARITH, 0),
-        b'-' => lexeme(MINUS, 0),
-        b'*' => lexeme(ARITH, 2),
-        b'/' => lexeme(ARITH, 3),
-        b'?' => lexeme(ASKS, 0),
-        b'!' => lexeme(TELLS, 0),
-        b'&' => lexeme(AMPERSAND, 0),
-        _ => lexeme(NO_TOKEN, 0),
+        b':' => Some(lexeme(COLON, 0)),
+        b'=' => Some(lexeme(ARITH, 8)),
+        b'<' => Some(lexeme(ARITH, 10)),
+        b'>' => Some(lexeme(ARITH, 12)),
+        b'[' => Some(lexeme(SQUARE_OPEN, 0)),
+        b']' => Some(lexeme(SQUARE_CLOSE, 0)),
+        b'(' => Some(lexeme(ROUND_OPEN, 0)),
+        b')' => Some(lexeme(ROUND_CLOSE, 0)),
+        b'+' => Some(lexeme(ARITH, 0)),
+        b'-' => Some(lexeme(MINUS, 0)),
+        b'*' => Some(lexeme(ARITH, 2)),
+        b'/' => Some(lexeme(ARITH, 3)),
+        b'?' => Some(lexeme(ASKS, 0)),
+        b'!' => Some(lexeme(TELLS, 0)),
+        b'&' => Some(lexeme(AMPERSAND, 0)),
+        _ => None,
     }
 }
 
 // The symbol that ends with `=`, by the byte before it.
-fn with_equals(b: u8) -> Lexeme
+fn with_equals(b: u8) -> Option<Lexeme>
     ensures { result ≡ lexeme_of (tokens.token_spelt tokens.symbols (b ∷ 61 ∷ [])) }
 {
     match b {
-        b':' => lexeme(BECOMES, 0),
-        b'<' => lexeme(ARITH, 11),
-        b'>' => lexeme(ARITH, 13),
-        _ => lexeme(NO_TOKEN, 0),
+        b':' => Some(lexeme(BECOMES, 0)),
+        b'<' => Some(lexeme(ARITH, 11)),
+        b'>' => Some(lexeme(ARITH, 13)),
+        _ => None,
     }
 }
 
 // The symbol that ends with `>`, by the byte before it.
-fn with_more(b: u8) -> Lexeme
+fn with_more(b: u8) -> Option<Lexeme>
     ensures { result ≡ lexeme_of (tokens.token_spelt tokens.symbols (b ∷ 62 ∷ [])) }
 {
     match b {
-        b'<' => lexeme(ARITH, 9),
-        _ => lexeme(NO_TOKEN, 0),
+        b'<' => Some(lexeme(ARITH, 9)),
+        _ => None,
     }
 }
 
 // The symbol that two bytes are.
-fn two_bytes(b: u8, c: u8) -> Lexeme
+fn two_bytes(b: u8, c: u8) -> Option<Lexeme>
     ensures { result ≡ lexeme_of (tokens.token_spelt tokens.symbols (b ∷ c ∷ [])) }
 {
     match c {
         b'=' => with_equals(b),
         b'>' => with_more(b),
-        _ => lexeme(NO_TOKEN, 0),
+        _ => None,
     }
 }
 
 // The symbol that some bytes are.
-pub fn symbol(chunk: &[u8]) -> Lexeme
+pub fn symbol(chunk: &[u8]) -> Option<Lexeme>
     ensures { result ≡ lexeme_of (tokens.token_spelt tokens.symbols chunk.now) }
 {
     match chunk.len() {
         1 => one_byte(chunk[0]),
         2 => two_bytes(chunk[0], chunk[1]),
-        _ => lexeme(NO_TOKEN, 0),
+        _ => None,
     }
 }

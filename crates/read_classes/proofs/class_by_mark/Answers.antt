@@ -1,24 +1,27 @@
--- The tests in turn. Assumes nothing.
-use mathlib.Core.Path.{ap}
-use mathlib.Core.Bool.{not}
-use Rattle.read_classes.specs.Rules.{rules}
+-- The two tests in turn, by the rule of the sort. Assumes nothing.
+use mathlib.Core.Path.{sym, ap, ◌∙◌}
+use Prim.Native.Nat.{ℕ}
+use Rattle.read_classes.specs.Rules.{rules, rule_at}
 use Rattle.read_classes.proofs.RuleSteps.{refused-before, refused-after, accepted}
 use Rattle.read_classes.proofs.class_by_mark.Goals as goal
+use Rattle.read_classes.proofs.class_by_mark.Goals.{else-is_part-via-then-is_part+else-is_part-2, else-is_part-via-else-is_part}
 
-pub returns-then-not-is_part : goal.returns-then-not-is_part
+pub returns-then-is_part-2 : goal.returns-then-is_part-2
 unfolding rules
-returns-then-not-is_part c =
+returns-then-is_part-2 c =
     let a = c.args in
-    refused-before a.sort a.before.now a.after.now c.rule_at-rule.result c.rule_at-rule.ensures c.is_part.result c.is_part.ensures (ap not c.if-not-is_part.true)
+    accepted a.sort a.before.now a.after.now c.rule_at-asked_before.result (c.rule_at-asked_before.ensures ∙ ap (λ (n : ℕ). rule_at rules n) c.from.ensures)
+    (sym c.if-is_part.ensures) (sym c.if-is_part-2.ensures)
 
-pub returns-then-not-is_part-2 : goal.returns-then-not-is_part-2
+pub returns-else-is_part : goal.returns-else-is_part
 unfolding rules
-returns-then-not-is_part-2 c =
+returns-else-is_part c =
     let a = c.args in
-    refused-after a.sort a.before.now a.after.now c.rule_at-rule.result c.rule_at-rule.ensures c.is_part.result c.is_part.ensures (ap not c.if-not-is_part.false) c.is_part-2.result c.is_part-2.ensures (ap not c.if-not-is_part-2.true)
-
-pub returns : goal.returns
-unfolding rules
-returns c =
-    let a = c.args in
-    accepted a.sort a.before.now a.after.now c.rule_at-rule.result c.rule_at-rule.ensures c.is_part.result c.is_part.ensures (ap not c.if-not-is_part.false) c.is_part-2.result c.is_part-2.ensures (ap not c.if-not-is_part-2.false)
+    elim c.else-is_part.branch [
+      else-is_part-via-then-is_part+else-is_part-2 w ↦
+        refused-after a.sort a.before.now a.after.now c.rule_at-asked_before.result (c.rule_at-asked_before.ensures ∙ ap (λ (n : ℕ). rule_at rules n) c.from.ensures)
+        (sym w.if-is_part.ensures) (sym w.if-is_part-2.ensures)
+    | else-is_part-via-else-is_part w ↦
+        refused-before a.sort a.before.now a.after.now c.rule_at-asked_before.result (c.rule_at-asked_before.ensures ∙ ap (λ (n : ℕ). rule_at rules n) c.from.ensures)
+        (sym w.if-is_part.ensures)
+    ]

@@ -67,14 +67,6 @@ overflow_add-rows-in-loop-line c =
     let k = summed-next a.count a.kinds.now a.ends.now a.sorts.now c.requires c.loop-line.rows c.loop-line.line c.loop-line.first c.loop-line.invariant c.loop-line-test.true in
     omega (arith, c.declaration_rows-rows.ensures, c.line_rows-rows.ensures, k.few, k.stands.within, k.stands.inside, c.requires.few, c.requires.short)
 
-pub overflow_add-line : goal.overflow_add-line
-overflow_add-line c =
-    omega (arith, c.loop-line-test.true, c.requires.few)
-
-pub loop-line-smaller : goal.loop-line-smaller
-loop-line-smaller c =
-    omega (arith, c.loop-line-test.true)
-
 pub loop-line-preserved : goal.loop-line-preserved
 loop-line-preserved c =
     let a = c.args in

@@ -7,6 +7,3 @@ use Rattle.read_counts.proofs.count_rows.Given as goal
 
 abbrev pub invariant-loop-line : goal.invariant-loop-line
 invariant-loop-line l = Summed l.count l.kinds l.ends l.sorts l.rows l.line l.first
-
-abbrev pub decreases-loop-line : goal.decreases-loop-line
-decreases-loop-line l = l.count - l.line

@@ -16,7 +16,7 @@ pub overflow_add-result : goal.overflow_add-result
 overflow_add-result c =
     omega (arith, c.listed_rows.ensures, c.token_rows.ensures, listed-few (c.args.kind / 16), rows_few c.args.sorts.now, c.requires)
 
-pub returns : goal.returns
-returns c =
+pub returns-else-kind-le-OTHER_DECLARATION : goal.returns-else-kind-le-OTHER_DECLARATION
+returns-else-kind-le-OTHER_DECLARATION c =
     let a = c.args in
     ap₂ (λ (m n : ℕ). m + n) c.listed_rows.ensures c.token_rows.ensures ∙ by-tokens a.kind a.sorts.now c.if-kind-le-OTHER_DECLARATION.false

@@ -72,14 +72,6 @@ pub bounds-owns-line : goal.bounds-owns-line
 bounds-owns-line c =
     omega (arith, c.loop-line-test.true, c.requires.1)
 
-pub overflow_add-line : goal.overflow_add-line
-overflow_add-line c =
-    omega (arith, c.loop-line-test.true, c.requires.1)
-
-pub loop-line-smaller : goal.loop-line-smaller
-loop-line-smaller c =
-    omega (arith, c.loop-line-test.true)
-
 pub loop-line-preserved : goal.loop-line-preserved
 loop-line-preserved c =
     let a = c.args in

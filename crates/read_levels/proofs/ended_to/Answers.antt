@@ -1,36 +1,17 @@
--- The loop keeps whether the levels that are left may end. Assumes nothing.
-use mathlib.Core.Path.{◌≡◌, refl, sym, ◌∙◌}
-use Prim.Native.Nat.{◌≤◌}
+-- The loop keeps that the levels before the level may end. Assumes nothing.
+use mathlib.Core.Path.{sym}
 use native.Mathlib.Omega.{arith}
-use borrow.Author.Rules.{rules}
-use Rattle.read_levels.specs.Steps.{ended_to}
-use Rattle.read_levels.proofs.EndedSteps.{ended-low, ended-stops, ended-goes-on}
+use Rattle.read_levels.proofs.EndedSteps.{ended-low, ended-fails, ended-all-passed, ended-next}
 use Rattle.read_levels.proofs.ended_to.Goals as goal
 
 pub loop-d-init : goal.loop-d-init
-loop-d-init c = (omega arith, refl)
-
-pub bounds-stack-d : goal.bounds-stack-d
-bounds-stack-d c =
-    let h = c.loop-d.invariant.0 in
-    let g = c.loop-d-test.true in
-    omega (arith, h, g, c.requires)
+loop-d-init c = ended-low c.args.stack.now c.args.low c.args.low (omega arith)
 
 pub returns-then-stack-d-ge-ONE_PROCESS : goal.returns-then-stack-d-ge-ONE_PROCESS
-returns-then-stack-d-ge-ONE_PROCESS c =
-    let a = c.args in
-    sym (ended-stops a.stack.now a.low c.loop-d.d c.loop-d-test.true c.if-stack-d-ge-ONE_PROCESS.true) ∙ c.loop-d.invariant.1
-
-pub loop-d-smaller : goal.loop-d-smaller
-loop-d-smaller c = let g = c.loop-d-test.true in omega (arith, g)
+returns-then-stack-d-ge-ONE_PROCESS c = sym (ended-fails c.args.stack.now c.args.low c.args.depth c.loop-d.d (omega arith) c.loop-d-test.true c.if-stack-d-ge-ONE_PROCESS.true)
 
 pub loop-d-preserved : goal.loop-d-preserved
-loop-d-preserved c =
-    let a = c.args in
-    let h = c.loop-d.invariant.0 in
-    (omega (arith, h), sym (ended-goes-on a.stack.now a.low c.loop-d.d c.loop-d-test.true c.if-stack-d-ge-ONE_PROCESS.false) ∙ c.loop-d.invariant.1)
+loop-d-preserved c = ended-next c.args.stack.now c.args.low c.loop-d.d (omega arith) c.if-stack-d-ge-ONE_PROCESS.false c.loop-d.invariant
 
 pub returns : goal.returns
-returns c =
-    let a = c.args in
-    sym (ended-low a.stack.now a.low c.loop-d.d c.loop-d-test.false) ∙ c.loop-d.invariant.1
+returns c = sym (ended-all-passed c.args.stack.now c.args.low c.args.depth c.loop-d.d c.loop-d.auto.d-end c.loop-d-test.false c.loop-d.invariant)

@@ -1,10 +1,7 @@
-use mathlib.Core.Path.{sym, ◌∙◌}
-use mathlib.Core.List.{List}
-use Prim.Native.Nat.{ℕ, ◌+◌, ◌-◌, ◌≤◌, ◌<◌}
-use native.Mathlib.Omega.{arith}
-use lib.ListN.{length, set, length-set}
+use Prim.Native.Nat.{◌-◌}
+use lib.ListN.{length}
 use Rattle.read_levels.specs.Listing.{listing}
-use Rattle.read_levels.proofs.Outlining.{Outlining, short, outlining-starts, outlining-ends, outlining-unended, levels-ready, count_fits, class-asked, class_low, line-fits, outlining-refused, outlining-goes-on}
+use Rattle.read_levels.proofs.Outlining.{Outlining}
 use Rattle.read_levels.proofs.outline_with.Given as goal
 
 abbrev pub invariant-loop-at : goal.invariant-loop-at

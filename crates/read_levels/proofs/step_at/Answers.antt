@@ -1,44 +1,26 @@
 -- The tests in turn, and then the tables. Assumes nothing.
 use native.Mathlib.Omega.{arith}
-use borrow.Author.Rules.{rules}
-use borrow.Author.Tests.{not-true, not-false}
-use Rattle.read_levels.proofs.StepSteps.{step-too-deep, step-unended, step-told}
+use Rattle.read_levels.proofs.StepSteps.{step-too-deep, step-unended, step-untold, step-told}
 use Rattle.read_levels.proofs.step_at.Goals as goal
+use Rattle.read_levels.proofs.step_at.Goals.{then-depth-level-via-then-depth-level, then-depth-level-via-else-depth-level+then-not-ended_to}
 
 pub returns-then-depth-level : goal.returns-then-depth-level
-returns-then-depth-level c = let a = c.args in step-too-deep a.stack.now a.depth a.level a.class c.if-depth-level.true
-
-pub returns-then-not-ended_to : goal.returns-then-not-ended_to
-returns-then-not-ended_to c =
+returns-then-depth-level c =
     let a = c.args in
-    step-unended a.stack.now a.depth a.level a.class c.if-depth-level.false c.ended_to.result c.ended_to.ensures (c.if-not-ended_to.true)
+    elim c.then-depth-level.branch [
+      then-depth-level-via-then-depth-level w ↦ step-too-deep a.stack.now a.depth a.level a.class w.if-depth-level.true
+    | then-depth-level-via-else-depth-level+then-not-ended_to w ↦
+        step-unended a.stack.now a.depth a.level a.class w.if-depth-level.false w.ended_to.result w.ended_to.ensures w.if-not-ended_to.true
+    ]
 
-pub overflow_mul-result : goal.overflow_mul-result
-overflow_mul-result c =
-    let (_, numbered, _) = c.requires in
-    let low = numbered c.args.level c.if-depth-level.false in
-    omega (arith, low)
-
-pub overflow_add-result : goal.overflow_add-result
-overflow_add-result c =
-    let (_, numbered, classed) = c.requires in
-    let low = numbered c.args.level c.if-depth-level.false in
-    omega (arith, low, classed)
-
-pub beneath-requires : goal.beneath-requires
-beneath-requires c =
-    let (_, numbered, classed) = c.requires in
-    let low = numbered c.args.level c.if-depth-level.false in
-    (low, classed)
-
-pub after-requires : goal.after-requires
-after-requires c =
-    let (_, numbered, classed) = c.requires in
-    let low = numbered c.args.level c.if-depth-level.false in
-    (low, classed)
+pub returns-then-beneath-eq-NONE : goal.returns-then-beneath-eq-NONE
+returns-then-beneath-eq-NONE c =
+    let a = c.args in
+    step-untold a.stack.now a.depth a.level a.class c.if-depth-level.false c.ended_to.result c.ended_to.ensures c.beneath-beneath.result c.beneath-beneath.ensures
+    c.if-not-ended_to.false c.if-beneath-eq-NONE.true
 
 pub returns : goal.returns
 returns c =
     let a = c.args in
-    step-told a.stack.now a.depth a.level a.class c.if-depth-level.false c.ended_to.result c.ended_to.ensures
-    (c.if-not-ended_to.false) c.beneath.result c.after.result c.beneath.ensures c.after.ensures
+    step-told a.stack.now a.depth a.level a.class c.if-depth-level.false c.ended_to.result c.ended_to.ensures c.beneath-beneath.result c.beneath-beneath.ensures
+    c.if-not-ended_to.false c.if-beneath-eq-NONE.false c.after.result c.after.ensures

@@ -15,7 +15,7 @@ returns-then-sort-eq-NAME c =
     let (h, k) = c.requires in
     rw (to_z_pos w32 (placed a.from (a.to - a.from)) (omega (arith, h, k)), eq-eqb _ _ c.if-sort-eq-NAME.true)
 
-pub returns : goal.returns
-returns c =
+pub returns-else-sort-eq-NAME : goal.returns-else-sort-eq-NAME
+returns-else-sort-eq-NAME c =
     let fits : SFits w32 c.args.value = search rules in
     rw (to_z-of_z w32 _ fits, ne_eqb _ _ c.if-sort-eq-NAME.false)

@@ -3,12 +3,8 @@ use mathlib.Core.Path.{◌≡◌, sym, ap, ◌∙◌}
 use mathlib.Core.List.{List}
 use Prim.Native.Nat.{ℕ, ◌+◌}
 use native.Mathlib.Omega.{arith}
-use mir.Syntax.{w32}
-use mir.Val.{SFits}
-use mir.ValLaws.{to_z-of_z}
 use lib.ListN.{take, drop}
 use lib.Seq.{length-take-le}
-use borrow.Author.Rules.{rules}
 use Rattle.read_tokens.specs.Chunks.{chunk_size}
 use Rattle.read_scan.specs.Nexts.{reach_from}
 use Rattle.read_scan.proofs.NextSteps.{reach-within, to-within, next-past-end, next-none, next-there}
@@ -35,21 +31,19 @@ slice_bounds-token_of-end c =
     let from = c.blank_end-from.result in
     (to-within line from c.chunk_end-to.result c.if-line-from.false (looked-for line from c.reach-end.result c.chunk_end-to.result c.reach-end.ensures c.chunk_end-to.ensures)).1
 
-pub returns-then-found-eq-NO_TOKEN : goal.returns-then-found-eq-NO_TOKEN
-returns-then-found-eq-NO_TOKEN c =
+pub returns-in-Some : goal.returns-in-Some
+returns-in-Some c =
     let a = c.args in
     let line = a.line.now in
     let from = c.blank_end-from.result in
-    c.none_at-then-found-eq-NO_TOKEN.ensures
-    ∙ next-none line a.at from c.blank_end-from.ensures c.chunk_end-to.result c.token_of-found.result c.if-line-from.false
-    (looked-for line from c.reach-end.result c.chunk_end-to.result c.reach-end.ensures c.chunk_end-to.ensures) c.token_of-found.ensures c.if-found-eq-NO_TOKEN.true
+    next-there line a.at from c.blank_end-from.ensures c.chunk_end-to.result c.if-line-from.false
+    (looked-for line from c.reach-end.result c.chunk_end-to.result c.reach-end.ensures c.chunk_end-to.ensures) c.in-Some.token (sym c.in-Some.is ∙ c.token_of.ensures)
 
-pub returns : goal.returns
-returns c =
+pub returns-in-None : goal.returns-in-None
+returns-in-None c =
     let a = c.args in
     let line = a.line.now in
     let from = c.blank_end-from.result in
-    let fits : SFits w32 c.token_of-found.result.value = search rules in
-    rw (to_z-of_z w32 _ fits)
-    (next-there line a.at from c.blank_end-from.ensures c.chunk_end-to.result c.token_of-found.result c.if-line-from.false
-    (looked-for line from c.reach-end.result c.chunk_end-to.result c.reach-end.ensures c.chunk_end-to.ensures) c.token_of-found.ensures c.if-found-eq-NO_TOKEN.false)
+    c.none_at-in-None.ensures
+    ∙ next-none line a.at from c.blank_end-from.ensures c.chunk_end-to.result c.if-line-from.false
+    (looked-for line from c.reach-end.result c.chunk_end-to.result c.reach-end.ensures c.chunk_end-to.ensures) (sym c.in-None.is ∙ c.token_of.ensures)

@@ -1,5 +1,4 @@
 -- The number stands for the kind. Assumes nothing.
-use borrow.Author.Rules.{rules}
 use Rattle.read_shapes.specs.Numbers.{kind_at}
 use Rattle.read_shapes.proofs.is_element.Goals as goal
 

@@ -7,9 +7,9 @@ use Rattle.read_text.proofs.read_with.Goals as goal
 
 pub read_listed-requires : goal.read_listed-requires
 read_listed-requires c =
-    let is = c.outline.ensures.listed c.in-Lines.count c.in-Lines.is in
+    let is = c.outline.ensures.listed c.in-Ok.count c.in-Ok.is in
     (is.0, is.1, search rules, search rules)
 
-pub returns-in-Fault : goal.returns-in-Fault
-returns-in-Fault c =
-    not-of-grammar c.args.text.now c.args.rows.now c.requires.2 c.in-Fault.line (c.outline.ensures.place ∙ ap fault_of c.in-Fault.is)
+pub returns-in-Err : goal.returns-in-Err
+returns-in-Err c =
+    not-of-grammar c.args.text.now c.args.rows.now c.requires.2 c.in-Err.line (c.outline.ensures.place ∙ ap fault_of c.in-Err.is)

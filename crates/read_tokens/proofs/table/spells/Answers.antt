@@ -4,7 +4,6 @@ use native.Mathlib.Omega.{arith}
 use borrow.Author.Tests.{leb-true}
 use lib.ListN.{get_or}
 use lib.Seq.{length-take-le}
-use borrow.Author.Rules.{rules}
 use Rattle.read_tokens.proofs.table.spells.Goals as goal
 
 pub slice_bounds-line-end : goal.slice_bounds-line-end

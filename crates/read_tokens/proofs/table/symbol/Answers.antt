@@ -1,7 +1,5 @@
 -- By how many bytes there are. Assumes nothing.
-use mathlib.Core.Path.{◌∙◌}
 use Rattle.read_tokens.proofs.SymbolCases.{one_of, two-of, no_symbol}
-use borrow.Author.Rules.{rules}
 use Rattle.read_tokens.proofs.table.symbol.Goals as goal
 
 pub returns-in-1 : goal.returns-in-1
@@ -11,4 +9,4 @@ pub returns-in-2 : goal.returns-in-2
 returns-in-2 c = two-of _ _ c.in-2.is c.two_bytes.ensures
 
 pub returns-in_default : goal.returns-in_default
-returns-in_default c = let n = c.in_default.in_default-own.rest in c.lexeme.ensures ∙ no_symbol _ n.0.1 n.1
+returns-in_default c = let n = c.in_default.in_default-own.rest in no_symbol _ n.0.1 n.1

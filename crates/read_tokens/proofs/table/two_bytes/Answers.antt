@@ -1,7 +1,5 @@
 -- By the second byte. Assumes nothing.
-use mathlib.Core.Path.{◌∙◌}
 use Rattle.read_tokens.proofs.SymbolCases.{second-known, second-other}
-use borrow.Author.Rules.{rules}
 use Rattle.read_tokens.proofs.table.two_bytes.Goals as goal
 
 pub returns-in-61 : goal.returns-in-61
@@ -11,4 +9,4 @@ pub returns-in-62 : goal.returns-in-62
 returns-in-62 c = second-known c.args.b c.args.c 62 _ c.in-62.is c.with_more.ensures
 
 pub returns-in_default : goal.returns-in_default
-returns-in_default c = let n = c.in_default.in_default-own.rest in c.lexeme.ensures ∙ second-other c.args.b c.args.c n.0.1 n.1
+returns-in_default c = let n = c.in_default.in_default-own.rest in second-other c.args.b c.args.c n.0.1 n.1

@@ -9,19 +9,17 @@ use Rattle.read_tokens.proofs.TokenCases.{symbol-found, number-found, none_found
 use borrow.Author.Rules.{rules}
 use Rattle.read_tokens.proofs.tokens.symbol_or_number.Goals as goal
 
-pub returns-then-found-ne-NO_TOKEN : goal.returns-then-found-ne-NO_TOKEN
-returns-then-found-ne-NO_TOKEN c =
-    let s = c.args.chunk.now in
-    symbol-found (token_spelt symbols s) c.symbol-found.result c.symbol-found.ensures (number s) c.if-found-ne-NO_TOKEN.true
+pub returns-in-Some : goal.returns-in-Some
+returns-in-Some c = let s = c.args.chunk.now in symbol-found (token_spelt symbols s) (number s) _ c.in-Some.ensures
 
 pub returns-in-Malformed : goal.returns-in-Malformed
 returns-in-Malformed c =
     let s = c.args.chunk.now in
-    none_found (token_spelt symbols s) c.symbol-found.result c.symbol-found.ensures (number s) c.if-found-ne-NO_TOKEN.false (sym c.read_number.ensures ∙ c.in-Malformed.is)
+    none_found (token_spelt symbols s) (number s) (sym c.in_default.is ∙ c.symbol.ensures) (sym c.read_number.ensures ∙ c.in-Malformed.is)
 
 pub returns-in-Number : goal.returns-in-Number
 returns-in-Number c =
     let s = c.args.chunk.now in
     let fits : SFits w32 c.in-Number.z = search rules in
     rw (to_z-of_z w32 _ fits)
-    (number-found (token_spelt symbols s) c.symbol-found.result c.symbol-found.ensures (number s) c.if-found-ne-NO_TOKEN.false c.in-Number.z (sym c.read_number.ensures ∙ c.in-Number.is))
+    (number-found (token_spelt symbols s) (number s) (sym c.in_default.is ∙ c.symbol.ensures) c.in-Number.z (sym c.read_number.ensures ∙ c.in-Number.is))

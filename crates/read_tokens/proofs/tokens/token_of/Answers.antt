@@ -2,13 +2,12 @@
 use mathlib.Core.Path.{sym, ap, ◌∙◌}
 use Rattle.read_tokens.specs.Lexemes.{lexeme_of}
 use Rattle.read_tokens.proofs.TokenCases.{token-of-word, token-of-other}
-use borrow.Author.Rules.{rules}
 use Rattle.read_tokens.proofs.tokens.token_of.Goals as goal
 
 pub returns-then-is_word : goal.returns-then-is_word
 returns-then-is_word c =
     c.word_or_name.ensures ∙ ap lexeme_of (token-of-word c.args.chunk.now (sym c.is_word.ensures ∙ c.if-is_word.true))
 
-pub returns : goal.returns
-returns c =
+pub returns-else-is_word : goal.returns-else-is_word
+returns-else-is_word c =
     c.symbol_or_number.ensures ∙ ap lexeme_of (token-of-other c.args.chunk.now (sym c.is_word.ensures ∙ c.if-is_word.false))
