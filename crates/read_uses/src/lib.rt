@@ -167,7 +167,7 @@ pub fn names_fault(
             heads,
             nexts,
         ) {
-            return Err(line as u32 + 1);
+            return Err((line + 1) as u32);
         }
         if declares {
             seen += 1;
