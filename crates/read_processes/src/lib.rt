@@ -22,22 +22,17 @@ fn part_rows(expected: u8, own: usize) -> usize
     ensures { result ≡ part_rows_at expected own }
 {
     if expected == expectations::ONE_MEMBER {
-        if own == 0 {
-            return 0;
-        }
-        return own - 1;
+        own.saturating_sub(1)
+    } else {
+        own
     }
-    own
 }
 
 // Whether a line is a declaration before the process.
 fn is_head(expected: u8, class: u8) -> bool
     ensures { result ≡ eqb expected 6 && leb class 2 }
 {
-    if expected != expectations::HEADS {
-        return false;
-    }
-    class <= classes::OTHER_DECLARATION
+    expected == expectations::HEADS && class <= classes::OTHER_DECLARATION
 }
 
 // Where the lines beneath a line go, and those after it at its level, by the rows that it makes itself, the row where its form goes and the rows beneath it.
@@ -47,13 +42,7 @@ fn next_places(kind: u8, own: usize, row: usize, beneath: usize) -> Onward
 {
     let expected = kind / 16;
     let class = kind % 16;
-    if expected == expectations::CHOICES {
-        return Onward {
-            beneath: row + 1,
-            later: row + 1 + beneath,
-        };
-    }
-    if expected == expectations::OPTIONS {
+    if expected == expectations::CHOICES || expected == expectations::OPTIONS {
         return Onward {
             beneath: row + 1,
             later: row + 1 + beneath,
@@ -99,15 +88,13 @@ fn place_lines(
 {
     let mut places = [0usize; 1025];
     places[0] = declared;
-    let mut line: usize = 0;
-    while line < count {
+    for line in 0..count {
         let level = levels[line] as usize;
         let row = places[level];
         let onward = next_places(kinds[line], owns[line], row, beneath[line]);
         starts[line] = row;
         places[level + 1] = onward.beneath;
         places[level] = onward.later;
-        line += 1;
     }
 }
 
@@ -149,8 +136,7 @@ fn write_lines(
     ensures { RowsLaid count (listing kinds.now ends.now sorts.now values.now) starts.now beneath.now after.now rest.now rows.old rows.new }
 {
     let mut first: usize = 0;
-    let mut line: usize = 0;
-    while line < count {
+    for line in 0..count {
         let end = ends[line] as usize;
         let spot = spot_of(starts, beneath, after, rest, line);
         read_rows::write_line(
@@ -163,7 +149,6 @@ fn write_lines(
             rows,
         );
         first = end;
-        line += 1;
     }
 }
 

@@ -1,10 +1,10 @@
 -- The loop keeps what is still to be placed, of any text that has such lines. Assumes nothing.
 use mathlib.Core.List.{List}
-use Prim.Native.Nat.{ℕ, ◌-◌}
+use Prim.Native.Nat.{ℕ}
 use native.Mathlib.Omega.{arith}
 use borrow.Author.Rules.{rules}
 use Rattle.read_processes.specs.Written.{Placeable}
-use Rattle.read_processes.proofs.PlaceSteps.{Placing, PlaceStep, place_none, place-all, place-step}
+use Rattle.read_processes.proofs.PlaceSteps.{PlaceStep, place_none, place-all, place-step}
 use Rattle.read_processes.proofs.place_lines.Goals as goal
 
 pub loop-line-init : goal.loop-line-init

@@ -1,12 +1,12 @@
 -- The loop keeps what is still to be written, of any text that has such lines. Assumes nothing.
-use mathlib.Core.Path.{◌≡◌, refl, sym, ap, subst, ◌∙◌}
+use mathlib.Core.Path.{refl, sym, ap, subst, ◌∙◌}
 use mathlib.Core.List.{List}
-use Prim.Native.Nat.{ℕ, ◌+◌, ◌-◌}
+use Prim.Native.Nat.{ℕ, ◌+◌}
 use lib.IntN.{ℤ}
 use native.Mathlib.Omega.{arith}
 use borrow.Author.Rules.{rules}
 use lib.ListN.{length}
-use Rattle.read_levels.specs.Listing.{listing, start_of}
+use Rattle.read_levels.specs.Listing.{listing}
 use Rattle.read_levels.proofs.ListingLaws.{starts_first}
 use Rattle.read_processes.specs.Written.{Placed}
 use Rattle.read_processes.proofs.WriteSteps.{Writing, LineHeld, WriteStep, write-none, write-all, starts-next, line-held, line-scratch, write_step}
