@@ -10,11 +10,7 @@ fn clear(rows: &mut [i32])
     requires { 4096 ≤ length rows.old }
     ensures { rows.new ≡ cleared rows.old }
 {
-    let mut i: usize = 0;
-    while i < 4096 {
-        rows[i] = 0;
-        i += 1;
-    }
+    rows[..4096].fill(0);
 }
 
 // Writes the rows of a text whose names are resolved. Marks and stack are scratch.
