@@ -11,6 +11,7 @@ mod names; // names.rt: its names resolved
 mod rows; // rows.rt: its rows written
 
 use read_levels::Outlined;
+use read_processes::Lines;
 
 // Why a text is refused: the number of the refusal, and its place.
 #[derive(Clone, Copy, Debug, PartialEq, Eq)]
@@ -46,7 +47,15 @@ fn read_listed(
             place: 1024,
         });
     }
-    rows::write_rows(kinds, count, levels, ends, sorts, values, declared, rows);
+    let lines = Lines {
+        count,
+        kinds,
+        levels,
+        ends,
+        sorts,
+        values,
+    };
+    rows::write_rows(lines, declared, rows);
     Ok(made as usize)
 }
 

@@ -5,6 +5,8 @@ ghost use Rattle.read_text.specs.Naming.{NamesRead, NamesRoom};
 ghost use Rattle.read_names.specs.Keys.{key_limit};
 ghost use Rattle.read_declared.specs.Declarations.{Declared};
 
+use read_uses::Names;
+
 // How many names are declared, or the line that is at fault: looks up the names of a text, the declared ones listed in the first places of lent lists.
 fn resolve_listed(
     text: &[u8],
@@ -23,9 +25,14 @@ fn resolve_listed(
     ensures { NamesRead text.now count (listing kinds.now ends.now sorts.now values.new) result }
 {
     read_names::index(text, froms, sizes, heads, nexts);
-    read_uses::names_fault(
-        text, kinds, count, ends, sorts, values, froms, sizes, roles, heads, nexts,
-    )?;
+    let names = Names {
+        froms,
+        sizes,
+        roles,
+        heads,
+        nexts,
+    };
+    read_uses::names_fault(text, kinds, count, ends, sorts, values, names)?;
     Ok(froms.len())
 }
 

@@ -20,6 +20,16 @@ ghost use Rattle.read_uses.specs.Resolving.{NamesKnown, LineHeld, LineChecked};
 use read_classes::classes;
 use read_tokens::sorts;
 
+// The declared names of a text: where each begins, how many bytes it has, its role, and the index of their letters.
+#[derive(Clone, Copy)]
+pub struct Names<'a> {
+    pub froms: &'a [u16],
+    pub sizes: &'a [u8],
+    pub roles: &'a [u8],
+    pub heads: &'a [u16],
+    pub nexts: &'a [u16],
+}
+
 // Whether a name of a role serves where it stands first before a mark: before `?` no output of the host, before `!` no input of it, else a variable.
 fn serves(role: u8, mark: u8) -> bool
     ensures { result ≡ serves_role role (sort_by mark) }
@@ -59,21 +69,21 @@ fn is_misnamed(
 }
 
 // The row that a name means, by where it stands.
-fn row_of(
-    text: &[u8],
-    froms: &[u16],
-    sizes: &[u8],
-    heads: &[u16],
-    nexts: &[u16],
-    value: i32,
-) -> usize
-    requires { ((k : ℕ) × (value ≡ pos k)) × (length froms.now ≡ length sizes.now) × Indexed (names_at text.now froms.now sizes.now) heads.now nexts.now }
-    ensures { result ≡ name_row (names_at text.now froms.now sizes.now) (letters_at text.now (natural_of value)) }
+fn row_of(text: &[u8], names: Names<'_>, value: i32) -> usize
+    requires { ((k : ℕ) × (value ≡ pos k)) × (length names.froms.now ≡ length names.sizes.now) × Indexed (names_at text.now names.froms.now names.sizes.now) names.heads.now names.nexts.now }
+    ensures { result ≡ name_row (names_at text.now names.entry.froms.now names.entry.sizes.now) (letters_at text.now (natural_of value)) }
 {
     let place = value as usize;
     let from = text.len().min(place / 32);
     let to = text.len().min(from + place % 32);
-    read_names::find(text, froms, sizes, heads, nexts, &text[from..to])
+    read_names::find(
+        text,
+        names.froms,
+        names.sizes,
+        names.heads,
+        names.nexts,
+        &text[from..to],
+    )
 }
 
 // Whether no subscript begins at a token.
@@ -109,21 +119,24 @@ fn resolve_line(
     values: &mut [i32],
     declares: bool,
     seen: usize,
-    froms: &[u16],
-    sizes: &[u8],
-    roles: &[u8],
-    heads: &[u16],
-    nexts: &[u16],
+    names: Names<'_>,
 ) -> bool
-    requires { LineHeld text.now sorts.now values.old × NamesKnown text.now froms.now sizes.now roles.now heads.now nexts.now }
+    requires { LineHeld text.now sorts.now values.old × NamesKnown text.now names.froms.now names.sizes.now names.roles.now names.heads.now names.nexts.now }
     ensures { LineChecked text.now declares seen sorts.now values.old result values.new }
 {
     let mut mark = mark_in(sorts);
     for at in 0..sorts.len() {
         let past = mark_past(sorts, at);
         if sorts[at] == sorts::NAME {
-            let found = row_of(text, froms, sizes, heads, nexts, values[at]);
-            if is_misnamed(found, declares, seen, roles, is_bare(sorts, at + 1), mark) {
+            let found = row_of(text, names, values[at]);
+            if is_misnamed(
+                found,
+                declares,
+                seen,
+                names.roles,
+                is_bare(sorts, at + 1),
+                mark,
+            ) {
                 return true;
             }
             values[at] = found as i32;
@@ -141,13 +154,9 @@ pub fn names_fault(
     ends: &[u16],
     sorts: &[u8],
     values: &mut [i32],
-    froms: &[u16],
-    sizes: &[u8],
-    roles: &[u8],
-    heads: &[u16],
-    nexts: &[u16],
+    names: Names<'_>,
 ) -> Result<(), u32>
-    requires { TextListed text.now count (listing kinds.now ends.now sorts.now values.old) × Declared text.now froms.now sizes.now roles.now × Indexed (names_at text.now froms.now sizes.now) heads.now nexts.now }
+    requires { TextListed text.now count (listing kinds.now ends.now sorts.now values.old) × Declared text.now names.froms.now names.sizes.now names.roles.now × Indexed (names_at text.now names.froms.now names.sizes.now) names.heads.now names.nexts.now }
     ensures { (length values.new ≡ length values.old) × (result ≡ place_of (names_fault (text_lines text.now))) × (result ≡ Ok tt → TextResolved text.now count (listing kinds.now ends.now sorts.now values.new)) }
 {
     let mut first: usize = 0;
@@ -161,11 +170,7 @@ pub fn names_fault(
             &mut values[first..end],
             declares,
             seen,
-            froms,
-            sizes,
-            roles,
-            heads,
-            nexts,
+            names,
         ) {
             return Err((line + 1) as u32);
         }

@@ -9,5 +9,5 @@ use Rattle.read_processes.proofs.write_lines.Given as goal
 
 abbrev pub invariant-loop-line : goal.invariant-loop-line
 invariant-loop-line l =
-    (length l.marks ≡ length l.initial.marks) × (length l.stack ≡ length l.initial.stack) × (length l.rows ≡ length l.initial.rows) × (l.first ≡ start_of l.ends l.line)
-    × ((text : List ℕ) → Placed text l.count (listing l.kinds l.ends l.sorts l.values) l.starts l.beneath l.after l.rest → Writing text l.initial.rows l.line l.rows)
+    (length l.marks ≡ length l.initial.marks) × (length l.stack ≡ length l.initial.stack) × (length l.rows ≡ length l.initial.rows) × (l.first ≡ start_of l.lines.ends.now l.line)
+    × ((text : List ℕ) → Placed text l.lines.count (listing l.lines.kinds.now l.lines.ends.now l.lines.sorts.now l.lines.values.now) l.spots.starts.now l.spots.beneath.now l.spots.after.now l.spots.rest.now → Writing text l.initial.rows l.line l.rows)

@@ -51,7 +51,7 @@ slice_bounds-resolve_line-end-in-loop-line c =
 
 pub resolve_line-requires : goal.resolve_line-requires
 resolve_line-requires c =
-    (line-held c.args.text.now c.args.count c.args.kinds.now c.args.ends.now c.args.sorts.now c.args.values.now c.requires.0 c.loop-line.line c.loop-line.first c.loop-line.seen c.loop-line.values c.loop-line.invariant c.loop-line-test.true, names-known c.args.text.now c.args.count c.args.kinds.now c.args.ends.now c.args.sorts.now c.args.values.now c.requires.0 c.args.froms.now c.args.sizes.now c.args.roles.now c.args.heads.now c.args.nexts.now c.requires.1 c.requires.2)
+    (line-held c.args.text.now c.args.count c.args.kinds.now c.args.ends.now c.args.sorts.now c.args.values.now c.requires.0 c.loop-line.line c.loop-line.first c.loop-line.seen c.loop-line.values c.loop-line.invariant c.loop-line-test.true, names-known c.args.text.now c.args.count c.args.kinds.now c.args.ends.now c.args.sorts.now c.args.values.now c.requires.0 c.args.names.froms.now c.args.names.sizes.now c.args.names.roles.now c.args.names.heads.now c.args.names.nexts.now c.requires.1 c.requires.2)
 
 pub overflow_cast-result : goal.overflow_cast-result
 overflow_cast-result c =

@@ -48,15 +48,15 @@ shape_of-values-then-is_misnamed c = c.loop-at.invariant.same_length
 pub returns-then-is_misnamed : goal.returns-then-is_misnamed
 returns-then-is_misnamed c =
     let h = c.loop-at-test.true in
-    let is = found-is c.args.text.now c.args.froms.now c.args.sizes.now c.row_of-found.result (get_or c.loop-at.values c.loop-at.at (pos 0)) (search rules) c.row_of-found.ensures in
-    resolving-fault c.args.text.now c.args.declares c.args.seen c.args.sorts.now c.args.values.now c.requires.0 c.loop-at.mark c.loop-at.at c.loop-at.values c.loop-at.invariant h c.if-sorts-at-eq-NAME.true c.args.froms.now c.args.sizes.now c.args.roles.now c.args.heads.now c.args.nexts.now c.requires.1
+    let is = found-is c.args.text.now c.args.names.froms.now c.args.names.sizes.now c.row_of-found.result (get_or c.loop-at.values c.loop-at.at (pos 0)) (search rules) c.row_of-found.ensures in
+    resolving-fault c.args.text.now c.args.declares c.args.seen c.args.sorts.now c.args.values.now c.requires.0 c.loop-at.mark c.loop-at.at c.loop-at.values c.loop-at.invariant h c.if-sorts-at-eq-NAME.true c.args.names.froms.now c.args.names.sizes.now c.args.names.roles.now c.args.names.heads.now c.args.names.nexts.now c.requires.1
     c.row_of-found.result is c.is_bare.result c.is_bare.ensures c.is_misnamed.result c.is_misnamed.ensures c.if-is_misnamed.true
 
 pub overflow_cast-values : goal.overflow_cast-values
 overflow_cast-values c =
     let h = c.loop-at-test.true in
-    let is = found-is c.args.text.now c.args.froms.now c.args.sizes.now c.row_of-found.result (get_or c.loop-at.values c.loop-at.at (pos 0)) (search rules) c.row_of-found.ensures in
-    let s = found-small c.args.text.now c.args.declares c.args.seen c.args.sorts.now c.args.values.now c.requires.0 c.loop-at.mark c.loop-at.at c.loop-at.values c.loop-at.invariant h c.if-sorts-at-eq-NAME.true c.args.froms.now c.args.sizes.now c.args.roles.now c.args.heads.now c.args.nexts.now c.requires.1
+    let is = found-is c.args.text.now c.args.names.froms.now c.args.names.sizes.now c.row_of-found.result (get_or c.loop-at.values c.loop-at.at (pos 0)) (search rules) c.row_of-found.ensures in
+    let s = found-small c.args.text.now c.args.declares c.args.seen c.args.sorts.now c.args.values.now c.requires.0 c.loop-at.mark c.loop-at.at c.loop-at.values c.loop-at.invariant h c.if-sorts-at-eq-NAME.true c.args.names.froms.now c.args.names.sizes.now c.args.names.roles.now c.args.names.heads.now c.args.names.nexts.now c.requires.1
     c.row_of-found.result is c.is_bare.result c.is_bare.ensures c.is_misnamed.result c.is_misnamed.ensures c.if-is_misnamed.false in
     record { sfits = omega (arith, s) }
 
@@ -70,12 +70,12 @@ loop-at-preserved c =
     let h = c.loop-at-test.true in
     elim c.if-sorts-at-eq-NAME.branch [
       | then-sorts-at-eq-NAME+else-is_misnamed w ↦
-          let is = found-is a.text.now a.froms.now a.sizes.now w.row_of-found.result (get_or c.loop-at.values c.loop-at.at (pos 0)) (search rules) w.row_of-found.ensures in
-          let s = found-small a.text.now a.declares a.seen a.sorts.now a.values.now c.requires.0 c.loop-at.mark c.loop-at.at c.loop-at.values c.loop-at.invariant h w.if-sorts-at-eq-NAME.true a.froms.now a.sizes.now a.roles.now a.heads.now a.nexts.now c.requires.1
+          let is = found-is a.text.now a.names.froms.now a.names.sizes.now w.row_of-found.result (get_or c.loop-at.values c.loop-at.at (pos 0)) (search rules) w.row_of-found.ensures in
+          let s = found-small a.text.now a.declares a.seen a.sorts.now a.values.now c.requires.0 c.loop-at.mark c.loop-at.at c.loop-at.values c.loop-at.invariant h w.if-sorts-at-eq-NAME.true a.names.froms.now a.names.sizes.now a.names.roles.now a.names.heads.now a.names.nexts.now c.requires.1
           w.row_of-found.result is w.is_bare.result w.is_bare.ensures w.is_misnamed.result w.is_misnamed.ensures w.if-is_misnamed.false in
           let f : SFits w32 (pos w.row_of-found.result) = record { sfits = omega (arith, s) } in
           resolving-same (w.values-is ∙ ap (set c.loop-at.values c.loop-at.at) (to_z-of_z w32 (pos w.row_of-found.result) f))
-          (resolving-name a.text.now a.declares a.seen a.sorts.now a.values.now c.requires.0 c.loop-at.mark c.loop-at.at c.loop-at.values c.loop-at.invariant h w.if-sorts-at-eq-NAME.true a.froms.now a.sizes.now a.roles.now a.heads.now a.nexts.now c.requires.1
+          (resolving-name a.text.now a.declares a.seen a.sorts.now a.values.now c.requires.0 c.loop-at.mark c.loop-at.at c.loop-at.values c.loop-at.invariant h w.if-sorts-at-eq-NAME.true a.names.froms.now a.names.sizes.now a.names.roles.now a.names.heads.now a.names.nexts.now c.requires.1
           w.row_of-found.result is w.is_bare.result w.is_bare.ensures w.is_misnamed.result w.is_misnamed.ensures w.if-is_misnamed.false
           c.mark_past-past.result c.mark_past-past.ensures)
       | else-sorts-at-eq-NAME w ↦
