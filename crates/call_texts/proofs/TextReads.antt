@@ -8,6 +8,7 @@ use native.Mathlib.Omega.{arith}
 use borrow.Author.Tests.{le-ltb}
 use lib.IntN.{ℤ, pos}
 use lib.ListN.{length, take, length-take}
+use Rattle.std.specs.Prelude.{Result, Ok}
 use Rattle.meaning.specs.Refusals.{Refusal}
 use Rattle.meaning.specs.Rows.{row_count}
 use Rattle.meaning.specs.Buffers.{Buffers, too_short}
@@ -22,31 +23,33 @@ use Rattle.agreement_texts.proofs.TextCalls.{short-refused-text, text-as-rows}
 use Rattle.write_buffers.specs.Replies.{any_short}
 use Rattle.write_buffers.proofs.RepliesPut.{short_in}
 use Rattle.agreement_texts.proofs.TextRefusals.{rows_whole}
-use Rattle.read_text.specs.Reading.{max_numbers, rows_in, read_unless, text_read}
-use Rattle.read_text.specs.declared.TextRead.{TextRead}
-use Rattle.read_text.specs.declared.TextRead.TheVariants as read
+use Rattle.read_text.specs.Reading.{max_numbers, rows_in, refused, read_unless, text_read}
+use Rattle.read_text.specs.declared.Refused as read
 
-module _ (text : List ℕ) (old : List ℤ) (long : 4096 ≤ length old) (r : TextRead) (rows : List ℤ) (is : (r, rows) ≡ text_read text old) where
+module _ (text : List ℕ) (old : List ℤ) (long : 4096 ≤ length old) (r : Result ℕ read.Refused) (rows : List ℤ) (is : (r, rows) ≡ text_read text old) where
   by-fault : (r, rows) ≡ read_unless (text_fault text) (text_rows text) old
   unfolding text_read
   by-fault = is ∙ rw (le-ltb (length old) 4096 long)
 
   -- refused as the text is
-  pub fault-told : (number place : ℕ) → r ≡ read.Refused number place → text_fault text ≡ some (number, place)
+  pub fault-told : (number place : ℕ) → r ≡ refused number place → text_fault text ≡ some (number, place)
   fault-told number place e = go (text_fault text) refl by-fault
     where
       go : (o : Option Refusal) → text_fault text ≡ o → (r, rows) ≡ read_unless o (text_rows text) old → text_fault text ≡ some (number, place)
-      go none q w = let a = ap (λ (x : TextRead × List ℤ). x.0) w in absurd (let z : ◌≡◌ {A = ℕ} 0 1 = cc in omega arith)
-      go (some (n, p)) q w = let a = ap (λ (x : TextRead × List ℤ). x.0) w in let b : n ≡ number = cc in let c : p ≡ place = cc in q ∙ ap₂ {C = Option Refusal} (λ (x y : ℕ). some (x, y)) b c
+      go none q w = let a = ap (λ (x : Result ℕ read.Refused × List ℤ). x.0) w in absurd cc
+      go (some (n, p)) q w =
+          let a = ap (λ (x : Result ℕ read.Refused × List ℤ). x.0) w in
+          let f : ◌≡◌ {A = read.Refused} (record { number = n; place = p }) (record { number = number; place = place }) = cc in
+          q ∙ ap (λ (x : read.Refused). some (x.number, x.place)) f
 
   -- or its rows stand in the lent ones
-  module _ (count : ℕ) (e : r ≡ read.Rows count) where
+  module _ (count : ℕ) (e : r ≡ Ok count) where
     found : (text_fault text ≡ none) × (count ≡ row_count (text_rows text)) × (rows ≡ rows_in (text_rows text) old)
     found = go (text_fault text) refl by-fault
       where
         go : (o : Option Refusal) → text_fault text ≡ o → (r, rows) ≡ read_unless o (text_rows text) old → (text_fault text ≡ none) × (count ≡ row_count (text_rows text)) × (rows ≡ rows_in (text_rows text) old)
-        go none q w = let a = ap (λ (x : TextRead × List ℤ). x.0) w in (q, cc, ap (λ (x : TextRead × List ℤ). x.1) w)
-        go (some (n, p)) q w = let a = ap (λ (x : TextRead × List ℤ). x.0) w in absurd (let z : ◌≡◌ {A = ℕ} 0 1 = cc in omega arith)
+        go none q w = let a = ap (λ (x : Result ℕ read.Refused × List ℤ). x.0) w in (q, cc, ap (λ (x : Result ℕ read.Refused × List ℤ). x.1) w)
+        go (some (n, p)) q w = let a = ap (λ (x : Result ℕ read.Refused × List ℤ). x.0) w in absurd cc
 
     pub is-fine : text_fault text ≡ none
     is-fine = found.0

@@ -8,7 +8,6 @@ ghost use Rattle.grammar.specs.TextCalls.{check_text, reply_to_text};
 ghost use Rattle.write_buffers.specs.Lending.{buffers_at, lent_buffers, left_buffers};
 
 use meaning::{Answer, Verdict};
-use read_text::TextRead;
 
 // The verdict on a text, read into lent rows.
 fn check_read(text: &[u8], rows: &mut [i32]) -> Verdict
@@ -16,8 +15,8 @@ fn check_read(text: &[u8], rows: &mut [i32]) -> Verdict
     ensures { result ≡ verdict_of (check_text text.now) }
 {
     match read_text::read_text(text, rows) {
-        TextRead::Refused(number, place) => Verdict::Rejected(number, place),
-        TextRead::Rows(count) => check_verdict::check_rows(&rows[..4 * count]),
+        Err(refused) => Verdict::Rejected(refused.number, refused.place),
+        Ok(count) => check_verdict::check_rows(&rows[..4 * count]),
     }
 }
 
@@ -48,8 +47,8 @@ fn run_read(
     ensures { record { answer = result; buffers = left_buffers cells marks states places numbers counts output_marks } ≡ reply_to_text text.now sheet.now choices.now budget (lent_buffers cells marks states places numbers counts output_marks) }
 {
     match read_text::read_text(text, rows) {
-        TextRead::Refused(number, place) => Answer::Refused(number, place),
-        TextRead::Rows(count) => call_table::run_rows(
+        Err(refused) => Answer::Refused(refused.number, refused.place),
+        Ok(count) => call_table::run_rows(
             &rows[..4 * count],
             sheet,
             choices,

@@ -9,6 +9,7 @@ use native.Mathlib.Omega.{arith}
 use lib.IntN.{ℤ}
 use lib.ListN.{length}
 use lib.Dec.{ltb}
+use Rattle.std.specs.Prelude.{Ok, Err}
 use Rattle.meaning.specs.Basics.{if_else}
 use Rattle.meaning.specs.Refusals.{Refusal}
 use Rattle.meaning.specs.Buffers.{Buffers}
@@ -24,16 +25,15 @@ use Rattle.grammar.proofs.TextRead.{text-exactly}
 use Rattle.agreement_texts.specs.TextCallClaims.{TextRefusal, wrong-line, misnamed-line, too_many_rows, OfReadText}
 use Rattle.agreement_texts.proofs.TextCalls.{run-answered-text}
 use Rattle.agreement_texts.proofs.TextRefusals.{text-place, text-refused, text-call-refused, rows_whole}
-use Rattle.read_text.specs.Reading.{max_numbers, read_unless, text_read}
-use Rattle.read_text.specs.declared.TextRead.TheVariants as read
+use Rattle.read_text.specs.Reading.{max_numbers, refused, read_unless, text_read}
 use Rattle.occam_table.specs.PackingClaims.{PossibleAnswer, PossibleVerdict, PossibleRead, ReadsTold, TextsPossible}
 use Rattle.occam_table.proofs.Told.{few-numbers, possible-run}
 
 pub reads-told : ReadsTold
-reads-told (read.Rows n) (read.Rows m) h k e = ap read.Rows (omega arith)
-reads-told (read.Rows n) (read.Refused m q) h k e = let low = k.0 in let small = k.1 in absurd (omega arith)
-reads-told (read.Refused n p) (read.Rows m) h k e = let low = h.0 in let small = h.1 in absurd (omega arith)
-reads-told (read.Refused n p) (read.Refused m q) h k e = let small = h.1 in let little = k.1 in ap₂ read.Refused (omega arith) (omega arith)
+reads-told (Ok n) (Ok m) h k e = ap (λ (i : ℕ). Ok i) (omega arith)
+reads-told (Ok n) (Err g) h k e = let low = k.0 in let small = k.1 in absurd (omega arith)
+reads-told (Err f) (Ok m) h k e = let low = h.0 in let small = h.1 in absurd (omega arith)
+reads-told (Err f) (Err g) h k e = let small = h.1 in let little = k.1 in ap₂ refused (omega arith) (omega arith)
 
 -- a refusal of a text
 text-known : {text : List ℕ} {number place : ℕ} → TextRefusal text number place → (2 ≤ number) × (number ≤ 14)
@@ -67,7 +67,7 @@ possible-read : (text : List ℕ) (rows : List ℤ) → PossibleRead (text_read 
 unfolding text_read
 possible-read text rows = go (ltb (length rows) max_numbers) (text_fault text) refl
   where
-    go : (short : Bool) (o : Option Refusal) → text_fault text ≡ o → PossibleRead (if_else short (read.Refused 1 0, rows) (read_unless o (text_rows text) rows)).0
+    go : (short : Bool) (o : Option Refusal) → text_fault text ≡ o → PossibleRead (if_else short (refused 1 0, rows) (read_unless o (text_rows text) rows)).0
     go true o e = (omega arith, omega arith)
     go false none e = (rows_whole text e).1
     go false (some (n, p)) e = let (low, high) = text-known (text-place text (((text-exactly text).1 n p).0 e)) in (omega arith, high)

@@ -1,6 +1,6 @@
 -- Answers as one number: the low 8 bits are the refusal's number, 0 for none; the next 8 the outcome's, 0 for none; the rest the place of a refusal, or
 -- for a run its steps and, from bit 40 on, how many steps are ready after it. A check with its count has that from bit 32 on.
-use Rattle.std.specs.Prelude.{ℕ, ◌+◌, ◌*◌}
+use Rattle.std.specs.Prelude.{ℕ, ◌+◌, ◌*◌, Result, Ok, Err}
 use Rattle.meaning.specs.declared.Outcome.{Outcome}
 use Rattle.meaning.specs.declared.Outcome.TheVariants.{Ended, Stuck, Broken, Spent}
 use Rattle.meaning.specs.declared.Answer.{Answer}
@@ -8,8 +8,7 @@ use Rattle.meaning.specs.declared.Answer.TheVariants.{Refused, Ran}
 use Rattle.meaning.specs.declared.Verdict.{Verdict}
 use Rattle.meaning.specs.declared.Verdict.TheVariants.{Accepted, Rejected}
 use Rattle.meaning.specs.declared.Checked.{Checked}
-use Rattle.read_text.specs.declared.TextRead.{TextRead}
-use Rattle.read_text.specs.declared.TextRead.TheVariants as read
+use Rattle.read_text.specs.declared.Refused as read
 
 -- an outcome's number
 abbrev pub outcome_number : Outcome → ℕ
@@ -28,9 +27,9 @@ abbrev pub checked_number : Checked → ℕ
 checked_number c = verdict_number c.verdict + 4294967296 * c.pairs
 
 -- what reading a text comes to: 0 with the count of rows, or a refusal's number with its place
-abbrev pub read_number : TextRead → ℕ
-read_number (read.Rows n) = 65536 * n
-read_number (read.Refused n p) = n + 65536 * p
+abbrev pub read_number : Result ℕ read.Refused → ℕ
+read_number (Ok n) = 65536 * n
+read_number (Err f) = f.number + 65536 * f.place
 
 -- an answer: a refusal's number with its place, or an outcome with its steps and, by 2 to the 40, the ready steps
 abbrev pub answer_number : Answer → ℕ

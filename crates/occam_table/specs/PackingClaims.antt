@@ -1,5 +1,5 @@
 -- One number, one answer, as types: what a C caller may conclude from the number of an exported function.
-use Rattle.std.specs.Prelude.{◌≡◌, List, ℕ, ◌≤◌, ℤ}
+use Rattle.std.specs.Prelude.{◌≡◌, List, ℕ, ◌≤◌, ℤ, Result, Ok, Err}
 use Rattle.meaning.specs.Buffers.{Buffers}
 use Rattle.meaning.specs.Answers.{Task, check, check_bytes, verdict_of, check_counted, check_bytes_counted, reply, reply_to_bytes}
 use Rattle.meaning.specs.Trace.{TraceLists, reply_traced, reply_to_bytes_traced}
@@ -10,8 +10,7 @@ use Rattle.meaning.specs.declared.Verdict.TheVariants.{Accepted, Rejected}
 use Rattle.meaning.specs.declared.Checked.{Checked}
 use Rattle.grammar.specs.TextCalls.{check_text, reply_to_text}
 use Rattle.read_text.specs.Reading.{text_read}
-use Rattle.read_text.specs.declared.TextRead.{TextRead}
-use Rattle.read_text.specs.declared.TextRead.TheVariants as read
+use Rattle.read_text.specs.declared.Refused as read
 use Rattle.occam_table.specs.Packing.{verdict_number, checked_number, read_number, answer_number}
 
 -- the answers that can be given: a run of 65,536 steps at most with 1,024 ready at most, or one of the numbered refusals, 1 to 14
@@ -25,9 +24,9 @@ PossibleVerdict Accepted = Unit {0}
 PossibleVerdict (Rejected number place) = (2 ≤ number) × (number ≤ 14)
 
 -- what reading a text can come to: 1,024 rows at most, or one of the refusals
-abbrev pub PossibleRead : TextRead → Type 0
-PossibleRead (read.Rows n) = n ≤ 1024
-PossibleRead (read.Refused number place) = (1 ≤ number) × (number ≤ 14)
+abbrev pub PossibleRead : Result ℕ read.Refused → Type 0
+PossibleRead (Ok n) = n ≤ 1024
+PossibleRead (Err f) = (1 ≤ f.number) × (f.number ≤ 14)
 
 -- with a count: the place of a refusal is at most 1,026
 abbrev pub PlaceWithin : Verdict → Type 0
@@ -48,7 +47,7 @@ abbrev pub ChecksTold : Type 0
 ChecksTold = (c d : Checked) → PossibleChecked c → PossibleChecked d → checked_number c ≡ checked_number d → c ≡ d
 
 abbrev pub ReadsTold : Type 0
-ReadsTold = (r s : TextRead) → PossibleRead r → PossibleRead s → read_number r ≡ read_number s → r ≡ s
+ReadsTold = (r s : Result ℕ read.Refused) → PossibleRead r → PossibleRead s → read_number r ≡ read_number s → r ≡ s
 
 -- every call, traced or not, and every check, counted or not, gives such a one
 abbrev pub CallsPossible : Type 0

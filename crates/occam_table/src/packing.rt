@@ -4,7 +4,7 @@ ghost use Rattle.occam_table.specs.Packing.{outcome_number, verdict_number, chec
 ghost use Rattle.occam_table.specs.PackingClaims.{PossibleChecked, PossibleRead, PossibleAnswer};
 
 use meaning::{Answer, Checked, Outcome, Verdict};
-use read_text::TextRead;
+use read_text::Refused;
 
 // A verdict's number: 0, or the refusal's with its place.
 pub fn verdict_number(v: Verdict) -> u64
@@ -26,13 +26,13 @@ pub fn checked_number(c: Checked) -> u64
 }
 
 // What reading a text comes to: the count of rows, or the refusal's number with its place.
-pub fn read_number(r: TextRead) -> u64
+pub fn read_number(r: Result<usize, Refused>) -> u64
     requires { PossibleRead r }
     ensures { result ≡ read_number r }
 {
     match r {
-        TextRead::Rows(count) => 65536 * (count as u64),
-        TextRead::Refused(number, place) => number as u64 + 65536 * (place as u64),
+        Ok(count) => 65536 * (count as u64),
+        Err(refused) => refused.number as u64 + 65536 * (refused.place as u64),
     }
 }
 

@@ -1,44 +1,44 @@
--- The first token of a sort, token by token.
+-- The first token of a sort.
 use mathlib.Core.Path.{◌≡◌, refl, sym, ap, subst, ◌∙◌}
-use mathlib.Core.Bool.{Bool}
+use mathlib.Core.Bool.{Bool, not, true, false, cond}
 use mathlib.Core.List.{List}
 use Prim.Native.Nat.{ℕ, suc, ◌+◌, ◌≤◌, ◌<◌}
 use native.Mathlib.Omega.{arith}
-use native.Mathlib.Numerals.{add-one}
 use lib.IntN.{ℤ, pos, nat_abs}
 use lib.Signed.{non_neg}
-use lib.ListN.{length, get_or, drop, drop_of_length-le}
-use lib.Seq.{drop-cons}
+use lib.ListN.{length, get_or}
 use lib.Dec.{T, eqb, ltb}
 use mir.Syntax.{w32, w64}
 use mir.Val.{Fits, SFits, to_z, of_z}
 use mir.ValLaws.{to_z-of_z}
-use borrow.Author.Tests.{eq-eqb, ne_eqb, lt-ltb, le-ltb}
+use borrow.Author.Tests.{lt-ltb, le-ltb}
+use Rattle.std.proofs.lemmas.Grind.{common_steps}
+use Rattle.std.specs.Prelude.{Some, None}
+use Rattle.std.proofs.lemmas.List.Sums.{prefix_len-le-length}
+use Rattle.std.specs.List.{position, position_or_len}
+use Rattle.std.specs.Option.{unwrap_or}
+use Rattle.std.proofs.lemmas.List.Recursion.{is_position_or_len}
 use Rattle.meaning.specs.Basics.{if_else}
 use Rattle.read_tokens.specs.Sorts as sorts
 use Rattle.read_declared.specs.Firsts.{place_of_sort, number_in}
 
-module _ (s : ℕ) (ss : List ℕ) (at : ℕ) where
-  -- no token is left
-  pub place_end : length ss ≤ at → place_of_sort s (drop at ss) ≡ 0
-  unfolding place_of_sort
-  place_end h = ap (place_of_sort s) (drop_of_length-le ss h)
+-- the place as the library's `position` finds it
+one-more : (b : Bool) (n : ℕ) → if_else b 0 (suc n) ≡ cond b 0 (1 + n)
+one-more true n = refl
+one-more false n = omega arith
 
-  module _ (h : at < length ss) where
-    place-next : place_of_sort s (drop at ss) ≡ if_else (eqb (get_or ss at 0) s) 0 (suc (place_of_sort s (drop (suc at) ss)))
-    unfolding place_of_sort
-    place-next = ap (place_of_sort s) (drop-cons ss at 0 h)
+by-library : (s : ℕ) (ss : List ℕ) → place_of_sort s ss ≡ position_or_len (λ (t : ℕ). eqb t s) ss
+unfolding place_of_sort
+by-library s ss = is_position_or_len (place_of_sort s) (λ (t : ℕ). eqb t s) refl (λ t ts. one-more (eqb t s) (place_of_sort s ts)) ss
 
-    -- the next is of the sort
-    pub place_here : get_or ss at 0 ≡ s → place_of_sort s (drop at ss) ≡ 0
-    place_here e = place-next ∙ ap (λ (b : Bool). if_else b 0 (suc (place_of_sort s (drop (suc at) ss)))) (eq-eqb (get_or ss at 0) s e)
+or-end : (p n : ℕ) → p ≤ n → unwrap_or (cond (ltb p n) (Some p) None) n ≡ p
+or-end p n h = grind (arith, common_steps)
 
-    -- it is not
-    pub place-later : (get_or ss at 0 ≡ s → ⊥) → place_of_sort s (drop at ss) ≡ suc (place_of_sort s (drop (at + 1) ss))
-    place-later e =
-        place-next
-        ∙ ap (λ (b : Bool). if_else b 0 (suc (place_of_sort s (drop (suc at) ss)))) (ne_eqb (get_or ss at 0) s e)
-        ∙ ap (λ (n : ℕ). suc (place_of_sort s (drop n ss))) (sym (add-one at))
+pub place-position : (s : ℕ) (ss : List ℕ) → unwrap_or (position (λ (t : ℕ). eqb t s) ss) (length ss) ≡ place_of_sort s ss
+place-position s ss =
+    let p = position_or_len (λ (t : ℕ). eqb t s) ss in
+    let short : p ≤ length ss = prefix_len-le-length (λ (t : ℕ). not (eqb t s)) ss in
+    or-end p (length ss) short ∙ sym (by-library s ss)
 
 module _ (ss : List ℕ) (vs : List ℤ) (at : ℕ) (is : at ≡ place_of_sort sorts.number ss) where
   -- there is a number

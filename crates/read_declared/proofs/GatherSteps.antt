@@ -17,9 +17,8 @@ use Rattle.read_names.specs.Listed.{name_at, names_at}
 use Rattle.read_levels.specs.Listing.{Listing, start_of, TextListed, SomeTextListed}
 use Rattle.read_levels.proofs.ListingLaws.{starts, starts_first}
 use Rattle.read_resolved.specs.Resolved.{resolved_token, declared_names, TextResolved}
-use Rattle.read_declared.specs.declared.DeclaredRow.{DeclaredRow}
 use Rattle.read_declared.specs.Firsts.{name_in}
-use Rattle.read_declared.specs.Declarations.{in_order, row_listed, numbers_of, role_number, role_listed, HasMark, Listable, GatheredFrom, RoomForRows, RowsPut}
+use Rattle.read_declared.specs.Declarations.{in_order, row_listed, role_number, role_listed, HasMark, Listable, GatheredFrom, RoomForRows, RowsPut}
 use Rattle.read_declared.proofs.OrderLaws.{in_order_lem}
 use Rattle.read_declared.proofs.DeclaredLines.{order-more, order-within, DeclaredLine, declared-line, OtherLine, other-line, listed-line}
 use Rattle.read_declared.proofs.RowSteps.{rows_of, rows_written}
@@ -222,15 +221,15 @@ module _ (count : ℕ) (g : Listing) (lent : List ℤ) (line first found : ℕ) 
           omega (arith, q, m, w, o, r)
 
       -- it is written
-      pub putting-takes : RoomForRows count g lent → (x : DeclaredRow) → numbers_of x ≡ row_listed part-sorts part-values
-          → Putting count g lent (line + 1) (get_or g.ends line 0) (found + 1) (sets rows (4 * found) (numbers_of x))
+      pub putting-takes : RoomForRows count g lent → (x : List ℤ) → x ≡ row_listed part-sorts part-values
+          → Putting count g lent (line + 1) (get_or g.ends line 0) (found + 1) (sets rows (4 * found) x)
       putting-takes t x y =
           let room = putting-room t in
           record {
             reached = omega (arith, i);
             begins = sym (ap (start_of g.ends) (add-one line) ∙ starts g.ends line);
             few = let f = s.few in omega (arith, f);
-            same-long = length-sets rows (4 * found) (numbers_of x) ∙ s.same-long;
+            same-long = length-sets rows (4 * found) x ∙ s.same-long;
             puts = λ text h.
                 let l = s.puts text h in
                 let q = l.counted in
@@ -240,8 +239,9 @@ module _ (count : ℕ) (g : Listing) (lent : List ℤ) (line first found : ℕ) 
                 record {
                   counted = omega (arith, q, m);
                   written =
-                      ap₂ (λ (rs : List ℤ) (n : ℕ). sets rs (4 * n) (numbers_of x)) l.written q
-                      ∙ rows_written lent (up_to text line) d (omega (arith, room, q)) x (y ∙ (here text h).row)
+                      ap₂ (λ (rs : List ℤ) (n : ℕ). sets rs (4 * n) x) l.written q
+                      ∙ ap (sets (past (rows_of (up_to text line)) lent) (4 * length (up_to text line))) (y ∙ (here text h).row)
+                      ∙ rows_written lent (up_to text line) d (omega (arith, room, q))
                       ∙ sym (ap (λ (ds : List Declaration). past (rows_of ds) lent) e);
                 };
           }

@@ -13,7 +13,6 @@ use Rattle.read_classes.specs.Parts.{mark_at, mark_in}
 use Rattle.read_levels.specs.Listing.{Listing, TextListed}
 use Rattle.read_names.specs.Listed.{names_at}
 use Rattle.read_resolved.specs.Resolved.{TextResolved}
-use Rattle.read_declared.specs.declared.DeclaredRow.{DeclaredRow}
 use Rattle.read_declared.specs.Firsts.{number_in, name_in, Named}
 
 -- the declarations in the order of the lines
@@ -41,10 +40,6 @@ row_by s z = by_mark s (pos 1 ∷ z ∷ pos 0 ∷ pos 0 ∷ []) (pos 2 ∷ z ∷
 
 abbrev pub row_listed : List ℕ → List ℤ → List ℤ
 row_listed ss vs = row_by (mark_in ss) (number_in ss vs)
-
--- the numbers of a row
-abbrev pub numbers_of : DeclaredRow → List ℤ
-numbers_of r = r.kind ∷ r.a ∷ r.b ∷ r.c ∷ []
 
 -- 4 for a size other than 1
 abbrev pub unless_one : ℤ → ℕ

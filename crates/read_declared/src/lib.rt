@@ -1,36 +1,27 @@
 // The declarations of a text: their names and roles listed, and their rows.
 #![tactic(auto)]
 
-ghost use Rattle.std.specs.Prelude.{◌≡◌, ◌+◌, ◌≤◌, ◌<◌, [], ◌∷◌, length};
-ghost use Rattle.std.proofs.lemmas.List.Edits.{sets};
+ghost use Rattle.std.specs.Prelude.{◌≡◌, ◌==◌, ◌≤◌, ◌<◌, length};
+ghost use Rattle.std.specs.List.{position};
 ghost use Rattle.read_levels.specs.Listing.{listing, SomeTextListed};
 ghost use Rattle.read_declared.specs.Firsts.{place_of_sort, number_in, name_in, Named};
-ghost use Rattle.read_declared.specs.Declarations.{row_listed, numbers_of, unless_one, role_listed, HasMark, Listable, ListedAt, GatheredFrom, RoomForRows, RowsPut};
+ghost use Rattle.read_declared.specs.Declarations.{row_listed, unless_one, role_listed, HasMark, Listable, ListedAt, GatheredFrom, RoomForRows, RowsPut};
 
 use read_classes::classes;
 use read_tokens::sorts;
 
-// A declaration's row.
-#[derive(Drop)]
-pub struct DeclaredRow {
-    pub kind: i32,
-    pub a: i32,
-    pub b: i32,
-    pub c: i32,
+// The place of the first token of a sort, if one is of it.
+fn find_sort(sorts: &[u8], sort: u8) -> Option<usize>
+    ensures { result ≡ position (λ s. s == sort) sorts.now }
+{
+    sorts.iter().position(|s| *s == sort)
 }
 
-// The place of the first token of a sort; as many as there are if none is of it.
+// The same; as many as there are if none is of it.
 pub fn first_of(sorts: &[u8], sort: u8) -> usize
     ensures { result ≡ place_of_sort sort sorts.now }
 {
-    let mut at: usize = 0;
-    while at < sorts.len() {
-        if sorts[at] == sort {
-            return at;
-        }
-        at += 1;
-    }
-    at
+    find_sort(sorts, sort).unwrap_or(sorts.len())
 }
 
 // The number in a declaration; 1 if it has none.
@@ -39,10 +30,7 @@ fn number_in(sorts: &[u8], values: &[i32]) -> i32
     ensures { result ≡ number_in sorts.now values.now }
 {
     let at = first_of(sorts, sorts::NUMBER);
-    if sorts.len() <= at {
-        return 1;
-    }
-    values[at]
+    if at < sorts.len() { values[at] } else { 1 }
 }
 
 // What is listed of the first name.
@@ -54,37 +42,17 @@ fn name_in(sorts: &[u8], values: &[i32]) -> usize
 }
 
 // The row of the declaration that listed tokens are.
-fn declaration_row(sorts: &[u8], values: &[i32]) -> DeclaredRow
+fn declaration_row(sorts: &[u8], values: &[i32]) -> [i32; 4]
     requires { HasMark sorts.now values.now }
-    ensures { numbers_of result ≡ row_listed sorts.now values.now }
+    ensures { result ≡ row_listed sorts.now values.now }
 {
     let number = number_in(sorts, values);
     let mark = sorts[read_classes::first_mark(sorts)];
     match mark {
-        sorts::INT => DeclaredRow {
-            kind: 1,
-            a: number,
-            b: 0,
-            c: 0,
-        },
-        sorts::CHAN => DeclaredRow {
-            kind: 2,
-            a: number,
-            b: 0,
-            c: 0,
-        },
-        sorts::HOSTIN => DeclaredRow {
-            kind: 2,
-            a: 1,
-            b: 1,
-            c: 0,
-        },
-        _ => DeclaredRow {
-            kind: 2,
-            a: 1,
-            b: 2,
-            c: number,
-        },
+        sorts::INT => [1, number, 0, 0],
+        sorts::CHAN => [2, number, 0, 0],
+        sorts::HOSTIN => [2, 1, 1, 0],
+        _ => [2, 1, 2, number],
     }
 }
 
@@ -92,10 +60,7 @@ fn declaration_row(sorts: &[u8], values: &[i32]) -> DeclaredRow
 fn unless_one(size: i32) -> u8
     ensures { result ≡ unless_one size }
 {
-    if size == 1 {
-        return 0;
-    }
-    4
+    if size == 1 { 0 } else { 4 }
 }
 
 // The role of the declaration that listed tokens are.
@@ -145,10 +110,9 @@ pub fn gather(
     requires { SomeTextListed count (listing kinds.now ends.now sorts.now values.now) × (count ≤ length froms.old) × (count ≤ length sizes.old) × (count ≤ length roles.old) }
     ensures { GatheredFrom count (listing kinds.now ends.now sorts.now values.now) result froms.new sizes.new roles.new × (result ≤ count) }
 {
-    let mut line: usize = 0;
     let mut first: usize = 0;
     let mut found: usize = 0;
-    while line < count {
+    for line in 0..count {
         let end = ends[line] as usize;
         if kinds[line] % 16 <= classes::OTHER_DECLARATION {
             list_declaration(
@@ -162,20 +126,8 @@ pub fn gather(
             found += 1;
         }
         first = end;
-        line += 1;
     }
     found
-}
-
-// Writes a row's numbers from a place on.
-fn put_row(rows: &mut [i32], at: usize, kind: i32, a: i32, b: i32, c: i32)
-    requires { at + 3 < length rows.old }
-    ensures { rows.new ≡ sets rows.old at (kind ∷ a ∷ b ∷ c ∷ []) }
-{
-    rows[at] = kind;
-    rows[at + 1] = a;
-    rows[at + 2] = b;
-    rows[at + 3] = c;
 }
 
 // Writes the rows of the declarations of a text at the beginning of the lent rows.
@@ -190,17 +142,16 @@ pub fn put_rows(
     requires { RoomForRows count (listing kinds.now ends.now sorts.now values.now) rows.old }
     ensures { RowsPut count (listing kinds.now ends.now sorts.now values.now) rows.old rows.new }
 {
-    let mut line: usize = 0;
     let mut first: usize = 0;
     let mut found: usize = 0;
-    while line < count {
+    for line in 0..count {
         let end = ends[line] as usize;
         if kinds[line] % 16 <= classes::OTHER_DECLARATION {
             let row = declaration_row(&sorts[first..end], &values[first..end]);
-            put_row(rows, 4 * found, row.kind, row.a, row.b, row.c);
+            let start = 4 * found;
+            rows[start..start + 4].copy_from_slice(&row);
             found += 1;
         }
         first = end;
-        line += 1;
     }
 }

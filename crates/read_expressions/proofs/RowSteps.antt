@@ -1,24 +1,25 @@
 -- The rows of a token, case by case.
-use mathlib.Core.Path.{◌≡◌, ap₂, ◌∙◌}
+use mathlib.Core.Path.{◌≡◌, sym, ap, ap₂, ◌∙◌}
 use mathlib.Core.Bool.{Bool, true, false}
-use mathlib.Core.List.{List, [], ◌∷◌, append_assoc}
-use Prim.Native.Nat.{ℕ, suc, ◌+◌, ◌*◌, ◌≤◌}
+use mathlib.Core.List.{List, ◌++◌, append_assoc}
+use Prim.Native.Nat.{ℕ, ◌+◌, ◌-◌, ◌*◌, ◌≤◌}
 use native.Mathlib.Omega.{arith}
 use lib.IntN.{ℤ, pos}
-use lib.ListN.{length, set, take, drop}
-use lib.Seq.{sets-eq}
+use lib.ListN.{length, take, drop}
+use lib.Seq.{take-length}
+use borrow.Rule.Slice.PartMut.{put_mid}
+use Rattle.std.proofs.lemmas.Slice.{put_mid-paste}
 use Rattle.read_expressions.specs.Overlay.{overlay}
 use Rattle.read_expressions.specs.TokenRows.{fields, name_rows, name_size}
 use Rattle.read_expressions.proofs.OverlayLaws.{overlay-after}
 
--- four numbers set one by one
-pub four-set : (rows : List ℤ) (p : ℕ) (a b c d : ℤ) → p + 4 ≤ length rows → set (set (set (set rows p a) (p + 1) b) (p + 2) c) (p + 3) d ≡ overlay rows p (a ∷ b ∷ c ∷ d ∷ [])
+-- four numbers copied over a part
+pub row-copied : (rows : List ℤ) (p : ℕ) (ws vs : List ℤ) → ws ≡ vs → length vs ≡ 4 → put_mid p (p + 4 - p) rows ws ≡ overlay rows p vs
 unfolding overlay
-four-set rows p a b c d h =
-    let e : p + 1 ≡ suc p = omega arith in
-    let f : p + 2 ≡ suc (suc p) = omega arith in
-    let g : p + 3 ≡ suc (suc (suc p)) = omega arith in
-    (λ i. set (set (set (set rows p a) (e i) b) (f i) c) (g i) d) ∙ sets-eq (a ∷ b ∷ c ∷ d ∷ []) rows p h ∙ append_assoc (take p rows) (a ∷ b ∷ c ∷ d ∷ []) (drop (p + 4) rows)
+row-copied rows p ws vs is e =
+    put_mid-paste p (p + 4 - p) rows ws vs 4 is (omega arith) (sym e)
+    ∙ ap₂ (λ (xs : List ℤ) (k : ℕ). take p rows ++ xs ++ drop (p + k) rows) (ap (λ (k : ℕ). take k vs) (sym e) ∙ take-length vs) (sym e)
+    ∙ append_assoc (take p rows) vs (drop (p + length vs) rows)
 
 -- a name has at least one row
 pub name-size : (b : Bool) → 1 ≤ name_size b

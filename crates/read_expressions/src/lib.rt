@@ -16,10 +16,7 @@ pub use rows::write_row;
 fn begins_subscript(tokens: &[u8], at: usize) -> bool
     ensures { result ≡ subscripted (drop at tokens.now) }
 {
-    if at < tokens.len() {
-        return tokens[at] == sorts::SQUARE_OPEN;
-    }
-    false
+    tokens.get(at) == Some(&sorts::SQUARE_OPEN)
 }
 
 // Writes the rows of an expression from row n on, by the marks of its tokens; how many rows stand then up to their end. The stack holds the rows that are left free.
@@ -37,8 +34,7 @@ fn lay(
     let mut had = false;
     let mut height: usize = 0;
     let mut r = n;
-    let mut k: usize = 0;
-    while k < sorts.len() {
+    for k in 0..sorts.len() {
         let sort = sorts[k];
         let value = values[k];
         if had {
@@ -51,7 +47,6 @@ fn lay(
             r = rows::write_token(sort, value, subscripted, r + mark, rows);
         }
         had = read_marks::had_after(sort);
-        k += 1;
     }
     r
 }

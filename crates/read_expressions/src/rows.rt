@@ -22,10 +22,7 @@ pub fn write_row(rows: &mut [i32], r: usize, kind: i32, a: i32, b: i32, c: i32)
     ensures { rows.new ≡ overlay rows.old (4 * r) (kind ∷ a ∷ b ∷ c ∷ []) }
 {
     let start = 4 * r;
-    rows[start] = kind;
-    rows[start + 1] = a;
-    rows[start + 2] = b;
-    rows[start + 3] = c;
+    rows[start..start + 4].copy_from_slice(&[kind, a, b, c]);
 }
 
 // Writes the rows of a name that means a row, from row n on; how many rows stand then up to their end.

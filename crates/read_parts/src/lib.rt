@@ -19,20 +19,14 @@ pub fn link_to(size: usize, n: usize) -> i32
     requires { n ≤ 2048 }
     ensures { result ≡ link_to size n }
 {
-    if size == 0 {
-        return -1;
-    }
-    n as i32
+    if size == 0 { -1 } else { n as i32 }
 }
 
 // The sort at a place, that of no token past the end.
 fn sort_at(sorts: &[u8], at: usize) -> u8
     ensures { result ≡ get_or sorts.now at 0 }
 {
-    if at < sorts.len() {
-        return sorts[at];
-    }
-    sorts::NO_TOKEN
+    sorts.get(at).copied().unwrap_or(sorts::NO_TOKEN)
 }
 
 // Writes row n of a process that is a word, with its field a; how many rows stand then up to its end.
@@ -150,12 +144,11 @@ fn write_event(
     ensures { ScratchKept marks.old stack.old marks.new stack.new × (rows.new ≡ with_form (event_form (part_at_mark (tokens_resolved sorts.now values.now))) n rows.old) }
 {
     let at = read_classes::first_mark(sorts);
-    let sort = sort_at(sorts, at);
-    if sort == sorts::ASKS {
+    if sort_at(sorts, at) == sorts::ASKS {
         write_exchange(23, sorts, values, at, n, marks, stack, rows);
-        return;
+    } else {
+        read_expressions::write_row(rows, n, 21, 0, 0, 0);
     }
-    read_expressions::write_row(rows, n, 21, 0, 0, 0);
 }
 
 // The same of the expression before a mark and what is waited for where it holds.
@@ -203,12 +196,11 @@ pub fn write_guard(
     ensures { ScratchKept marks.old stack.old marks.new stack.new × (rows.new ≡ with_form (guard_by (part_at_mark (tokens_resolved sorts.now values.now))) n rows.old) }
 {
     let at = read_classes::first_mark(sorts);
-    let sort = sort_at(sorts, at);
-    if sort == sorts::AMPERSAND {
+    if sort_at(sorts, at) == sorts::AMPERSAND {
         write_guarded(sorts, values, at, n, marks, stack, rows);
-        return;
+    } else {
+        write_event(sorts, values, n, marks, stack, rows);
     }
-    write_event(sorts, values, n, marks, stack, rows);
 }
 
 // Writes row n of the block that a declaration begins; its process is to stand at the next row.

@@ -8,13 +8,18 @@ use Rattle.grammar.specs.Outline.{heads, grown}
 use Rattle.grammar.specs.TextBytes.{grammar_fault}
 use Rattle.grammar.specs.TextRows.{declarations, trees_form, text_lines, text_rows}
 use Rattle.read_levels.specs.Kinds.{kinds_of}
-use Rattle.read_levels.specs.Listing.{Listing, LevelsListed}
+use Rattle.read_levels.specs.Listing.{Listing, listing, LevelsListed}
 use Rattle.read_resolved.specs.Resolved.{declared_names, TextResolved}
 use Rattle.read_layout.specs.Standing.{Standing, standing, open_rows}
 use Rattle.read_layout.specs.Layout.{places_after}
 use Rattle.read_expressions.specs.Overlay.{overlay}
 use Rattle.read_sizes.specs.Sizes.{text_standings, beneaths, afters, rests, by_line, Measured}
 use Rattle.read_rows.specs.declared.Spot.{Spot}
+use Rattle.read_processes.specs.declared.Lines.{Lines}
+
+-- the lists of a text's lines
+abbrev pub lists_of : Lines → Listing
+lists_of l = listing l.kinds.now l.ends.now l.sorts.now l.values.now
 
 -- how many rows a text declares
 abbrev pub declared_count : List ℕ → ℕ

@@ -33,9 +33,10 @@ fn rest_after(kind: u8, after: usize, last: usize) -> usize
     ensures { result ≡ if_else (eqb (kind % 16) (number_of variable-line)) last after }
 {
     if kind % 16 == classes::VARIABLE_LINE {
-        return last;
+        last
+    } else {
+        after
     }
-    after
 }
 
 // For each line: the rows beneath it, those after it at its level, and those of the members after it.
@@ -53,9 +54,7 @@ pub fn measure(
 {
     let mut left = [0usize; 1025];
     let mut last: usize = 0;
-    let mut at = count;
-    while 0 < at {
-        at -= 1;
+    for at in (0..count).rev() {
         let beside = open_line(&mut left, levels[at] as usize, owns[at]);
         last = rest_after(kinds[at], beside.after, last);
         beneath[at] = beside.beneath;

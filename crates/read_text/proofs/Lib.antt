@@ -1,3 +1,2 @@
 pub mod ReadingLaws
-pub mod NamingLaws
 pub mod RowsLaws

@@ -12,10 +12,11 @@ use Rattle.grammar.specs.TextBytes.{grammar_fault}
 use Rattle.grammar.specs.Names.{names_fault}
 use Rattle.grammar.specs.TextRows.{text_lines, text_rows}
 use Rattle.grammar.specs.TextRead.{text_fault}
-use Rattle.read_text.specs.Reading.{rows_in, text_read}
-use Rattle.read_text.specs.declared.TextRead.TheVariants.{Rows, Refused}
+use Rattle.std.specs.Prelude.{Result, Ok}
+use Rattle.read_text.specs.declared.Refused.{Refused}
+use Rattle.read_text.specs.Reading.{rows_in, refused, text_read}
 
-pub too_short : (text : List ℕ) (old : List ℤ) → length old < 4096 → (Refused 1 0, old) ≡ text_read text old
+pub too_short : (text : List ℕ) (old : List ℤ) → length old < 4096 → (refused 1 0, old) ≡ text_read text old
 unfolding text_read
 too_short text old h = rw (lt-ltb (length old) 4096 h)
 
@@ -24,23 +25,23 @@ unfolding grammar_fault
 too_long text h = rw (lt-ltb 32768 (length text) h)
 
 module _ (text : List ℕ) (old : List ℤ) (long : 4096 ≤ length old) where
-  pub not-of-grammar : (n : ℕ) → grammar_fault text ≡ some n → (Refused 12 n, old) ≡ text_read text old
+  pub not-of-grammar : (n : ℕ) → grammar_fault text ≡ some n → (refused 12 n, old) ≡ text_read text old
   unfolding text_read text_fault first_fault
   not-of-grammar n e = rw (le-ltb (length old) 4096 long, e)
 
-  pub overlong-refused : 32768 < length text → (Refused 12 0, old) ≡ text_read text old
+  pub overlong-refused : 32768 < length text → (refused 12 0, old) ≡ text_read text old
   overlong-refused h = not-of-grammar 0 (too_long text h)
 
   module _ (fine : grammar_fault text ≡ none) where
-    pub names-wrong : (n : ℕ) → names_fault (text_lines text) ≡ some n → (Refused 13 n, old) ≡ text_read text old
+    pub names-wrong : (n : ℕ) → names_fault (text_lines text) ≡ some n → (refused 13 n, old) ≡ text_read text old
     unfolding text_read text_fault first_fault
     names-wrong n e = rw (le-ltb (length old) 4096 long, fine, e)
 
     module _ (named : names_fault (text_lines text) ≡ none) where
-      pub too_many : 1024 < row_count (text_rows text) → (Refused 3 1024, old) ≡ text_read text old
+      pub too_many : 1024 < row_count (text_rows text) → (refused 3 1024, old) ≡ text_read text old
       unfolding text_read text_fault first_fault
       too_many h = rw (le-ltb (length old) 4096 long, fine, named, lt-ltb 1024 (row_count (text_rows text)) h)
 
-      pub is_read : row_count (text_rows text) ≤ 1024 → (Rows (row_count (text_rows text)), rows_in (text_rows text) old) ≡ text_read text old
+      pub is_read : row_count (text_rows text) ≤ 1024 → ◌≡◌ {A = Result ℕ Refused × List ℤ} (Ok (row_count (text_rows text)), rows_in (text_rows text) old) (text_read text old)
       unfolding text_read text_fault first_fault
       is_read h = rw (le-ltb (length old) 4096 long, fine, named, le-ltb 1024 (row_count (text_rows text)) h)

@@ -1,13 +1,12 @@
 -- Lent rows that are cleared up to the limit, and then hold the declarations and the process of a text.
 use mathlib.Core.Path.{◌≡◌, refl, sym, ap, ◌∙◌}
-use mathlib.Core.List.{List, [], ◌∷◌, ◌++◌, map, flatten, append_assoc}
-use Prim.Native.Nat.{ℕ, zero, suc, ◌+◌, ◌-◌, ◌*◌, ◌≤◌, ◌<◌}
+use mathlib.Core.List.{List, [], ◌++◌, map, flatten, append_assoc}
+use Prim.Native.Nat.{ℕ, ◌+◌, ◌-◌, ◌*◌, ◌≤◌}
 use native.Mathlib.Nat.{zero-add}
-use native.Mathlib.Numerals.{add-one}
 use native.Mathlib.Omega.{arith}
 use lib.IntN.{ℤ, pos}
-use lib.ListN.{length, get_or, set, take, drop, replicate, length-take, length-append, length-replicate, replicate-append-replicate}
-use lib.Seq.{drop-cons, drop-append-le, drop-append_seam, append_snoc, set_at}
+use lib.ListN.{length, take, drop, replicate, length-take, length-append, length-replicate, replicate-append-replicate}
+use lib.Seq.{drop-append-le, drop-append_seam}
 use Rattle.meaning.specs.Rows.{row_count}
 use Rattle.meaning.specs.Buffers.{lent}
 use Rattle.meaning.proofs.LentLaws.{sized-is, lent_length}
@@ -22,19 +21,6 @@ use Rattle.read_expressions.proofs.OverlayLaws.{overlay-after}
 use Rattle.read_table.specs.TableRead.{past}
 use Rattle.read_processes.specs.Written.{process_rows}
 use Rattle.read_text.specs.Reading.{max_numbers, rows_in, cleared}
-
--- zeros, one after another
-zeros-more : (n : ℕ) → replicate {A = ℤ} (suc n) (pos 0) ≡ replicate n (pos 0) ++ (pos 0 ∷ [])
-zeros-more zero = refl
-zeros-more (suc n) = ap (λ (l : List ℤ). pos 0 ∷ l) (zeros-more n)
-
-pub zero_more : (i : ℕ) (old : List ℤ) → i < length old → set (replicate i (pos 0) ++ drop i old) i (pos 0) ≡ replicate (i + 1) (pos 0) ++ drop (i + 1) old
-zero_more i old h =
-    ap (λ (l : List ℤ). set (replicate i (pos 0) ++ l) i (pos 0)) (drop-cons old i (pos 0) h)
-    ∙ set_at (replicate i (pos 0)) (get_or old i (pos 0)) (drop (suc i) old) (pos 0) i (length-replicate i (pos 0))
-    ∙ sym (append_snoc (replicate i (pos 0)) (pos 0) (drop (suc i) old))
-    ∙ ap (λ (l : List ℤ). l ++ drop (suc i) old) (sym (zeros-more i))
-    ∙ ap (λ (j : ℕ). replicate j (pos 0) ++ drop j old) (sym (add-one i))
 
 -- rows in lent ones, up to the limit
 lent_is : (rows old : List ℤ) → length rows ≤ max_numbers → rows_in rows old ≡ (rows ++ replicate (max_numbers - length rows) (pos 0)) ++ drop max_numbers old

@@ -10,16 +10,16 @@ ghost use Rattle.read_text.specs.Reading.{text_read};
 mod names; // names.rt: its names resolved
 mod rows; // rows.rt: its rows written
 
-use names::Named;
+use read_processes::Lines;
 
-// What reading comes to: so many rows are read, or the text is refused.
-#[derive(Drop)]
-pub enum TextRead {
-    Rows(usize),
-    Refused(u8, u32),
+// Why a text is refused: the number of the refusal, and its place.
+#[derive(Clone, Copy, Debug, PartialEq, Eq)]
+pub struct Refused {
+    pub number: u8,
+    pub place: u32,
 }
 
-// The rows of a text of the grammar, in lent rows, from its lines as they are listed: its names are resolved, then the number of its rows looked at.
+// How many rows a text of the grammar has, put into lent rows, from its lines as they are listed: its names are resolved, then the number of its rows looked at.
 fn read_listed(
     text: &[u8],
     kinds: &[u8],
@@ -29,21 +29,33 @@ fn read_listed(
     sorts: &[u8],
     values: &mut [i32],
     rows: &mut [i32],
-) -> TextRead
+) -> Result<usize, Refused>
     requires { TextListed text.now count (listing kinds.now ends.now sorts.now values.old) × LevelsListed (text_lines text.now) count levels.now × (length kinds.now ≤ 32768) × (4096 ≤ length rows.old) }
     ensures { (result, rows.new) ≡ text_read text.now rows.old }
 {
-    match names::resolve(text, kinds, count, ends, sorts, values) {
-        Named::Fault(line) => TextRead::Refused(13, line),
-        Named::Declared(declared) => {
-            let made = read_counts::count_rows(kinds, count, ends, sorts);
-            if 1024 < made {
-                return TextRead::Refused(3, 1024);
-            }
-            rows::write_rows(kinds, count, levels, ends, sorts, values, declared, rows);
-            TextRead::Rows(made as usize)
-        }
+    let declared = names::resolve(text, kinds, count, ends, sorts, values).map_err(
+        |line| Refused {
+            number: 13,
+            place: line,
+        },
+    )?;
+    let made = read_counts::count_rows(kinds, count, ends, sorts);
+    if 1024 < made {
+        return Err(Refused {
+            number: 3,
+            place: 1024,
+        });
     }
+    let lines = Lines {
+        count,
+        kinds,
+        levels,
+        ends,
+        sorts,
+        values,
+    };
+    rows::write_rows(lines, declared, rows);
+    Ok(made as usize)
 }
 
 // The rows of a text, in lent rows, with lists for its lines and tokens.
@@ -55,18 +67,21 @@ fn read_with(
     sorts: &mut [u8],
     values: &mut [i32],
     rows: &mut [i32],
-) -> TextRead
+) -> Result<usize, Refused>
     requires { Room (length text.now) levels.old (listing kinds.old ends.old sorts.old values.old) × (length kinds.old ≤ 32768) × (4096 ≤ length rows.old) }
     ensures { (result, rows.new) ≡ text_read text.now rows.old }
 {
     match read_levels::outline(text, kinds, levels, ends, sorts, values) {
-        Err(line) => TextRead::Refused(12, line),
+        Err(line) => Err(Refused {
+            number: 12,
+            place: line,
+        }),
         Ok(count) => read_listed(text, kinds, count, levels, ends, sorts, values, rows),
     }
 }
 
 // The same of a text of at most 4,096 bytes, with lists for so many.
-fn read_short(text: &[u8], rows: &mut [i32]) -> TextRead
+fn read_short(text: &[u8], rows: &mut [i32]) -> Result<usize, Refused>
     requires { (length text.now ≤ 4096) × (4096 ≤ length rows.old) }
     ensures { (result, rows.new) ≡ text_read text.now rows.old }
 {
@@ -87,7 +102,7 @@ fn read_short(text: &[u8], rows: &mut [i32]) -> TextRead
 }
 
 // The same of a text of at most 32,768 bytes.
-fn read_long(text: &[u8], rows: &mut [i32]) -> TextRead
+fn read_long(text: &[u8], rows: &mut [i32]) -> Result<usize, Refused>
     requires { (length text.now ≤ 32768) × (4096 ≤ length rows.old) }
     ensures { (result, rows.new) ≡ text_read text.now rows.old }
 {
@@ -108,14 +123,20 @@ fn read_long(text: &[u8], rows: &mut [i32]) -> TextRead
 }
 
 // The rows of a text, in lent rows of 4,096 numbers; unused ones hold 0.
-pub fn read_text(text: &[u8], rows: &mut [i32]) -> TextRead
+pub fn read_text(text: &[u8], rows: &mut [i32]) -> Result<usize, Refused>
     ensures { (result, rows.new) ≡ text_read text.now rows.old }
 {
     if rows.len() < 4096 {
-        return TextRead::Refused(1, 0);
+        return Err(Refused {
+            number: 1,
+            place: 0,
+        });
     }
     if 32768 < text.len() {
-        return TextRead::Refused(12, 0);
+        return Err(Refused {
+            number: 12,
+            place: 0,
+        });
     }
     if text.len() <= 4096 {
         return read_short(text, rows);

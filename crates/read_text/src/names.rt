@@ -5,16 +5,9 @@ ghost use Rattle.read_text.specs.Naming.{NamesRead, NamesRoom};
 ghost use Rattle.read_names.specs.Keys.{key_limit};
 ghost use Rattle.read_declared.specs.Declarations.{Declared};
 
-use read_uses::Place;
+use read_uses::Names;
 
-// What looking names up comes to: so many are declared and all names are in order, or a line is at fault.
-#[derive(Drop)]
-pub enum Named {
-    Declared(usize),
-    Fault(u32),
-}
-
-// Looks up the names of a text, the declared ones listed in the first places of lent lists.
+// How many names are declared, or the line that is at fault: looks up the names of a text, the declared ones listed in the first places of lent lists.
 fn resolve_listed(
     text: &[u8],
     kinds: &[u8],
@@ -27,17 +20,20 @@ fn resolve_listed(
     roles: &[u8],
     heads: &mut [u16],
     nexts: &mut [u16],
-) -> Named
+) -> Result<usize, u32>
     requires { TextListed text.now count (listing kinds.now ends.now sorts.now values.old) × Declared text.now froms.now sizes.now roles.now × (length froms.now ≤ 32768) × (length froms.now ≤ length nexts.old) × (heads.old ≡ replicate key_limit 0) }
     ensures { NamesRead text.now count (listing kinds.now ends.now sorts.now values.new) result }
 {
     read_names::index(text, froms, sizes, heads, nexts);
-    match read_uses::names_fault(
-        text, kinds, count, ends, sorts, values, froms, sizes, roles, heads, nexts,
-    ) {
-        Place::Line(line) => Named::Fault(line),
-        Place::Nowhere => Named::Declared(froms.len()),
-    }
+    let names = Names {
+        froms,
+        sizes,
+        roles,
+        heads,
+        nexts,
+    };
+    read_uses::names_fault(text, kinds, count, ends, sorts, values, names)?;
+    Ok(froms.len())
 }
 
 // Lists the declared names of a text, and looks up its names.
@@ -53,7 +49,7 @@ fn resolve_with(
     roles: &mut [u8],
     heads: &mut [u16],
     nexts: &mut [u16],
-) -> Named
+) -> Result<usize, u32>
     requires { TextListed text.now count (listing kinds.now ends.now sorts.now values.old) × NamesRoom count froms.old sizes.old roles.old nexts.old × (heads.old ≡ replicate key_limit 0) }
     ensures { NamesRead text.now count (listing kinds.now ends.now sorts.now values.new) result }
 {
@@ -81,7 +77,7 @@ fn resolve_few(
     ends: &[u16],
     sorts: &[u8],
     values: &mut [i32],
-) -> Named
+) -> Result<usize, u32>
     requires { TextListed text.now count (listing kinds.now ends.now sorts.now values.old) × (count ≤ 1024) }
     ensures { NamesRead text.now count (listing kinds.now ends.now sorts.now values.new) result }
 {
@@ -104,7 +100,7 @@ fn resolve_many(
     ends: &[u16],
     sorts: &[u8],
     values: &mut [i32],
-) -> Named
+) -> Result<usize, u32>
     requires { TextListed text.now count (listing kinds.now ends.now sorts.now values.old) × (count ≤ 32768) }
     ensures { NamesRead text.now count (listing kinds.now ends.now sorts.now values.new) result }
 {
@@ -119,7 +115,7 @@ fn resolve_many(
     )
 }
 
-// Resolves the names of a text: the number of each name is then that of its row.
+// Resolves the names of a text, the number of each name being then that of its row: how many are declared, or the first line on which names are not in order.
 pub fn resolve(
     text: &[u8],
     kinds: &[u8],
@@ -127,7 +123,7 @@ pub fn resolve(
     ends: &[u16],
     sorts: &[u8],
     values: &mut [i32],
-) -> Named
+) -> Result<usize, u32>
     requires { TextListed text.now count (listing kinds.now ends.now sorts.now values.old) × (count ≤ 32768) }
     ensures { NamesRead text.now count (listing kinds.now ends.now sorts.now values.new) result }
 {

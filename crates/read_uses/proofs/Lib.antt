@@ -1,7 +1,6 @@
 pub mod UseLaws
 pub mod MisuseLaws
 pub mod RoleLaws
-pub mod LetterLaws
 pub mod MarkLaws
 pub mod TokenLaws
 pub mod LineSteps

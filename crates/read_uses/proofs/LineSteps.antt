@@ -13,11 +13,10 @@ use lib.Dec.{leb}
 use borrow.Author.Tests.{lt-ltb}
 use Rattle.meaning.specs.Basics.{if_else, any_passes}
 use Rattle.meaning.specs.Rows.{natural_of}
-use Rattle.grammar.specs.Outline.{Declaration, skip}
+use Rattle.grammar.specs.Outline.{Declaration}
 use Rattle.grammar.specs.Names.{use_of, Use}
 use Rattle.grammar.specs.TextRows.{name_row, declarations, text_lines}
 use Rattle.grammar.specs.Grammar.{Token, name}
-use Rattle.grammar.specs.Lines.{declares}
 use Rattle.read_tokens.specs.Held.{name_held, name_of_row, tokens_held, tokens_resolved, row_limit, token_by, tokens_by, letters_at}
 use Rattle.read_tokens.proofs.HeldLaws.{sorts-of-held, tokens-length}
 use Rattle.read_tokens.specs.Sorts as sorts
@@ -248,3 +247,7 @@ module _ (text : List ℕ) (declares : Bool) (seen : ℕ) (ss : List ℕ) (vs : 
                   ∙ ap (λ (i : ℕ). some (name (i ∷ []))) (sym found-row)
                   ∙ ap (resolved_chunk names) (sym chunk-is))
                   (sym here-told ∙ e) k q
+
+-- the same with numbers that are as said
+pub resolving-same : {text : List ℕ} {declares : Bool} {seen : ℕ} {ss : List ℕ} {vs : List ℤ} {mark at : ℕ} {us ws : List ℤ} → us ≡ ws → Resolving text declares seen ss vs mark at ws → Resolving text declares seen ss vs mark at us
+resolving-same {text} {declares} {seen} {ss} {vs} {mark} {at} e x = subst (Resolving text declares seen ss vs mark at) (sym e) x

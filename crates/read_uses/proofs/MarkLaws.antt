@@ -1,15 +1,14 @@
 -- What the sorts of tokens tell of marks, subscripts and names.
 use mathlib.Core.Path.{◌≡◌, refl, sym, ap, ◌∙◌}
-use mathlib.Core.Bool.{Bool, true, false, not}
+use mathlib.Core.Bool.{Bool, true, false}
 use mathlib.Core.List.{List, [], ◌∷◌, map}
 use mathlib.Core.Option.{Option}
-use Prim.Native.Nat.{ℕ, zero, suc, ◌+◌, ◌-◌, ◌≤◌, ◌<◌}
+use Prim.Native.Nat.{ℕ, zero, suc, ◌+◌, ◌-◌, ◌≤◌}
 use native.Mathlib.Omega.{arith}
 use native.Mathlib.Numerals.{add-one}
-use lib.ListN.{length, get_or, take, drop, length-drop, get_or-eq_default}
+use lib.ListN.{length, get_or, take, drop, length-drop}
 use lib.Seq.{take_all}
-use lib.Dec.{eqb}
-use borrow.Author.Tests.{le-leb, lt-leb}
+use borrow.Author.Tests.{le-leb}
 use Rattle.meaning.specs.Basics.{if_else}
 use Rattle.grammar.specs.Grammar.{Token}
 use Rattle.read_tokens.specs.Sorts as sorts
@@ -20,23 +19,7 @@ use Rattle.read_uses.specs.Misuses.{mark_past, bare_at}
 
 -- The code's tests -------------------------------------------------------------------------------------------------------------------
 
--- no token stands past the end
-pub bare-past : (ss : List ℕ) (at : ℕ) → length ss ≤ at → true ≡ bare_at ss at
-bare-past ss at h = ap (λ (s : ℕ). not (eqb s sorts.square_open)) (sym (get_or-eq_default ss 0 h))
-
-module _ (ss : List ℕ) (m : ℕ) (e : m ≡ mark_at ss) where
-  -- the first mark, and that there is none
-  pub mark-there : get_or ss m 0 ≡ mark_in ss
-  mark-there = ap (λ (i : ℕ). get_or ss i 0) e
-
-  pub no-mark-there : length ss ≤ m → 0 ≡ mark_in ss
-  no-mark-there h = sym (get_or-eq_default ss 0 h) ∙ mark-there
-
 module _ (ss : List ℕ) (at : ℕ) where
-  -- the next token does not stand first
-  pub no-mark-past : get_or ss at 0 < sorts.skip → 0 ≡ mark_past ss at
-  no-mark-past h = ap (λ (b : Bool). if_else b (mark_in (drop (suc at) ss)) sorts.no_token) (sym (lt-leb sorts.skip (get_or ss at 0) h))
-
   -- it stands first before the first mark from there on
   pub mark-past-there : sorts.skip ≤ get_or ss at 0 → (m : ℕ) → m ≡ mark_in (take (length ss - (at + 1)) (drop (at + 1) ss)) → m ≡ mark_past ss at
   mark-past-there h m e =

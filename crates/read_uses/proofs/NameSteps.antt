@@ -1,6 +1,6 @@
 -- Whether names are in order, line by line.
 use mathlib.Core.Path.{◌≡◌, refl, sym, ap, ap₂, subst, ◌∙◌}
-use mathlib.Core.Bool.{Bool, true, false, false≢true}
+use mathlib.Core.Bool.{Bool, true, false}
 use mathlib.Core.List.{List, ◌∷◌, ◌++◌, map}
 use mathlib.Core.Option.{Option, none, some}
 use Prim.Native.Nat.{ℕ, zero, suc, ◌+◌, ◌-◌, ◌%◌, ◌≤◌, ◌<◌}
@@ -13,7 +13,6 @@ use lib.Seq.{length-take-le, drop-drop}
 use lib.Dec.{leb}
 use borrow.Author.Tests.{leb-true, leb-false}
 use Rattle.meaning.specs.Basics.{if_else, lowest_from, lowest}
-use Rattle.meaning.specs.Lines.{same}
 use Rattle.grammar.specs.Outline.{Declaration, OutlineLine, declare, Lined, lined}
 use Rattle.grammar.specs.Names.{declaration_in, misnamed, names_fault}
 use Rattle.grammar.specs.TextRows.{if_declared, declarations, text_lines}
@@ -28,19 +27,14 @@ use Rattle.read_resolved.specs.Resolved.{resolved_token, declared_names, TextRes
 use Rattle.read_declared.specs.Declarations.{in_order, Declared}
 use Rattle.read_declared.proofs.OrderLaws.{in_order_lem, no-more-than-lines}
 use Rattle.read_declared.proofs.KindLaws.{declares-below, declares-not}
-use Rattle.read_uses.specs.declared.Place.{Place}
 use Rattle.read_uses.specs.Misuses.{tokens_misnamed}
 use Rattle.read_uses.specs.Places.{place_of}
 use Rattle.read_uses.specs.Resolving.{resolved_chunk, NamesKnown, LineHeld, LineChecked}
-use Rattle.read_uses.specs.declared.Place.TheVariants as place
+use Rattle.std.specs.Prelude.{Ok, Err}
 use Rattle.read_uses.proofs.PartLaws.{replaced-before, replaced-part, replaced-after, replaced-length}
 use Rattle.read_uses.proofs.LineLaws.{spelt-some, resolved-map, line-told, counted-after}
 
 -- The loop ---------------------------------------------------------------------------------------------------------------------------
-
-abbrev is_line : Place → Bool
-is_line place.Nowhere = false
-is_line (place.Line n) = true
 
 module _ (text : List ℕ) (count : ℕ) (kinds ends sorts : List ℕ) (vs : List ℤ) where
   abbrev ls : List Lined
@@ -110,7 +104,7 @@ module _ (text : List ℕ) (count : ℕ) (kinds ends sorts : List ℕ) (vs : Lis
 
     module _ (line first seen : ℕ) (ws : List ℤ) (g : Checking line first seen ws) where
       -- no line is left
-      pub none_left : count ≤ line → place.Nowhere ≡ place_of (names_fault ls)
+      pub none_left : count ≤ line → Ok tt ≡ place_of (names_fault ls)
       unfolding lowest_from
       none_left k =
           let i = g.inside in
@@ -249,9 +243,9 @@ module _ (text : List ℕ) (count : ℕ) (kinds ends sorts : List ℕ) (vs : Lis
               (sym (r.told ∙ ap (tokens_misnamed ds declaring seen) held-here ∙ misnamed-here))
 
           -- names are not in order on it
-          pub fault-here : b ≡ true → place.Line (line + 1) ≡ place_of (names_fault ls)
+          pub fault-here : b ≡ true → Err (line + 1) ≡ place_of (names_fault ls)
           fault-here e =
-              ap place.Line (add-one line)
+              ap (λ (n : ℕ). Err n) (add-one line)
               ∙ sym (ap place_of (fault-next ∙ ap (λ (p : Bool). if_else p (some (suc line)) (lowest_from (misnamed ls) (suc (suc line)) (length rest))) e))
 
           abbrev new : List ℤ
@@ -339,6 +333,6 @@ module _ (text : List ℕ) (count : ℕ) (kinds ends sorts : List ℕ) (vs : Lis
               let w = declared-more in
               next e seen (omega (arith, c, w))
 
--- a line is not nowhere
-pub line-somewhere : {A : Type 0} (n : ℕ) → place.Line n ≡ place.Nowhere → A
-line-somewhere n e = absurd (false≢true (sym (ap is_line e)))
+-- the same with a count that is as said
+pub checking-same : {text : List ℕ} {count : ℕ} {kinds ends sorts : List ℕ} {vs : List ℤ} {line first m n : ℕ} {ws : List ℤ} → m ≡ n → Checking text count kinds ends sorts vs line first n ws → Checking text count kinds ends sorts vs line first m ws
+checking-same {text} {count} {kinds} {ends} {sorts} {vs} {line} {first} {ws = ws} e x = subst (λ (m : ℕ). Checking text count kinds ends sorts vs line first m ws) (sym e) x

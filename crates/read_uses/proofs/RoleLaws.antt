@@ -3,60 +3,20 @@ use mathlib.Core.Path.{◌≡◌, refl, sym, ap, ap₂, ◌∙◌}
 use mathlib.Core.Bool.{Bool, true, false, not, ◌&&◌, ◌||◌, false≢true}
 use mathlib.Core.List.{List, [], ◌∷◌, map}
 use mathlib.Core.Option.{Option, none, some}
-use Prim.Native.Nat.{ℕ, zero, suc, ◌+◌, ◌%◌, ◌≤◌, ◌<◌}
+use Prim.Native.Nat.{ℕ, zero, suc, ◌+◌, ◌≤◌, ◌<◌}
 use native.Mathlib.Omega.{arith}
 use native.Mathlib.Decide.{dec_lt}
 use lib.IntN.{pos}
 use lib.ListN.{length, get_or, get_elem?, length-map}
-use lib.Dec.{eqb, leb, ltb}
-use borrow.Author.Tests.{eq-eqb, ne_eqb, le-leb, lt-leb, not-true, not-false}
+use lib.Dec.{ltb}
+use borrow.Author.Tests.{le-leb, lt-leb}
 use Rattle.meaning.specs.Basics.{if_else, eq_z}
 use Rattle.grammar.specs.Outline.{Declaration, variable, channel, source, sink}
 use Rattle.grammar.specs.Names.{Sort, as-variable, as-input, as-output, use_of, serves}
-use Rattle.read_tokens.specs.Sorts as sorts
 use Rattle.read_declared.specs.Declarations.{role_number}
-use Rattle.read_uses.specs.Uses.{sort_by}
-use Rattle.read_uses.specs.Misuses.{unfit, misnamed_as, serves_role, unfit_role, misnamed_by}
+use Rattle.read_uses.specs.Misuses.{unfit, misnamed_as, unfit_role, misnamed_by}
 
 -- Tests ------------------------------------------------------------------------------------------------------------------------------
-
-module _ (role m : ℕ) where
-  abbrev served : ℕ → Bool
-  served k = serves_role role (sort_by k)
-
-  -- a channel of no host
-  pub first-input : m ≡ sorts.asks → role ≡ 1 → true ≡ served m
-  first-input e h = ap (λ (b : Bool). b || eqb role 2) (sym (eq-eqb role 1 h)) ∙ ap served (sym e)
-
-  pub first-output : m ≡ sorts.tells → role ≡ 1 → true ≡ served m
-  first-output e h = ap (λ (b : Bool). b || eqb role 3) (sym (eq-eqb role 1 h)) ∙ ap served (sym e)
-
-  -- one of the host
-  pub host-input : m ≡ sorts.asks → (role ≡ 1 → ⊥) → eqb role 2 ≡ served m
-  host-input e h = ap (λ (b : Bool). b || eqb role 2) (sym (ne_eqb role 1 h)) ∙ ap served (sym e)
-
-  pub host-output : m ≡ sorts.tells → (role ≡ 1 → ⊥) → eqb role 3 ≡ served m
-  host-output e h = ap (λ (b : Bool). b || eqb role 3) (sym (ne_eqb role 1 h)) ∙ ap served (sym e)
-
-  -- elsewhere
-  sort-other : (m ≡ sorts.asks → ⊥) → (m ≡ sorts.tells → ⊥) → as-variable ≡ sort_by m
-  sort-other a b = rw (ne_eqb m sorts.asks a, ne_eqb m sorts.tells b)
-
-  pub a-variable : (m ≡ sorts.asks → ⊥) → (m ≡ sorts.tells → ⊥) → eqb role 0 ≡ served m
-  a-variable a b = ap (λ (s : Sort). serves_role role s) (sort-other a b)
-
-module _ (role : ℕ) (b : Bool) (s : Sort) (t : Bool) (e : t ≡ serves_role (role % 4) s) where
-  -- it does not serve
-  pub unfit-serves-not : not t ≡ true → true ≡ unfit_role role b s
-  unfit-serves-not h = ap (λ (x : Bool). x || (b && leb 4 role)) (sym h ∙ ap not e)
-
-  -- it serves, and the use is not bare
-  pub unfit-not-bare : not t ≡ false → not b ≡ true → false ≡ unfit_role role b s
-  unfit-not-bare h i = ap₂ (λ (x y : Bool). x || (y && leb 4 role)) (sym h ∙ ap not e) (sym (not-true b i))
-
-  -- it serves, and the use is bare
-  pub unfit-bare : not t ≡ false → not b ≡ false → leb 4 role ≡ unfit_role role b s
-  unfit-bare h i = ap₂ (λ (x y : Bool). x || (y && leb 4 role)) (sym h ∙ ap not e) (sym (not-false b i))
 
 module _ (declares : Bool) (seen row : ℕ) (roles : List ℕ) (b : Bool) (s : Sort) where
   abbrev in_range : Bool → Bool → Bool
@@ -65,15 +25,6 @@ module _ (declares : Bool) (seen row : ℕ) (roles : List ℕ) (b : Bool) (s : S
   -- declared nowhere
   pub misnamed-nowhere : length roles ≤ row → true ≡ misnamed_by declares seen row roles b s
   misnamed-nowhere h = ap (λ (p : Bool). in_range p declares) (sym (le-leb (length roles) row h))
-
-  module _ (h : row < length roles) where
-    -- on a declaration
-    pub misnamed-again : declares ≡ true → ltb row seen ≡ misnamed_by declares seen row roles b s
-    misnamed-again e = ap₂ in_range (sym (lt-leb (length roles) row h)) (sym e)
-
-    -- elsewhere
-    pub misnamed-use : declares ≡ false → unfit_role (get_or roles row 0) b s ≡ misnamed_by declares seen row roles b s
-    misnamed-use e = ap₂ in_range (sym (lt-leb (length roles) row h)) (sym e)
 
   -- what is in order is declared
   pub declared-row : misnamed_by declares seen row roles b s ≡ false → row < length roles

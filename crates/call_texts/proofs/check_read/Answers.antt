@@ -9,18 +9,18 @@ use borrow.Author.Rules.{rules}
 use Rattle.call_texts.proofs.check_read.Goals as goal
 
 pub overflow_mul-count : goal.overflow_mul-count
-overflow_mul-count c = let h = within c.args.text.now c.args.rows.now c.requires c.read_text.result c.read_text.new.rows c.read_text.ensures c.in-Rows.count c.in-Rows.is in record { fits = omega (arith, h) }
+overflow_mul-count c = let h = within c.args.text.now c.args.rows.now c.requires c.read_text.result c.read_text.new.rows c.read_text.ensures c.in-Ok.count c.in-Ok.is in record { fits = omega (arith, h) }
 
 pub slice_bounds-check_rows-end : goal.slice_bounds-check_rows-end
-slice_bounds-check_rows-end c = room c.args.text.now c.args.rows.now c.requires c.read_text.result c.read_text.new.rows c.read_text.ensures c.in-Rows.count c.in-Rows.is
+slice_bounds-check_rows-end c = room c.args.text.now c.args.rows.now c.requires c.read_text.result c.read_text.new.rows c.read_text.ensures c.in-Ok.count c.in-Ok.is
 
-pub slice_bounds-check_rows-end-in-Rows : goal.slice_bounds-check_rows-end-in-Rows
-slice_bounds-check_rows-end-in-Rows c = part-long c.args.text.now c.args.rows.now c.requires c.read_text.result c.read_text.new.rows c.read_text.ensures c.in-Rows.count c.in-Rows.is
+pub slice_bounds-check_rows-end-in-Ok : goal.slice_bounds-check_rows-end-in-Ok
+slice_bounds-check_rows-end-in-Ok c = part-long c.args.text.now c.args.rows.now c.requires c.read_text.result c.read_text.new.rows c.read_text.ensures c.in-Ok.count c.in-Ok.is
 
-pub returns-in-Refused : goal.returns-in-Refused
-returns-in-Refused c = verdict-refused c.args.text.now _ _ (fault-told c.args.text.now c.args.rows.now c.requires c.read_text.result c.read_text.new.rows c.read_text.ensures c.in-Refused.number c.in-Refused.place c.in-Refused.is)
+pub returns-in-Err : goal.returns-in-Err
+returns-in-Err c = verdict-refused c.args.text.now _ _ (fault-told c.args.text.now c.args.rows.now c.requires c.read_text.result c.read_text.new.rows c.read_text.ensures c.in-Err.refused.number c.in-Err.refused.place c.in-Err.is)
 
-pub returns-in-Rows : goal.returns-in-Rows
-returns-in-Rows c =
-    let fine = is-fine c.args.text.now c.args.rows.now c.requires c.read_text.result c.read_text.new.rows c.read_text.ensures c.in-Rows.count c.in-Rows.is in
-    c.check_rows.ensures ∙ ap (λ (l : List ℤ). verdict_of (check l)) (rows-there c.args.text.now c.args.rows.now c.requires c.read_text.result c.read_text.new.rows c.read_text.ensures c.in-Rows.count c.in-Rows.is) ∙ verdict-on-rows c.args.text.now fine
+pub returns-in-Ok : goal.returns-in-Ok
+returns-in-Ok c =
+    let fine = is-fine c.args.text.now c.args.rows.now c.requires c.read_text.result c.read_text.new.rows c.read_text.ensures c.in-Ok.count c.in-Ok.is in
+    c.check_rows.ensures ∙ ap (λ (l : List ℤ). verdict_of (check l)) (rows-there c.args.text.now c.args.rows.now c.requires c.read_text.result c.read_text.new.rows c.read_text.ensures c.in-Ok.count c.in-Ok.is) ∙ verdict-on-rows c.args.text.now fine

@@ -1,12 +1,9 @@
 -- The loop keeps that the declarations up to a line are listed. Assumes nothing.
-use mathlib.Core.Path.{◌≡◌, refl, ap, ◌∙◌}
-use Prim.Native.Nat.{◌-◌}
+use mathlib.Core.Path.{refl, ◌∙◌}
 use native.Mathlib.Omega.{arith}
-use lib.ListN.{length}
-use borrow.Author.Rules.{scaled_Fits}
 use Rattle.read_levels.specs.Listing.{listing}
 use Rattle.read_levels.proofs.ListingLaws.{span-at}
-use Rattle.read_declared.proofs.GatherSteps.{Gathering, gathering-start, gathering-end, gathering-passes, gathering-listable, gathering-takes, gathering-same}
+use Rattle.read_declared.proofs.GatherSteps.{gathering-start, gathering-end, gathering-passes, gathering-listable, gathering-takes, gathering-same}
 use Rattle.read_declared.proofs.gather.Goals as goal
 use Rattle.read_declared.proofs.gather.Goals.{then-kinds-line-le-OTHER_DECLARATION, else-kinds-line-le-OTHER_DECLARATION}
 
@@ -71,12 +68,6 @@ list_declaration-requires c =
     let y = v.2 in
     let z = v.3 in
     (gathering-listable _ _ c.loop-line.line c.loop-line.first c.loop-line.found _ _ _ v.0 i c.requires.0 c.if-kinds-line-le-OTHER_DECLARATION.true, omega (arith, f, i, p, x), omega (arith, f, i, q, y), omega (arith, f, i, r, z))
-
-pub loop-line-smaller : goal.loop-line-smaller
-loop-line-smaller c =
-    let h = c.requires.0.1.lines in
-    let i = c.loop-line-test.true in
-    omega (arith, i)
 
 pub loop-line-preserved : goal.loop-line-preserved
 loop-line-preserved c =

@@ -2,7 +2,6 @@
 use mathlib.Core.Path.{ap}
 use Prim.Native.Nat.{ℕ, ◌/◌, ◌%◌}
 use lib.ListN.{set}
-use borrow.Author.Rules.{rules}
 use Rattle.read_declared.proofs.list_declaration.Goals as goal
 
 pub returns : goal.returns

@@ -8,13 +8,13 @@ use borrow.Author.Rules.{rules}
 use Rattle.read_declared.proofs.FirstSteps.{number-there, number-absent}
 use Rattle.read_declared.proofs.number_in.Goals as goal
 
-pub returns-then-sorts-at : goal.returns-then-sorts-at
-returns-then-sorts-at c =
+pub returns-else-at-sorts : goal.returns-else-at-sorts
+returns-else-at-sorts c =
     let a = c.args in
-    number-absent a.sorts.now a.values.now c.first_of-at.result c.first_of-at.ensures c.if-sorts-at.true
+    number-absent a.sorts.now a.values.now c.first_of-at.result c.first_of-at.ensures c.if-at-sorts.false
 
-pub returns : goal.returns
-returns c =
+pub returns-then-at-sorts : goal.returns-then-at-sorts
+returns-then-at-sorts c =
     let a = c.args in
     let fits : SFits w32 (get_or a.values.now c.first_of-at.result (pos 0)) = search rules in
-    rw (to_z-of_z w32 _ fits) (number-there a.sorts.now a.values.now c.first_of-at.result c.first_of-at.ensures c.if-sorts-at.false)
+    rw (to_z-of_z w32 _ fits) (number-there a.sorts.now a.values.now c.first_of-at.result c.first_of-at.ensures c.if-at-sorts.true)

@@ -1,18 +1,13 @@
 -- The loop keeps that the rows of the declarations up to a line are written. Assumes nothing.
-use mathlib.Core.Path.{◌≡◌, refl, ap, ◌∙◌}
-use mathlib.Core.List.{[], ◌∷◌}
-use Prim.Native.Nat.{◌-◌, ◌*◌}
+use mathlib.Core.Path.{◌≡◌, ◌∙◌}
+use Prim.Native.Nat.{◌+◌, ◌*◌, ◌≤◌}
 use native.Mathlib.Omega.{arith}
-use mir.Syntax.{w32}
-use mir.Val.{SFits, to_z, of_z}
-use mir.ValLaws.{to_z-of_z}
 use lib.ListN.{length}
-use lib.Seq.{sets}
-use borrow.Author.Rules.{scaled_Fits}
+use borrow.Author.Rules.{rules}
 use Rattle.read_levels.specs.Listing.{listing}
 use Rattle.read_levels.proofs.ListingLaws.{span-at}
-use Rattle.read_declared.specs.Declarations.{numbers_of}
-use Rattle.read_declared.proofs.GatherSteps.{Putting, putting-start, putting-end, putting-passes, putting-marked, putting-room, putting-takes, putting-same}
+use Rattle.read_declared.proofs.RowSteps.{row-copied}
+use Rattle.read_declared.proofs.GatherSteps.{putting-start, putting-end, putting-passes, putting-marked, putting-room, putting-takes, putting-same}
 use Rattle.read_declared.proofs.put_rows.Goals as goal
 use Rattle.read_declared.proofs.put_rows.Goals.{then-kinds-line-le-OTHER_DECLARATION, else-kinds-line-le-OTHER_DECLARATION}
 
@@ -100,19 +95,18 @@ declaration_row-row-requires c =
     let i = c.loop-line-test.true in
     putting-marked _ _ _ c.loop-line.line c.loop-line.first c.loop-line.found _ c.loop-line.invariant i c.if-kinds-line-le-OTHER_DECLARATION.true c.requires
 
-pub put_row-requires : goal.put_row-requires
-put_row-requires c =
-    let h = c.requires.1.lines in
+room : (c : goal.After-declaration_row-row) → 4 * c.loop-line.found + 4 ≤ length c.loop-line.rows
+room c =
     let i = c.loop-line-test.true in
     let r = putting-room _ _ _ c.loop-line.line c.loop-line.first c.loop-line.found _ c.loop-line.invariant i c.if-kinds-line-le-OTHER_DECLARATION.true c.requires in
     let s = c.loop-line.invariant.same-long in
     omega (arith, r, s)
 
-pub loop-line-smaller : goal.loop-line-smaller
-loop-line-smaller c =
-    let h = c.requires.1.lines in
-    let i = c.loop-line-test.true in
-    omega (arith, i)
+pub offset_bounds-rows-start : goal.offset_bounds-rows-start
+offset_bounds-rows-start c = let r = room c in search rules
+
+pub slice_bounds-copy_from_slice-end : goal.slice_bounds-copy_from_slice-end
+slice_bounds-copy_from_slice-end c = room c
 
 pub loop-line-preserved : goal.loop-line-preserved
 loop-line-preserved c =
@@ -121,13 +115,10 @@ loop-line-preserved c =
       | then-kinds-line-le-OTHER_DECLARATION w ↦
           let x = w.declaration_row-row.result in
           let d = putting-takes _ _ _ c.loop-line.line c.loop-line.first c.loop-line.found _ c.loop-line.invariant i w.if-kinds-line-le-OTHER_DECLARATION.true c.requires x w.declaration_row-row.ensures in
-          let g = w.struct_told-then-kinds-line-le-OTHER_DECLARATION-3-1.given in
-          let fk : SFits w32 x.kind = record { sfits = g.0.1 } in
-          let fa : SFits w32 x.a = record { sfits = g.1.0.1 } in
-          let fb : SFits w32 x.b = record { sfits = g.1.1.0.1 } in
-          let fc : SFits w32 x.c = record { sfits = g.1.1.1.0.1 } in
-          let told : to_z w32 (of_z w32 x.kind) ∷ to_z w32 (of_z w32 x.a) ∷ to_z w32 (of_z w32 x.b) ∷ to_z w32 (of_z w32 x.c) ∷ [] ≡ numbers_of x = rw (to_z-of_z w32 _ fk, to_z-of_z w32 _ fa, to_z-of_z w32 _ fb, to_z-of_z w32 _ fc) refl in
-          putting-same (w.rows-is ∙ w.put_row.ensures ∙ ap (sets c.loop-line.rows (4 * c.loop-line.found)) told) w.found-is d
+          let four : length x ≡ 4 = search rules in
+          let r = putting-room _ _ _ c.loop-line.line c.loop-line.first c.loop-line.found _ c.loop-line.invariant i w.if-kinds-line-le-OTHER_DECLARATION.true c.requires in
+          let s = c.loop-line.invariant.same-long in
+          putting-same (w.rows-is ∙ row-copied c.loop-line.rows (4 * c.loop-line.found) _ x w.copy_from_slice.ensures.after four (omega (arith, r, s))) w.found-is d
       | else-kinds-line-le-OTHER_DECLARATION w ↦ putting-same w.rows-is w.found-is (putting-passes _ _ _ c.loop-line.line c.loop-line.first c.loop-line.found _ c.loop-line.invariant i w.if-kinds-line-le-OTHER_DECLARATION.false)
     ]
 

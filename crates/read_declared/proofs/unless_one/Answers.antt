@@ -15,5 +15,5 @@ one-fits = record { sfits = lib.Dec.lit< tt }
 pub returns-then-size-eq1 : goal.returns-then-size-eq1
 returns-then-size-eq1 c = sym (ap (λ (b : Bool). if_else b 0 4) (same-bits-equal c.args.size (pos 1) c.ranges.size one-fits c.if-size-eq1.true))
 
-pub returns : goal.returns
-returns c = sym (ap (λ (b : Bool). if_else b 0 4) (other-bits-differ c.args.size (pos 1) c.ranges.size one-fits c.if-size-eq1.false))
+pub returns-else-size-eq1 : goal.returns-else-size-eq1
+returns-else-size-eq1 c = sym (ap (λ (b : Bool). if_else b 0 4) (other-bits-differ c.args.size (pos 1) c.ranges.size one-fits c.if-size-eq1.false))

@@ -1,5 +1,5 @@
 -- The loop keeps what `LayLoop` says. Assumes nothing.
-use mathlib.Core.Path.{◌≡◌, refl, ap, ap₂, ◌∙◌}
+use mathlib.Core.Path.{refl, ap, ap₂, ◌∙◌}
 use mathlib.Core.Bool.{Bool}
 use Prim.Native.Nat.{◌+◌, ◌-◌, ◌*◌, ◌<◌}
 use native.Mathlib.Omega.{arith}
@@ -8,14 +8,12 @@ use mir.Val.{SFits}
 use mir.ValLaws.{to_z-of_z}
 use borrow.Author.Rules.{rules}
 use lib.IntN.{ℤ, pos}
-use lib.ListN.{length, get_or, length-set}
-use Rattle.read_tokens.specs.Held.{tokens_resolved}
+use lib.ListN.{length, get_or}
 use Rattle.read_expressions.specs.Overlay.{overlay}
 use Rattle.read_expressions.specs.TokenRows.{rows_by_sort, size_by_sort}
 use Rattle.read_expressions.specs.Free.{filled}
-use Rattle.read_expressions.specs.Expressions.{end_of, with_rows}
 use Rattle.read_expressions.proofs.ExpressionLaws.{spelt}
-use Rattle.read_expressions.proofs.LayLoop.{LayLoop, moved, lay-begin, all_laid, free-row, lay-again-had, mark-low, token-fits, lay-again-wanted}
+use Rattle.read_expressions.proofs.LayLoop.{moved, lay-begin, all_laid, free-row, lay-again-had, mark-low, token-fits, lay-again-wanted}
 use Rattle.read_expressions.proofs.lay.Goals as goal
 use Rattle.read_expressions.proofs.lay.Goals.{then-had, else-had}
 
@@ -81,12 +79,6 @@ write_token-r-requires c =
     let h = c.loop-k-test.true in
     let fits = token-fits c.args.sorts.now c.args.values.now c.requires.1.0 _ _ l.k l.height l.r l.had l.free l.rows m h c.args.marks.now c.requires.2 c.if-had.false in
     rw c.begins_subscript-subscripted.ensures (omega (arith, fits, c.requires.0.1), omega (arith, fits, c.requires.0.2, l.invariant.1))
-
-pub overflow_add-k-in-loop-k : goal.overflow_add-k-in-loop-k
-overflow_add-k-in-loop-k c = record { fits = omega (arith, c.loop-k-test.true, c.requires.1.1) }
-
-pub loop-k-smaller : goal.loop-k-smaller
-loop-k-smaller c = omega (arith, c.loop-k-test.true)
 
 pub loop-k-preserved : goal.loop-k-preserved
 loop-k-preserved c =

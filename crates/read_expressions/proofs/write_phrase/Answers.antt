@@ -1,6 +1,5 @@
 -- The marks, then the rows. Assumes nothing.
 use mathlib.Core.Path.{◌∙◌}
-use borrow.Author.Rules.{rules}
 use Rattle.read_expressions.proofs.ExpressionLaws.{spelt, phrase-sorts}
 use Rattle.read_expressions.proofs.write_phrase.Goals as goal
 

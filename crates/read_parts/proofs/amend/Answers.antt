@@ -4,7 +4,6 @@ use native.Mathlib.Omega.{arith}
 use mir.Syntax.{w32}
 use mir.ValLaws.{to_z_pos}
 use lib.ListN.{length-set}
-use borrow.Author.Rules.{rules}
 use Rattle.read_parts.proofs.amend.Goals as goal
 
 pub bounds-rows-start-2 : goal.bounds-rows-start-2

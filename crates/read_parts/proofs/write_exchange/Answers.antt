@@ -4,7 +4,6 @@ use native.Mathlib.Omega.{arith}
 use lib.Seq.{length-take-le}
 use Rattle.read_parts.proofs.TokenParts.{scratch-before, scratch_after}
 use Rattle.read_parts.proofs.PartSteps.{first-asked, second-asked, amend-asked, exchange-done}
-use borrow.Author.Rules.{rules}
 use Rattle.read_parts.proofs.write_exchange.Goals as goal
 
 pub slice_bounds-write_phrase-end : goal.slice_bounds-write_phrase-end

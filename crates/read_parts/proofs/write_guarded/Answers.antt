@@ -7,7 +7,6 @@ use mir.Syntax.{w32}
 use mir.ValLaws.{to_z_pos}
 use Rattle.read_parts.proofs.TokenParts.{sorts-after, scratch-before, scratch_after}
 use Rattle.read_parts.proofs.PartSteps.{condition-asked, event-asked, condition-few, guarded-asked-row, guarded-done}
-use borrow.Author.Rules.{rules}
 use Rattle.read_parts.proofs.write_guarded.Goals as goal
 
 pub slice_bounds-write_phrase-end : goal.slice_bounds-write_phrase-end

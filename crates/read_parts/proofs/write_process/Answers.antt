@@ -1,8 +1,6 @@
 -- By the sort of the first mark. Assumes nothing.
 use mathlib.Core.Path.{refl, ◌∙◌}
-use mathlib.Core.List.{List}
-use Prim.Native.Nat.{ℕ}
-use lib.IntN.{ℤ, pos}
+use lib.IntN.{pos}
 use mir.Syntax.{w32}
 use mir.Val.{SFits}
 use mir.ValLaws.{to_z-of_z}
@@ -10,9 +8,9 @@ use borrow.Author.Tests.{ne_eqb}
 use Rattle.base_top_down.specs.Forms.{Form, row, form_size}
 use Rattle.grammar.specs.TextRows.{unused, bare_row}
 use Rattle.read_tokens.specs.Held.{tokens_resolved}
-use Rattle.read_classes.specs.Parts.{Parting, part_at_mark, parted_there}
-use Rattle.read_parts.specs.PartForms.{exchange_form, while_form, process_by, ProcessWritable}
-use Rattle.read_parts.proofs.MarkSteps.{Found, first_found, by-mark-laid, word_room, word-laid, exchange-asked, while-asked, nothing-laid}
+use Rattle.read_classes.specs.Parts.{parted_there}
+use Rattle.read_parts.specs.PartForms.{exchange_form, while_form, process_by}
+use Rattle.read_parts.proofs.MarkSteps.{first_found, by-mark-laid, word_room, word-laid, exchange-asked, while-asked, nothing-laid}
 use borrow.Author.Rules.{rules}
 use Rattle.read_parts.proofs.write_process.Goals as goal
 

@@ -1,13 +1,8 @@
 use mathlib.Core.List.{List}
-use Prim.Native.Nat.{ℕ, ◌-◌}
-use native.Mathlib.Omega.{arith}
-use borrow.Author.Rules.{rules}
+use Prim.Native.Nat.{ℕ}
 use Rattle.read_processes.specs.Written.{Placeable}
-use Rattle.read_processes.proofs.PlaceSteps.{Placing, PlaceStep, place_none, place-all, place-step}
+use Rattle.read_processes.proofs.PlaceSteps.{Placing}
 use Rattle.read_processes.proofs.place_lines.Given as goal
 
 abbrev pub invariant-loop-line : goal.invariant-loop-line
-invariant-loop-line l = (text : List ℕ) → Placeable text l.declared l.kinds l.count l.levels l.owns l.beneath → Placing text l.initial.starts l.line l.places l.starts
-
-abbrev pub decreases-loop-line : goal.decreases-loop-line
-decreases-loop-line l = l.count - l.line
+invariant-loop-line l = (text : List ℕ) → Placeable text l.declared l.lines.kinds.now l.lines.count l.lines.levels.now l.owns l.beneath → Placing text l.initial.starts l.line l.places l.starts

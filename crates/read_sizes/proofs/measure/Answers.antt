@@ -1,11 +1,7 @@
 -- The loop keeps the rows that the lines from a place on leave open. Assumes nothing.
-use mathlib.Core.List.{List}
-use Prim.Native.Nat.{◌-◌, ◌≤◌}
+use Prim.Native.Nat.{◌-◌}
 use native.Mathlib.Omega.{arith}
-use borrow.Author.Rules.{rules}
-use Rattle.read_layout.specs.Standing.{Standing}
-use Rattle.read_sizes.specs.Sizes.{Measured}
-use Rattle.read_sizes.proofs.SumSteps.{SummedFrom, sum-none, sum_step, sum-all}
+use Rattle.read_sizes.proofs.SumSteps.{sum-none, sum_step, sum-all}
 use Rattle.read_sizes.proofs.measure.Goals as goal
 
 pub loop-at-init : goal.loop-at-init

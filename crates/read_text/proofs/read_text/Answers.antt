@@ -1,7 +1,6 @@
 -- A short list of rows, or a text that is too long; else by its length. Assumes nothing.
 use native.Mathlib.Omega.{arith}
 use Rattle.read_text.proofs.ReadingLaws.{too_short, overlong-refused}
-use borrow.Author.Rules.{rules}
 use Rattle.read_text.proofs.read_text.Goals as goal
 
 pub returns-then-rows-lt4096 : goal.returns-then-rows-lt4096

@@ -1,10 +1,9 @@
 -- The loop keeps that names are in order on the lines before one, and resolved. Assumes nothing.
 use borrow.Author.Tests.{le-leb, lt-leb}
-use Prim.Native.Nat.{◌-◌}
 use native.Mathlib.Omega.{arith}
-use Rattle.read_uses.proofs.NameSteps.{Checking, checking-start, names-known, none_left, all-resolved, at-line, line-held, fault-here, new-length, checking-declared, checking-other, line-somewhere}
-use borrow.Author.Rules.{rules}
+use Rattle.read_uses.proofs.NameSteps.{checking-start, names-known, none_left, all-resolved, at-line, line-held, fault-here, new-length, checking-declared, checking-other, checking-same}
 use Rattle.read_uses.proofs.names_fault.Goals as goal
+use Rattle.read_uses.proofs.names_fault.Goals.{then-declares, else-declares}
 
 pub loop-line-init : goal.loop-line-init
 loop-line-init c =
@@ -52,7 +51,7 @@ slice_bounds-resolve_line-end-in-loop-line c =
 
 pub resolve_line-requires : goal.resolve_line-requires
 resolve_line-requires c =
-    (line-held c.args.text.now c.args.count c.args.kinds.now c.args.ends.now c.args.sorts.now c.args.values.now c.requires.0 c.loop-line.line c.loop-line.first c.loop-line.seen c.loop-line.values c.loop-line.invariant c.loop-line-test.true, names-known c.args.text.now c.args.count c.args.kinds.now c.args.ends.now c.args.sorts.now c.args.values.now c.requires.0 c.args.froms.now c.args.sizes.now c.args.roles.now c.args.heads.now c.args.nexts.now c.requires.1 c.requires.2)
+    (line-held c.args.text.now c.args.count c.args.kinds.now c.args.ends.now c.args.sorts.now c.args.values.now c.requires.0 c.loop-line.line c.loop-line.first c.loop-line.seen c.loop-line.values c.loop-line.invariant c.loop-line-test.true, names-known c.args.text.now c.args.count c.args.kinds.now c.args.ends.now c.args.sorts.now c.args.values.now c.requires.0 c.args.names.froms.now c.args.names.sizes.now c.args.names.roles.now c.args.names.heads.now c.args.names.nexts.now c.requires.1 c.requires.2)
 
 pub overflow_cast-result : goal.overflow_cast-result
 overflow_cast-result c =
@@ -66,7 +65,7 @@ shape_of-values-then-resolve_line c =
 pub returns-then-resolve_line : goal.returns-then-resolve_line
 returns-then-resolve_line c =
     let r = c.resolve_line.ensures in
-    (new-length c.args.text.now c.args.count c.args.kinds.now c.args.ends.now c.args.sorts.now c.args.values.now c.requires.0 c.loop-line.line c.loop-line.first c.loop-line.seen c.loop-line.values c.loop-line.invariant c.loop-line-test.true _ _ r, fault-here c.args.text.now c.args.count c.args.kinds.now c.args.ends.now c.args.sorts.now c.args.values.now c.requires.0 c.loop-line.line c.loop-line.first c.loop-line.seen c.loop-line.values c.loop-line.invariant c.loop-line-test.true _ _ r c.if-resolve_line.true, λ e. line-somewhere _ e)
+    (new-length c.args.text.now c.args.count c.args.kinds.now c.args.ends.now c.args.sorts.now c.args.values.now c.requires.0 c.loop-line.line c.loop-line.first c.loop-line.seen c.loop-line.values c.loop-line.invariant c.loop-line-test.true _ _ r, fault-here c.args.text.now c.args.count c.args.kinds.now c.args.ends.now c.args.sorts.now c.args.values.now c.requires.0 c.loop-line.line c.loop-line.first c.loop-line.seen c.loop-line.values c.loop-line.invariant c.loop-line-test.true _ _ r c.if-resolve_line.true, λ e. absurd cc)
 
 pub overflow_add-seen : goal.overflow_add-seen
 overflow_add-seen c =
@@ -75,19 +74,17 @@ overflow_add-seen c =
     let w = f.few in
     omega (arith, s, w)
 
-pub loop-line-smaller-then-declares : goal.loop-line-smaller-then-declares
-loop-line-smaller-then-declares c = let h = c.loop-line-test.true in omega (arith, h)
-
-pub loop-line-preserved-then-declares : goal.loop-line-preserved-then-declares
-loop-line-preserved-then-declares c =
-    checking-declared c.args.text.now c.args.count c.args.kinds.now c.args.ends.now c.args.sorts.now c.args.values.now c.requires.0 c.loop-line.line c.loop-line.first c.loop-line.seen c.loop-line.values c.loop-line.invariant c.loop-line-test.true _ _ c.resolve_line.ensures c.if-resolve_line.false (le-leb _ _ c.if-declares.true)
-
-pub loop-line-smaller : goal.loop-line-smaller
-loop-line-smaller c = let h = c.loop-line-test.true in omega (arith, h)
-
 pub loop-line-preserved : goal.loop-line-preserved
 loop-line-preserved c =
-    checking-other c.args.text.now c.args.count c.args.kinds.now c.args.ends.now c.args.sorts.now c.args.values.now c.requires.0 c.loop-line.line c.loop-line.first c.loop-line.seen c.loop-line.values c.loop-line.invariant c.loop-line-test.true _ _ c.resolve_line.ensures c.if-resolve_line.false (lt-leb _ _ c.if-declares.false)
+    let a = c.args in
+    elim c.if-declares.branch [
+      | then-declares w ↦
+          checking-same w.seen-is
+          (checking-declared a.text.now a.count a.kinds.now a.ends.now a.sorts.now a.values.now c.requires.0 c.loop-line.line c.loop-line.first c.loop-line.seen c.loop-line.values c.loop-line.invariant c.loop-line-test.true _ _ c.resolve_line.ensures c.if-resolve_line.false (le-leb _ _ w.if-declares.true))
+      | else-declares w ↦
+          checking-same w.seen-is
+          (checking-other a.text.now a.count a.kinds.now a.ends.now a.sorts.now a.values.now c.requires.0 c.loop-line.line c.loop-line.first c.loop-line.seen c.loop-line.values c.loop-line.invariant c.loop-line-test.true _ _ c.resolve_line.ensures c.if-resolve_line.false (lt-leb _ _ w.if-declares.false))
+    ]
 
 pub shape_of-values : goal.shape_of-values
 shape_of-values c = c.loop-line.invariant.same_length

@@ -7,10 +7,10 @@ use borrow.Author.Rules.{rules}
 use Rattle.occam_table.proofs.packing.read_number.Goals as goal
 
 pub overflow_mul-result : goal.overflow_mul-result
-overflow_mul-result c = let p = subst PossibleRead c.in-Rows.is c.requires in record { fits = omega (arith, p) }
+overflow_mul-result c = let p = subst PossibleRead c.in-Ok.is c.requires in record { fits = omega (arith, p) }
 
-pub returns-in-Rows : goal.returns-in-Rows
-returns-in-Rows c = ap read_number (sym c.in-Rows.is)
+pub returns-in-Ok : goal.returns-in-Ok
+returns-in-Ok c = ap read_number (sym c.in-Ok.is)
 
-pub returns-in-Refused : goal.returns-in-Refused
-returns-in-Refused c = ap read_number (sym c.in-Refused.is)
+pub returns-in-Err : goal.returns-in-Err
+returns-in-Err c = ap read_number (sym c.in-Err.is)

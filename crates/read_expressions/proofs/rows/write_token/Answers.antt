@@ -4,7 +4,6 @@ use Prim.Native.Nat.{ℕ, ◌*◌}
 use native.Mathlib.Omega.{arith}
 use mir.Syntax.{w32}
 use mir.ValLaws.{to_z-of_z}
-use borrow.Author.Rules.{rules}
 use borrow.Author.Tests.{ne_eqb}
 use Rattle.read_expressions.specs.TokenRows.{name_size, size_by_sort, rows_by_sort}
 use Rattle.read_expressions.proofs.OverlayLaws.{overlay-nothing}

@@ -1,6 +1,5 @@
 -- The rows are cleared, then the declarations' rows put, then the process's. Assumes nothing.
 use Rattle.read_text.proofs.RowsLaws.{may-put, rows_written}
-use borrow.Author.Rules.{rules}
 use Rattle.read_text.proofs.rows.write_with.Goals as goal
 
 pub put_rows-requires : goal.put_rows-requires
