@@ -5,7 +5,6 @@ pub mod Digits
 pub mod Naturals
 pub mod Places
 pub mod Ranges
-pub mod Signs
 pub mod Texts
 pub mod Turning
 pub mod Written
