@@ -3,6 +3,7 @@ pub mod Casts
 pub mod Decimals
 pub mod Digits
 pub mod Naturals
+pub mod Options
 pub mod Places
 pub mod Ranges
 pub mod Texts
