@@ -6,7 +6,7 @@ ghost use Rattle.std.proofs.Math.Option.{some};
 ghost use Rattle.meaning.specs.Answers.{check, check_bytes, verdict_of, checked, check_counted, check_bytes_counted};
 
 use meaning::{Checked, Verdict};
-use read_table::TableRead;
+use read_table::TableError;
 
 // A refusal before components are compared.
 fn refused(number: u8, place: u32) -> Checked
@@ -49,9 +49,9 @@ pub fn check_table_counted(table: &[u8]) -> Checked
 {
     let mut small = [0i32; 512];
     match read_table::read_table(table, &mut small) {
-        TableRead::Refused(number, place) => refused(number, place),
-        TableRead::Rows(n) => check_rows_counted(&small[..4 * n]),
-        TableRead::Full => check_large(table),
+        Err(TableError::Refused(number, place)) => refused(number, place),
+        Ok(n) => check_rows_counted(&small[..4 * n]),
+        Err(TableError::Full) => check_large(table),
     }
 }
 
@@ -61,9 +61,9 @@ fn check_large(table: &[u8]) -> Checked
 {
     let mut large = [0i32; 4096];
     match read_table::read_table(table, &mut large) {
-        TableRead::Refused(number, place) => refused(number, place),
-        TableRead::Rows(n) => check_rows_counted(&large[..4 * n]),
-        TableRead::Full => refused(3, 1024),
+        Err(TableError::Refused(number, place)) => refused(number, place),
+        Ok(n) => check_rows_counted(&large[..4 * n]),
+        Err(TableError::Full) => refused(3, 1024),
     }
 }
 

@@ -9,8 +9,8 @@ use lib.IntN.{ℤ, pos}
 use lib.ListN.{length}
 use borrow.Author.Tests.{le-leb, lt-leb}
 use Rattle.meaning.specs.Numerals as numerals
-use Rattle.base_numbers.specs.declared.Parsed.TheVariants.{Number, Malformed}
-use Rattle.base_numbers.specs.Reading.{parsed_of}
+use Rattle.std.specs.Prelude.{Some, None}
+use Rattle.base_numbers.specs.Reading.{option_of}
 use Rattle.grammar.specs.Grammar.{Token}
 use Rattle.grammar.specs.Tokens.{words, symbols, token_spelt, is_word, or_name, or_number, token_of}
 use Rattle.read_tokens.specs.Sorts as sorts
@@ -38,15 +38,15 @@ number-after none q n = absurd (n refl)
 number-after (some t) q n = refl
 
 -- a number after nothing
-read-after : (q : Option ℤ) (z : ℤ) → parsed_of q ≡ Number z → valued sorts.number z ≡ lexeme_of (or_number none q)
+read-after : (q : Option ℤ) (z : ℤ) → option_of q ≡ Some z → valued sorts.number z ≡ lexeme_of (or_number none q)
 unfolding or_number
-read-after none z h = absurd (let c : ◌≡◌ {A = ℕ} 0 1 = cc in omega arith)
+read-after none z h = cc
 read-after (some y) z h = let e : z ≡ y = cc in ap (valued sorts.number) e
 
-misread-after : (q : Option ℤ) → parsed_of q ≡ Malformed → lexeme_of none ≡ lexeme_of (or_number none q)
+misread-after : (q : Option ℤ) → option_of q ≡ None → lexeme_of none ≡ lexeme_of (or_number none q)
 unfolding or_number
 misread-after none h = refl
-misread-after (some y) h = absurd (let c : ◌≡◌ {A = ℕ} 0 1 = cc in omega arith)
+misread-after (some y) h = cc
 
 -- what the code has found, or that it has found nothing
 module _ (o : Option Token) (found : Lexeme) (is : found ≡ lexeme_of o) where
@@ -77,11 +77,11 @@ module _ (o : Option Token) (found : Lexeme) (is : found ≡ lexeme_of o) where
     symbol-found n = is ∙ number-after o q (λ e. n (same-sort ∙ e))
 
     -- a number
-    pub number-found : found.sort ≡ sorts.no_token → (z : ℤ) → parsed_of q ≡ Number z → valued sorts.number z ≡ lexeme_of (or_number o q)
+    pub number-found : found.sort ≡ sorts.no_token → (z : ℤ) → option_of q ≡ Some z → valued sorts.number z ≡ lexeme_of (or_number o q)
     number-found e z h = rw (nothing e) (read-after q z h)
 
     -- neither
-    pub none_found : found.sort ≡ sorts.no_token → parsed_of q ≡ Malformed → found ≡ lexeme_of (or_number o q)
+    pub none_found : found.sort ≡ sorts.no_token → option_of q ≡ None → found ≡ lexeme_of (or_number o q)
     none_found e h = is ∙ rw (nothing e) (misread-after q h)
 
 -- words and names, and the others

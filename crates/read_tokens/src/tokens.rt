@@ -5,7 +5,6 @@ ghost use Rattle.grammar.specs.Tokens as tokens;
 ghost use Rattle.read_tokens.specs.Lexemes.{lexeme_of};
 
 use crate::{Lexeme, chunks, sorts, table};
-use base_numbers::Parsed;
 
 // Whether bytes are a letter, and then letters, digits and `_`.
 fn is_word(chunk: &[u8]) -> bool
@@ -53,8 +52,8 @@ fn symbol_or_number(chunk: &[u8]) -> Lexeme
         return found;
     }
     match base_numbers::read_number(chunk) {
-        Parsed::Malformed => found,
-        Parsed::Number(z) => Lexeme {
+        None => found,
+        Some(z) => Lexeme {
             sort: sorts::NUMBER,
             value: z,
         },

@@ -14,14 +14,14 @@ returns-then-found-ne-NO_TOKEN c =
     let s = c.args.chunk.now in
     symbol-found (token_spelt symbols s) c.symbol-found.result c.symbol-found.ensures (number s) c.if-found-ne-NO_TOKEN.true
 
-pub returns-in-Malformed : goal.returns-in-Malformed
-returns-in-Malformed c =
+pub returns-in-None : goal.returns-in-None
+returns-in-None c =
     let s = c.args.chunk.now in
-    none_found (token_spelt symbols s) c.symbol-found.result c.symbol-found.ensures (number s) c.if-found-ne-NO_TOKEN.false (sym c.read_number.ensures ∙ c.in-Malformed.is)
+    none_found (token_spelt symbols s) c.symbol-found.result c.symbol-found.ensures (number s) c.if-found-ne-NO_TOKEN.false (sym c.read_number.ensures ∙ c.in-None.is)
 
-pub returns-in-Number : goal.returns-in-Number
-returns-in-Number c =
+pub returns-in-Some : goal.returns-in-Some
+returns-in-Some c =
     let s = c.args.chunk.now in
-    let fits : SFits w32 c.in-Number.z = search rules in
+    let fits : SFits w32 c.in-Some.z = search rules in
     rw (to_z-of_z w32 _ fits)
-    (number-found (token_spelt symbols s) c.symbol-found.result c.symbol-found.ensures (number s) c.if-found-ne-NO_TOKEN.false c.in-Number.z (sym c.read_number.ensures ∙ c.in-Number.is))
+    (number-found (token_spelt symbols s) c.symbol-found.result c.symbol-found.ensures (number s) c.if-found-ne-NO_TOKEN.false c.in-Some.z (sym c.read_number.ensures ∙ c.in-Some.is))

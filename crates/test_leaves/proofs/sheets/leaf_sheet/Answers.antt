@@ -5,7 +5,8 @@ use Prim.Native.Nat.{ℕ}
 use native.Mathlib.Omega.{arith}
 use lib.IntN.{ℤ}
 use borrow.Author.Rules.{rules}
-use Rattle.read_sheet.specs.declared.SheetRead.{SheetRead}
+use Rattle.std.specs.Prelude.{Result}
+use Rattle.read_sheet.specs.declared.SheetError.{SheetError}
 use Rattle.read_sheet.proofs.KeptReadings.{few-lines}
 use Rattle.test_leaves.specs.Leaves.{sheet_answer, sheet_lent}
 use Rattle.test_leaves.proofs.sheets.leaf_sheet.Goals as goal
@@ -14,25 +15,25 @@ pub overflow_cast-n : goal.overflow_cast-n
 overflow_cast-n c =
     let r = c.read_sheet in
     let a = c.args in
-    let few = few-lines a.rows.now a.sheet.now a.values.now a.marks.now c.in-Lines.n (sym (ap (λ (w : SheetRead × List ℤ × List ℕ). w.0) r.ensures) ∙ c.in-Lines.is) in
+    let few = few-lines a.rows.now a.sheet.now a.values.now a.marks.now c.in-Ok.n (sym (ap (λ (w : Result ℕ SheetError × List ℤ × List ℕ). w.0) r.ensures) ∙ c.in-Ok.is) in
     record { fits = omega arith }
 
-pub returns-in-Refused : goal.returns-in-Refused
-returns-in-Refused c =
+pub returns-in-Err-Refused : goal.returns-in-Err-Refused
+returns-in-Err-Refused c =
     let r = c.read_sheet in
     let a = c.args in
     rw c.put_place.ensures
-    (ap (λ (x : SheetRead). sheet_answer x r.new.values r.new.marks a.place.now) (sym c.in-Refused.is) ∙ ap (λ (w : SheetRead × List ℤ × List ℕ). sheet_lent w a.place.now) r.ensures)
+    (ap (λ (x : Result ℕ SheetError). sheet_answer x r.new.values r.new.marks a.place.now) (sym c.in-Err-Refused.is) ∙ ap (λ (w : Result ℕ SheetError × List ℤ × List ℕ). sheet_lent w a.place.now) r.ensures)
 
-pub returns-in-Full : goal.returns-in-Full
-returns-in-Full c =
+pub returns-in-Err-Full : goal.returns-in-Err-Full
+returns-in-Err-Full c =
     let r = c.read_sheet in
     let a = c.args in
-    ap (λ (x : SheetRead). sheet_answer x r.new.values r.new.marks a.place.now) (sym c.in-Full.is) ∙ ap (λ (w : SheetRead × List ℤ × List ℕ). sheet_lent w a.place.now) r.ensures
+    ap (λ (x : Result ℕ SheetError). sheet_answer x r.new.values r.new.marks a.place.now) (sym c.in-Err-Full.is) ∙ ap (λ (w : Result ℕ SheetError × List ℤ × List ℕ). sheet_lent w a.place.now) r.ensures
 
-pub returns-in-Lines : goal.returns-in-Lines
-returns-in-Lines c =
+pub returns-in-Ok : goal.returns-in-Ok
+returns-in-Ok c =
     let r = c.read_sheet in
     let a = c.args in
-    rw c.put_place-in-Lines.ensures
-    (ap (λ (x : SheetRead). sheet_answer x r.new.values r.new.marks a.place.now) (sym c.in-Lines.is) ∙ ap (λ (w : SheetRead × List ℤ × List ℕ). sheet_lent w a.place.now) r.ensures)
+    rw c.put_place-in-Ok.ensures
+    (ap (λ (x : Result ℕ SheetError). sheet_answer x r.new.values r.new.marks a.place.now) (sym c.in-Ok.is) ∙ ap (λ (w : Result ℕ SheetError × List ℤ × List ℕ). sheet_lent w a.place.now) r.ensures)
