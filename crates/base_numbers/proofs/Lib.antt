@@ -3,9 +3,9 @@ pub mod Casts
 pub mod Decimals
 pub mod Digits
 pub mod Naturals
+pub mod Options
 pub mod Places
 pub mod Ranges
-pub mod Signs
 pub mod Texts
 pub mod Turning
 pub mod Written

@@ -14,13 +14,6 @@ pub use operators::{decides, dyadic, is_true, monadic};
 pub use reading::read_number;
 pub use subscripts::subscript;
 
-// What a field holds.
-#[derive(Drop)]
-pub enum Parsed {
-    Number(i32),
-    Malformed,
-}
-
 // A printed number: its bytes, then zeros, and how many bytes it has.
 #[derive(Drop)]
 pub struct Text {

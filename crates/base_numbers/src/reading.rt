@@ -1,98 +1,61 @@
-// A field's number: its sign, and its digits from a place to the end.
-ghost use Rattle.std.specs.Prelude.{◌≡◌, drop};
+// A field's number: its sign and its digits.
+ghost use Rattle.std.specs.Prelude.{◌≡◌, ◌≤◌};
 ghost use Rattle.meaning.specs.Numerals as numerals;
-ghost use Rattle.base_numbers.specs.Reading.{parsed_of, whole_of, unsigned_of, negative_of};
+ghost use Rattle.base_numbers.specs.Reading.{option_of, whole_of};
+ghost use Rattle.base_numbers.specs.Reading as reading;
 
-use crate::Parsed;
-
-// A number without a sign, or none: either the form is wrong or the number is above 2 ^ 31.
-#[derive(Drop)]
-pub enum Natural {
-    Whole(u64),
-    Wrong,
-}
-
-// The number that digits from a place to the end make. A number above 2 ^ 31 stays there, so the rest is not looked at.
-fn digits_from(field: &[u8], from: usize) -> Natural
-    ensures { result ≡ whole_of (numerals.digits_value 0 (drop from field.now)) }
+// The number that digits make, if it is at most 2 ^ 31. A number above stays there, so the rest is not looked at.
+fn digits_value(digits: &[u8]) -> Option<u64>
+    ensures { result ≡ whole_of (numerals.digits_value 0 digits.now) }
 {
     let mut value: u64 = 0;
-    let mut at = from;
-    while at < field.len() {
-        let b = field[at] as u64;
-        if b < 48 {
-            return Natural::Wrong;
+    for &b in digits {
+        if !b.is_ascii_digit() {
+            return None;
         }
-        if 57 < b {
-            return Natural::Wrong;
-        }
-        value = value * 10 + (b - 48);
+        value = value * 10 + u64::from(b - b'0');
         if 2147483648 < value {
-            return Natural::Wrong;
+            return None;
         }
-        at += 1;
     }
-    Natural::Whole(value)
+    Some(value)
 }
 
 // The same with at least one digit and no leading zero.
-fn natural_from(field: &[u8], from: usize) -> Natural
-    ensures { result ≡ whole_of (numerals.natural (drop from field.now)) }
+fn natural(digits: &[u8]) -> Option<u64>
+    ensures { result ≡ whole_of (numerals.natural digits.now) }
 {
-    if field.len() <= from {
-        return Natural::Wrong;
+    if digits.is_empty() || digits[0] == b'0' && 1 < digits.len() {
+        return None;
     }
-    if field[from] == 48 {
-        if from + 1 < field.len() {
-            return Natural::Wrong;
-        }
-        return Natural::Whole(0);
-    }
-    digits_from(field, from)
+    digits_value(digits)
 }
 
 // A number without a sign, if 32 bits hold it.
-fn unsigned(n: Natural) -> Parsed
-    ensures { result ≡ unsigned_of n }
+fn unsigned(n: u64) -> Option<i32>
+    ensures { result ≡ reading.unsigned n }
 {
-    match n {
-        Natural::Wrong => Parsed::Malformed,
-        Natural::Whole(v) => {
-            if v <= 2147483647 {
-                return Parsed::Number(v as i32);
-            }
-            Parsed::Malformed
-        }
-    }
+    i32::try_from(n).ok()
 }
 
 // A number with a minus sign, if it is not 0 and 32 bits hold it.
-fn negative(n: Natural) -> Parsed
-    ensures { result ≡ negative_of n }
+fn negative(n: u64) -> Option<i32>
+    requires { n ≤ 2147483648 }
+    ensures { result ≡ reading.negative n }
 {
-    match n {
-        Natural::Wrong => Parsed::Malformed,
-        Natural::Whole(v) => {
-            if v == 0 {
-                return Parsed::Malformed;
-            }
-            if v <= 2147483648 {
-                return Parsed::Number((0 - (v as i64)) as i32);
-            }
-            Parsed::Malformed
-        }
+    if n == 0 {
+        None
+    } else {
+        i32::try_from(-(n as i64)).ok()
     }
 }
 
 // The number that a field holds, if it has the form.
-pub fn read_number(field: &[u8]) -> Parsed
-    ensures { result ≡ parsed_of (numerals.number field.now) }
+pub fn read_number(field: &[u8]) -> Option<i32>
+    ensures { result ≡ option_of (numerals.number field.now) }
 {
-    if field.len() == 0 {
-        return Parsed::Malformed;
+    match field.strip_prefix(b"-") {
+        Some(digits) => negative(natural(digits)?),
+        None => unsigned(natural(field)?),
     }
-    if field[0] == 45 {
-        return negative(natural_from(field, 1));
-    }
-    unsigned(natural_from(field, 0))
 }

@@ -14,7 +14,7 @@ ghost use Rattle.write_bytes.specs.Writing.{printed_in};
 ghost use Rattle.call_runner.specs.PrintedTexts.{task_of, max_printed_text, printed_bytes};
 
 use meaning::Answer;
-use read_table::TableRead;
+use read_table::TableError;
 use write_buffers::Done;
 
 // What is printed: its bytes at the start of a buffer that holds every printed text, zeros after them, and how many they are.
@@ -89,9 +89,9 @@ fn table_printed_text(table: &[u8], sheet: &[u8], out: &mut [u8]) -> usize
 {
     let mut rows = [0i32; 4096];
     match read_table::read_table(table, &mut rows) {
-        TableRead::Refused(number, place) => refusal_printed_text(number, place, out),
-        TableRead::Rows(n) => rows_printed_text(&rows[..4 * n], sheet, out),
-        TableRead::Full => refusal_printed_text(3, 1024, out),
+        Err(TableError::Refused(number, place)) => refusal_printed_text(number, place, out),
+        Ok(n) => rows_printed_text(&rows[..4 * n], sheet, out),
+        Err(TableError::Full) => refusal_printed_text(3, 1024, out),
     }
 }
 

@@ -14,8 +14,8 @@ ghost use Rattle.write_buffers.specs.Lending.{lent_task};
 ghost use Rattle.call_tasks.specs.Tasks.{task_with, DoneAs, TableDoneAs, SheetKept};
 
 use meaning::{Answer, Verdict};
-use read_sheet::SheetRead;
-use read_table::TableRead;
+use read_sheet::SheetError;
+use read_table::TableError;
 use run_steps::result::Run;
 use write_buffers::Done;
 
@@ -107,9 +107,9 @@ fn run_wide(
     let mut readings = [0i32; 1024];
     let mut given = [0u8; 1024];
     match read_sheet::read_sheet(rows, sheet, &mut readings, &mut given) {
-        SheetRead::Refused(place) => refused(10, place),
-        SheetRead::Full => refused(10, 0),
-        SheetRead::Lines(lines) => run_readings(
+        Err(SheetError::Refused(place)) => refused(10, place),
+        Err(SheetError::Full) => refused(10, 0),
+        Ok(lines) => run_readings(
             rows, &readings, &given, lines, choices, budget, readied, taken,
         ),
     }
@@ -130,9 +130,9 @@ fn run_sheet(
     let mut readings = [0i32; 512];
     let mut given = [0u8; 512];
     match read_sheet::read_sheet(rows, sheet, &mut readings, &mut given) {
-        SheetRead::Refused(line) => refused(10, line),
-        SheetRead::Full => run_wide(rows, sheet, choices, budget, readied, taken),
-        SheetRead::Lines(lines) => run_readings(
+        Err(SheetError::Refused(line)) => refused(10, line),
+        Err(SheetError::Full) => run_wide(rows, sheet, choices, budget, readied, taken),
+        Ok(lines) => run_readings(
             rows, &readings, &given, lines, choices, budget, readied, taken,
         ),
     }
@@ -169,9 +169,9 @@ pub fn do_table(
 {
     let mut small = [0i32; 512];
     match read_table::read_table(table, &mut small) {
-        TableRead::Refused(number, place) => refused(number, place),
-        TableRead::Rows(n) => do_rows(&small[..4 * n], sheet, choices, budget, readied, taken),
-        TableRead::Full => do_large(table, sheet, choices, budget, readied, taken),
+        Err(TableError::Refused(number, place)) => refused(number, place),
+        Ok(n) => do_rows(&small[..4 * n], sheet, choices, budget, readied, taken),
+        Err(TableError::Full) => do_large(table, sheet, choices, budget, readied, taken),
     }
 }
 
@@ -188,8 +188,8 @@ fn do_large(
 {
     let mut large = [0i32; 4096];
     match read_table::read_table(table, &mut large) {
-        TableRead::Refused(number, place) => refused(number, place),
-        TableRead::Rows(n) => do_rows(&large[..4 * n], sheet, choices, budget, readied, taken),
-        TableRead::Full => refused(3, 1024),
+        Err(TableError::Refused(number, place)) => refused(number, place),
+        Ok(n) => do_rows(&large[..4 * n], sheet, choices, budget, readied, taken),
+        Err(TableError::Full) => refused(3, 1024),
     }
 }

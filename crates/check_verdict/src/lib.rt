@@ -6,7 +6,7 @@ ghost use Rattle.std.proofs.Math.Option.{some};
 ghost use Rattle.meaning.specs.Answers.{check, check_bytes, verdict_of, checked, check_counted, check_bytes_counted};
 
 use meaning::{Checked, Verdict};
-use read_table::TableRead;
+use read_table::TableError;
 
 // A refusal before components are compared.
 fn refused(number: u8, place: u32) -> Checked
@@ -44,9 +44,9 @@ fn check_in(table: &[u8], rows: &mut [i32]) -> Option<Checked>
     ensures room { 4096 ≤ length rows.old → IsSome result }
 {
     match read_table::read_table(table, rows) {
-        TableRead::Refused(number, place) => Some(refused(number, place)),
-        TableRead::Rows(n) => Some(check_rows_counted(&rows[..4 * n])),
-        TableRead::Full => None,
+        Err(TableError::Refused(number, place)) => Some(refused(number, place)),
+        Ok(n) => Some(check_rows_counted(&rows[..4 * n])),
+        Err(TableError::Full) => None,
     }
 }
 

@@ -1,74 +1,72 @@
--- The field that begins at a place, by the byte that stands where it ends.
+-- What a field that begins at a place is read as.
 use mathlib.Core.Path.{◌≡◌, refl, sym, ap, ◌∙◌}
+use mathlib.Core.Bool.{true, false}
 use mathlib.Core.List.{List, [], ◌∷◌}
 use mathlib.Core.Option.{Option, none, some, map}
-use Prim.Native.Nat.{ℕ, ◌+◌, ◌-◌, ◌≤◌, ◌<◌}
+use Prim.Native.Nat.{ℕ, ◌+◌, ◌<◌}
 use native.Mathlib.Omega.{arith}
-use lib.IntN.{ℤ}
-use lib.ListN.{length, get_or, take, drop, length-take, length-drop, drop_of_length-le}
-use lib.Seq.{drop-cons, drop-drop}
-use borrow.Author.Tests.{eq-eqb, ne_eqb}
+use lib.IntN.{ℤ, pos}
+use lib.ListN.{length, take, drop}
 use Rattle.meaning.specs.Numerals.{number}
 use Rattle.meaning.specs.Sheet.{reading}
-use Rattle.base_numbers.specs.declared.Parsed.TheVariants.{Number, Malformed}
-use Rattle.base_numbers.specs.Reading.{parsed_of}
-use Rattle.read_table.specs.Fields.{field_size}
-use Rattle.read_sheet.specs.Fields.{wrong_field, field_as, reading_field}
+use Rattle.read_table.specs.Fields.{field_size, opens, with_next}
+use Rattle.std.specs.Prelude as std
+use Rattle.std.specs.Prelude.{is_some}
+use Rattle.std.specs.Option.{unwrap_or}
+use Rattle.std.specs.Int.{from_bool}
+use Rattle.std.proofs.lemmas.Option.{some_pair_parts}
+use Rattle.base_numbers.specs.Reading.{option_of}
+use Rattle.read_sheet.specs.Fields.{value_of, reading_mark, reading_field, reading_told}
 
 -- a field with a byte is a reading if it is a number
-pub reading-number : (l : List ℕ) → 0 < length l → reading l ≡ map some (number l)
+reading-number : (l : List ℕ) → 0 < length l → reading l ≡ map some (number l)
 unfolding reading
 reading-number [] h = absurd (omega arith)
 reading-number (b ∷ bs) h = refl
 
-pub reading-nothing : reading [] ≡ some none
+reading-nothing : (l : List ℕ) → length l ≡ 0 → reading l ≡ some none
 unfolding reading
-reading-nothing = refl
+reading-nothing [] e = refl
+reading-nothing (b ∷ bs) e = absurd (omega arith)
 
--- what a field is read as tells whether it is a number
-not-number : (o : Option ℤ) → parsed_of o ≡ Malformed → o ≡ none
-not-number none e = refl
-not-number (some z) e = absurd (let c : ◌≡◌ {A = ℕ} 0 1 = cc in omega arith)
-
-is_number : (o : Option ℤ) (z : ℤ) → parsed_of o ≡ Number z → o ≡ some z
-is_number none z e = absurd (let c : ◌≡◌ {A = ℕ} 0 1 = cc in omega arith)
-is_number (some y) z e = let same : y ≡ z = cc in ap some same
-
-module _ (sheet : List ℕ) (at stop end : ℕ) (e : end ≡ at + field_size (drop at sheet)) where
-  there : drop (field_size (drop at sheet)) (drop at sheet) ≡ drop end sheet
-  there = drop-drop (field_size (drop at sheet)) at sheet ∙ ap (λ (n : ℕ). drop n sheet) (sym e)
-
-  -- no byte ends it
-  pub field-unended : length sheet ≤ end → reading_field stop (drop at sheet) at ≡ wrong_field
+module _ (s : List ℕ) (at stop : ℕ) where
+  -- no byte ends it, or another one
+  pub field-unended : opens stop (drop (field_size s) s) ≡ false → reading_field stop s at ≡ none
   unfolding reading_field
-  field-unended h = rw (there, drop_of_length-le sheet h)
+  field-unended e = rw e
 
-  module _ (h : end < length sheet) where
-    -- another byte ends it
-    pub field-misended : (get_or sheet end 0 ≡ stop → ⊥) → reading_field stop (drop at sheet) at ≡ wrong_field
+  module _ (e : opens stop (drop (field_size s) s) ≡ true) where
+    ended : (o : Option (Option ℤ)) → reading (take (field_size s) s) ≡ o → reading_field stop s at ≡ with_next o (at + field_size s + 1)
     unfolding reading_field
-    field-misended n = rw (there, drop-cons sheet end 0 h, ne_eqb (get_or sheet end 0) stop n)
+    ended o i = rw (e, i)
 
-    module _ (m : get_or sheet end 0 ≡ stop) where
-      -- the byte ends it
-      field-ended : (l : List ℕ) → take (field_size (drop at sheet)) (drop at sheet) ≡ l → reading_field stop (drop at sheet) at ≡ field_as (reading l) (end + 1)
-      unfolding reading_field
-      field-ended l i = rw (there, drop-cons sheet end 0 h, eq-eqb (get_or sheet end 0) stop m, i, e)
+    pub field-empty : length (take (field_size s) s) ≡ 0 → reading_field stop s at ≡ some (none, at + field_size s + 1)
+    field-empty z = ended (some none) (reading-nothing (take (field_size s) s) z)
 
-      pub field-empty : at ≡ end → reading_field stop (drop at sheet) at ≡ field_as (some none) (end + 1)
-      field-empty z =
-          let none_left : field_size (drop at sheet) ≡ 0 = omega arith in
-          field-ended [] (ap (λ (n : ℕ). take n (drop at sheet)) none_left) ∙ ap (λ (o : Option (Option ℤ)). field_as o (end + 1)) reading-nothing
+    pub field-misread : 0 < length (take (field_size s) s) → number (take (field_size s) s) ≡ none → reading_field stop s at ≡ none
+    field-misread h i = ended none (reading-number (take (field_size s) s) h ∙ ap (map some) i)
 
-      field-filled : (at ≡ end → ⊥) → reading_field stop (drop at sheet) at ≡ field_as (map some (number (take (end - at) (drop at sheet)))) (end + 1)
-      field-filled n =
-          let size : field_size (drop at sheet) ≡ end - at = omega arith in
-          let some_left : 0 < length (take (end - at) (drop at sheet)) = rw (length-take, length-drop) (omega arith) in
-          field-ended (take (end - at) (drop at sheet)) (ap (λ (n : ℕ). take n (drop at sheet)) size)
-          ∙ ap (λ (o : Option (Option ℤ)). field_as o (end + 1)) (reading-number (take (end - at) (drop at sheet)) some_left)
+    pub field-read : 0 < length (take (field_size s) s) → (z : ℤ) → number (take (field_size s) s) ≡ some z → reading_field stop s at ≡ some (some z, at + field_size s + 1)
+    field-read h z i = ended (some (some z)) (reading-number (take (field_size s) s) h ∙ ap (map some) i)
 
-      pub field-misread : (at ≡ end → ⊥) → parsed_of (number (take (end - at) (drop at sheet))) ≡ Malformed → reading_field stop (drop at sheet) at ≡ wrong_field
-      field-misread n i = field-filled n ∙ ap (λ (o : Option ℤ). field_as (map some o) (end + 1)) (not-number (number (take (end - at) (drop at sheet))) i)
+-- what the code is told of a field
+pub told-none : (o : Option (Option ℤ × ℕ)) → std.None ≡ reading_told o → o ≡ none
+told-none none e = refl
+told-none (some p) e = cc
 
-      pub field-read : (at ≡ end → ⊥) → (z : ℤ) → parsed_of (number (take (end - at) (drop at sheet))) ≡ Number z → reading_field stop (drop at sheet) at ≡ field_as (some (some z)) (end + 1)
-      field-read n z i = field-filled n ∙ ap (λ (o : Option ℤ). field_as (map some o) (end + 1)) (is_number (number (take (end - at) (drop at sheet))) z i)
+-- the reading that the code is told
+pub record Told (o : Option (Option ℤ × ℕ)) (r : std.Option ℤ) (next : ℕ) : Type 0 where
+  pub it : Option ℤ
+  pub field-is : o ≡ some (it, next)
+  pub value-is : unwrap_or r (pos 0) ≡ value_of it
+  pub mark-is : from_bool (is_some r) ≡ reading_mark it
+
+told : (v : Option ℤ) (n next : ℕ) (r : std.Option ℤ) → r ≡ option_of v → next ≡ n → Told (some (v, n)) r next
+told none n next r e i =
+    record { it = none; field-is = ap (λ (m : ℕ). some (none, m)) (sym i); value-is = rw e; mark-is = rw e }
+told (some z) n next r e i =
+    record { it = some z; field-is = ap (λ (m : ℕ). some (some z, m)) (sym i); value-is = rw e; mark-is = rw e }
+
+pub told-some : (o : Option (Option ℤ × ℕ)) (r : std.Option ℤ) (next : ℕ) → std.Some (r, next) ≡ reading_told o → Told o r next
+told-some none r next e = cc
+told-some (some (v, n)) r next e = let parts = some_pair_parts r (option_of v) next n e in told v n next r parts.0 parts.1

@@ -20,8 +20,9 @@ use Rattle.meaning.specs.TableBytes.{line_at}
 use Rattle.meaning.proofs.LineLaws.{text-whole, whole-line, concat-lines}
 use Rattle.meaning.proofs.NoFault.{same-is, same_refl}
 use Rattle.meaning.proofs.SheetLaws.{joined-plain}
-use Rattle.read_sheet.specs.declared.header.Header.TheVariants.{Channels, Wrong}
-use Rattle.read_sheet.specs.declared.header.End.TheVariants.{At, Nowhere}
+use Rattle.std.specs.Prelude.{Some, None}
+use mathlib.Core.Option.{none, some}
+use Rattle.base_numbers.proofs.Options.{pair-is}
 use Rattle.read_sheet.specs.Header.{header_entry, Stops, EndsAt, header_as, header_read}
 
 -- Sheets that begin with a header -------------------------------------------------------------------------------------------------
@@ -49,28 +50,28 @@ module _ (rows : List ℤ) (sheet : List ℕ) where
   abbrev right : Bool
   right = same (line_at (lines sheet) 1) (sheet_header cs)
 
-  pub header_is : (rest : List ℕ) → sheet ≡ sheet_header cs ++ rest → Channels (length cs) (length (sheet_header cs)) ≡ header_read rows sheet
+  pub header_is : (rest : List ℕ) → sheet ≡ sheet_header cs ++ rest → some (length cs, length (sheet_header cs)) ≡ header_read rows sheet
   unfolding header_read
   header_is rest e = ap (λ (t : Bool). header_as t cs) (sym (begins-same cs sheet rest e))
 
-  pub header-is-not : ((rest : List ℕ) → sheet ≡ sheet_header cs ++ rest → ⊥) → Wrong ≡ header_read rows sheet
+  pub header-is-not : ((rest : List ℕ) → sheet ≡ sheet_header cs ++ rest → ⊥) → none ≡ header_read rows sheet
   unfolding header_read
   header-is-not n = go right refl
     where
-      go : (t : Bool) → right ≡ t → Wrong ≡ header_as t cs
+      go : (t : Bool) → right ≡ t → none ≡ header_as t cs
       go true e = absurd (n (begins cs sheet e).0 (begins cs sheet e).1)
       go false e = refl
 
   -- what the answer says of the lines
-  pub wrong-header : header_read rows sheet ≡ Wrong → right ≡ false
+  pub wrong-header : header_read rows sheet ≡ none → right ≡ false
   unfolding header_read
   wrong-header e = go right e
     where
-      go : (t : Bool) → header_as t cs ≡ Wrong → t ≡ false
+      go : (t : Bool) → header_as t cs ≡ none → t ≡ false
       go true h = absurd (let c : ◌≡◌ {A = ℕ} 0 1 = cc in omega arith)
       go false h = refl
 
-  pub right-header : (k n : ℕ) → header_read rows sheet ≡ Channels k n → (k ≡ length cs) × (lines sheet ≡ sheet_header cs ∷ lines (drop n sheet))
+  pub right-header : (k n : ℕ) → header_read rows sheet ≡ some (k, n) → (k ≡ length cs) × (lines sheet ≡ sheet_header cs ∷ lines (drop n sheet))
   unfolding header_read
   right-header k n e = go right refl e
     where
@@ -79,8 +80,8 @@ module _ (rows : List ℤ) (sheet : List ℕ) where
           let behind : rest ≡ drop n sheet = sym (ap₂ drop q h ∙ drop-append_seam (sheet_header cs) rest) in
           ap lines h ∙ header-lines cs rest ∙ ap (λ (l : List ℕ). sheet_header cs ∷ lines l) behind
 
-      go : (t : Bool) → right ≡ t → header_as t cs ≡ Channels k n → (k ≡ length cs) × (lines sheet ≡ sheet_header cs ∷ lines (drop n sheet))
-      go true i h = let p : k ≡ length cs = cc in let q : n ≡ length (sheet_header cs) = cc in (p, there (begins cs sheet i).0 (begins cs sheet i).1 q)
+      go : (t : Bool) → right ≡ t → header_as t cs ≡ some (k, n) → (k ≡ length cs) × (lines sheet ≡ sheet_header cs ∷ lines (drop n sheet))
+      go true i h = let parts = pair-is k (length cs) n (length (sheet_header cs)) (sym h) in (parts.0, there (begins cs sheet i).0 (begins cs sheet i).1 parts.1)
       go false i h = absurd (let c : ◌≡◌ {A = ℕ} 0 1 = cc in omega arith)
 
 -- Headers grow --------------------------------------------------------------------------------------------------------------------
@@ -216,7 +217,7 @@ module _ (rows : List ℤ) (sheet : List ℕ) where
     longer : role r ≡ true → joined (all_below role (r + 1)) ≡ joined (all_below role r) ++ header_entry count r
     longer e = ap joined (below_more role r e) ∙ joined-last (all_below role r) r ∙ ap (λ (n : ℕ). joined (all_below role r) ++ header_entry n r) (sym h.so-many)
 
-    pub channel-found : r < declarations rows → role r ≡ true → (next : ℕ) → EndsAt sheet at (header_entry count r) (At next) → Matched next (count + 1) (r + 1)
+    pub channel-found : r < declarations rows → role r ≡ true → (next : ℕ) → EndsAt sheet at (header_entry count r) (Some next) → Matched next (count + 1) (r + 1)
     channel-found l e next k =
         record {
           within = omega arith;
@@ -230,15 +231,15 @@ module _ (rows : List ℤ) (sheet : List ℕ) where
         }
 
     -- where a channel's number is missing, the line is not the header
-    pub channel-missing : r < declarations rows → role r ≡ true → EndsAt sheet at (header_entry count r) Nowhere → Wrong ≡ header_read rows sheet
+    pub channel-missing : r < declarations rows → role r ≡ true → EndsAt sheet at (header_entry count r) None → none ≡ header_read rows sheet
     unfolding sheet_header channels
     channel-missing l e k = header-is-not rows sheet (λ rest i. k o.stop (o.beyond ++ rest) o.stops (append_cancel_left (joined (all_below role r)) (drop at sheet) _ (sym h.bytes ∙ i ∙ whole rest)))
       where
-        some : 0 < length (all_below role (r + 1))
-        some = let q = ap length (below_more role r e) ∙ length-append (all_below role r) (r ∷ []) in omega arith
+        some_there : 0 < length (all_below role (r + 1))
+        some_there = let q = ap length (below_more role r e) ∙ length-append (all_below role r) (r ∷ []) in omega arith
 
         o : Onward role (r + 1) (declarations rows)
-        o = onward role (r + 1) (declarations rows) (omega arith) some
+        o = onward role (r + 1) (declarations rows) (omega arith) some_there
 
         whole : (rest : List ℕ) → sheet_header (channels rows 1) ++ rest ≡ joined (all_below role r) ++ (header_entry count r ++ (o.stop ∷ (o.beyond ++ rest)))
         whole rest =
@@ -266,17 +267,17 @@ module _ (rows : List ℤ) (sheet : List ℕ) where
       feed-left rest e =
           append_cancel_left (joined (channels rows 1)) (drop at sheet) (line_feed ∷ rest) (sym begun ∙ e ∙ append_assoc (joined (channels rows 1)) (line_feed ∷ []) rest)
 
-      pub line-unended : length sheet ≤ at → Wrong ≡ header_read rows sheet
+      pub line-unended : length sheet ≤ at → none ≡ header_read rows sheet
       line-unended m = header-is-not rows sheet (λ rest e. let q : ◌≡◌ {A = ℕ} 0 (suc (length rest)) = ap length (sym (drop_of_length-le sheet m) ∙ feed-left rest e) in omega arith)
 
       module _ (m : at < length sheet) where
-        pub line-goes-on : (get_or sheet at 0 ≡ line_feed → ⊥) → Wrong ≡ header_read rows sheet
+        pub line-goes-on : (get_or sheet at 0 ≡ line_feed → ⊥) → none ≡ header_read rows sheet
         line-goes-on n = header-is-not rows sheet (λ rest e. n (ap (λ (l : List ℕ). get_or l 0 0) (sym (drop-cons sheet at 0 m) ∙ feed-left rest e)))
 
-        pub line-ended : get_or sheet at 0 ≡ line_feed → Channels count (at + 1) ≡ header_read rows sheet
+        pub line-ended : get_or sheet at 0 ≡ line_feed → some (count, at + 1) ≡ header_read rows sheet
         unfolding sheet_header
         line-ended e =
-            ap₂ Channels (h.so-many ∙ ap length all)
+            ap₂ (λ (k n : ℕ). some (k, n)) (h.so-many ∙ ap length all)
             (ap (λ (n : ℕ). n + 1) (h.place ∙ ap (λ (c : List ℕ). length (joined c)) all) ∙ sym (length-append (joined (channels rows 1)) (line_feed ∷ [])))
             ∙ header_is rows sheet (drop (suc at) sheet)
             (begun

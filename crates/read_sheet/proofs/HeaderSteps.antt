@@ -19,8 +19,7 @@ use Rattle.meaning.specs.PrintedForms.{Each, each_more}
 use Rattle.meaning.proofs.LineLaws.{Inner, printed-inner}
 use Rattle.meaning.proofs.NoFault.{same-is, same_refl}
 use Rattle.read_table.specs.Fields.{field_size}
-use Rattle.read_sheet.specs.declared.header.End.{End}
-use Rattle.read_sheet.specs.declared.header.End.TheVariants.{At, Nowhere}
+use Rattle.std.specs.Prelude.{Option, Some, None}
 use Rattle.read_sheet.specs.Header.{header_entry, Stops, EndsAt}
 
 decimal-inner : (n : ℕ) → Each Inner (decimal n)
@@ -51,13 +50,13 @@ module _ (sheet : List ℕ) (from r end : ℕ) (e : end ≡ from + field_size (d
       let k : end - from ≡ length (decimal r) = omega arith in
       (omega arith, ap (λ (q : ℕ). take q (drop from sheet)) k ∙ ap (take (length (decimal r))) i ∙ take-append_seam (decimal r) (b ∷ u))
 
-  pub number-unended : length sheet ≤ end → EndsAt sheet from (decimal r) Nowhere
+  pub number-unended : length sheet ≤ end → EndsAt sheet from (decimal r) None
   number-unended h = λ b u s i. let q = (number-field b u s i).0 in omega arith
 
-  pub number-differs : same field (decimal r) ≡ false → EndsAt sheet from (decimal r) Nowhere
+  pub number-differs : same field (decimal r) ≡ false → EndsAt sheet from (decimal r) None
   number-differs h = λ b u s i. false≢true (sym h ∙ ap (λ (l : List ℕ). same l (decimal r)) (number-field b u s i).1 ∙ same_refl (decimal r))
 
-  pub number-ended : end < length sheet → same field (decimal r) ≡ true → EndsAt sheet from (decimal r) (At end)
+  pub number-ended : end < length sheet → same field (decimal r) ≡ true → EndsAt sheet from (decimal r) (Some end)
   number-ended h t =
       let q : field ≡ decimal r = same-is field (decimal r) t in
       let l : length (decimal r) ≡ end - from = sym (ap length q) ∙ length-take (end - from) (drop from sheet) ∙ rw (length-drop from sheet) (omega arith) in
@@ -68,7 +67,7 @@ module _ (sheet : List ℕ) (from r end : ℕ) (e : end ≡ from + field_size (d
 -- Entries -----------------------------------------------------------------------------------------------------------------------
 
 module _ (sheet : List ℕ) (from r : ℕ) where
-  pub entry_first : (before : ℕ) → before ≡ 0 → (p : End) → EndsAt sheet from (decimal r) p → EndsAt sheet from (header_entry before r) p
+  pub entry_first : (before : ℕ) → before ≡ 0 → (p : Option ℕ) → EndsAt sheet from (decimal r) p → EndsAt sheet from (header_entry before r) p
   entry_first before z p h = subst (λ (n : ℕ). EndsAt sheet from (header_entry n r) p) (sym z) h
 
   later : (before : ℕ) → (before ≡ 0 → ⊥) → comma ∷ decimal r ≡ header_entry before r
@@ -76,25 +75,25 @@ module _ (sheet : List ℕ) (from r : ℕ) where
   later (suc before) n = refl
 
   module _ (before : ℕ) (n : before ≡ 0 → ⊥) where
-    entry-later : (p : End) → EndsAt sheet from (comma ∷ decimal r) p → EndsAt sheet from (header_entry before r) p
+    entry-later : (p : Option ℕ) → EndsAt sheet from (comma ∷ decimal r) p → EndsAt sheet from (header_entry before r) p
     entry-later p h = subst (λ (t : List ℕ). EndsAt sheet from t p) (later before n) h
 
-    pub entry-missing : length sheet ≤ from → EndsAt sheet from (header_entry before r) Nowhere
-    entry-missing h = entry-later Nowhere (λ b u s i. let q : ◌≡◌ {A = ℕ} 0 (suc (length (decimal r ++ (b ∷ u)))) = ap length (sym (drop_of_length-le sheet h) ∙ i) in omega arith)
+    pub entry-missing : length sheet ≤ from → EndsAt sheet from (header_entry before r) None
+    entry-missing h = entry-later None (λ b u s i. let q : ◌≡◌ {A = ℕ} 0 (suc (length (decimal r ++ (b ∷ u)))) = ap length (sym (drop_of_length-le sheet h) ∙ i) in omega arith)
 
     module _ (h : from < length sheet) where
       next : drop from sheet ≡ get_or sheet from 0 ∷ drop (from + 1) sheet
       next = rw (add-one from) (drop-cons sheet from 0 h)
 
-      pub entry-no-comma : (get_or sheet from 0 ≡ comma → ⊥) → EndsAt sheet from (header_entry before r) Nowhere
-      entry-no-comma m = entry-later Nowhere (λ b u s i. m (ap (λ (l : List ℕ). get_or l 0 0) (sym next ∙ i)))
+      pub entry-no-comma : (get_or sheet from 0 ≡ comma → ⊥) → EndsAt sheet from (header_entry before r) None
+      entry-no-comma m = entry-later None (λ b u s i. m (ap (λ (l : List ℕ). get_or l 0 0) (sym next ∙ i)))
 
-      pub entry-comma : get_or sheet from 0 ≡ comma → (p : End) → EndsAt sheet (from + 1) (decimal r) p → EndsAt sheet from (header_entry before r) p
+      pub entry-comma : get_or sheet from 0 ≡ comma → (p : Option ℕ) → EndsAt sheet (from + 1) (decimal r) p → EndsAt sheet from (header_entry before r) p
       entry-comma c p k = entry-later p (go p k)
         where
           there : drop from sheet ≡ comma ∷ drop (from + 1) sheet
           there = next ∙ ap (λ (b : ℕ). b ∷ drop (from + 1) sheet) c
 
-          go : (p : End) → EndsAt sheet (from + 1) (decimal r) p → EndsAt sheet from (comma ∷ decimal r) p
-          go (At q) k = (omega (arith, k.0), there ∙ ap {B = List ℕ} (λ l. comma ∷ l) k.1)
-          go Nowhere k = λ b u s i. k b u s (ap (drop 1) (sym there ∙ i))
+          go : (p : Option ℕ) → EndsAt sheet (from + 1) (decimal r) p → EndsAt sheet from (comma ∷ decimal r) p
+          go (Some q) k = (omega (arith, k.0), there ∙ ap {B = List ℕ} (λ l. comma ∷ l) k.1)
+          go None k = λ b u s i. k b u s (ap (drop 1) (sym there ∙ i))

@@ -24,11 +24,10 @@ use Rattle.meaning.specs.TableBytes.{line_at}
 use Rattle.meaning.proofs.NoFault.{lowest-none, none-mapped}
 use Rattle.machine.specs.Held.{KeptReadings}
 use Rattle.machine.proofs.Declared.{channels-length}
-use Rattle.read_sheet.specs.declared.SheetRead.{SheetRead}
-use Rattle.read_sheet.specs.declared.SheetRead.TheVariants.{Lines, Full, Refused}
-use Rattle.read_sheet.specs.declared.header.Header.{Header}
-use Rattle.read_sheet.specs.declared.header.Header.TheVariants.{Channels, Wrong}
 use Rattle.read_sheet.specs.Fields.{value_of, reading_mark}
+use Rattle.std.specs.Prelude.{Result, Ok, Err}
+use Rattle.read_sheet.specs.declared.SheetError.{SheetError}
+use Rattle.read_sheet.specs.declared.SheetError.TheVariants.{Full, Refused}
 use Rattle.read_sheet.specs.Header.{header_as, header_read}
 use Rattle.read_sheet.specs.SheetRead.{answer_of, put_lines, header_of, is_full, lines_after, sheet_read}
 use Rattle.read_sheet.proofs.HeaderLaws.{right-header}
@@ -101,10 +100,10 @@ module _ (rows : List ℤ) (sheet : List ℕ) (values : List ℤ) (marks : List 
   ls = tail (lines sheet)
 
   -- the header is that of the role 1 channels
-  header-right : (count first : ℕ) → header_of rows sheet ≡ Channels count first → header_read rows sheet ≡ Channels count first
+  header-right : (count first : ℕ) → header_of rows sheet ≡ some (count, first) → header_read rows sheet ≡ some (count, first)
   header-right count first e = go (leb (length sheet) max_sheet) e
     where
-      go : (t : Bool) → if_else t (header_read rows sheet) Wrong ≡ Channels count first → header_read rows sheet ≡ Channels count first
+      go : (t : Bool) → if_else t (header_read rows sheet) none ≡ some (count, first) → header_read rows sheet ≡ some (count, first)
       go true e = e
       go false e = absurd (let z : ◌≡◌ {A = ℕ} 0 1 = cc in omega arith)
 
@@ -113,32 +112,32 @@ module _ (rows : List ℤ) (sheet : List ℕ) (values : List ℤ) (marks : List 
   unfolding sheet_read
   with-room v m = rw (go (header_of rows sheet) refl) refl
     where
-      go : (header : Header) → header_of rows sheet ≡ header → is_full header (length values) (length marks) ≡ false
-      go Wrong e = refl
-      go (Channels count first) e =
+      go : (header : Option (ℕ × ℕ)) → header_of rows sheet ≡ header → is_full header (length values) (length marks) ≡ false
+      go none e = refl
+      go (some (count, first)) e =
           let w = (right-header rows sheet count first (header-right count first e)).0 in
           ap₂ (λ (s t : Bool). not (s && t)) (le-leb count (length values / 128) (omega (arith, channels-length rows 1))) (le-leb count (length marks / 128) (omega (arith, channels-length rows 1)))
 
-  pub never-full : 128 * host_channels 1 rows ≤ length values → 128 * host_channels 1 rows ≤ length marks → (sheet_read rows sheet values marks).0 ≡ Full → ⊥
+  pub never-full : 128 * host_channels 1 rows ≤ length values → 128 * host_channels 1 rows ≤ length marks → (sheet_read rows sheet values marks).0 ≡ Err Full → ⊥
   never-full v m e = go (sheet_fault rows sheet) (sym (with-room v m) ∙ e)
     where
-      go : (o : Option Refusal) → answer_of o (length ls) ≡ Full → ⊥
+      go : (o : Option Refusal) → answer_of o (length ls) ≡ Err Full → ⊥
       go none e = let z : ◌≡◌ {A = ℕ} 0 1 = cc in omega arith
       go (some f) e = let z : ◌≡◌ {A = ℕ} 0 1 = cc in omega arith
 
   -- a refusal is the sheet's
-  pub refused-read : (L : ℕ) → (sheet_read rows sheet values marks).0 ≡ Refused L → sheet_fault rows sheet ≡ some (10, L)
+  pub refused-read : (L : ℕ) → (sheet_read rows sheet values marks).0 ≡ Err (Refused L) → sheet_fault rows sheet ≡ some (10, L)
   unfolding sheet_read sheet_fault
   refused-read L e = go (is_full (header_of rows sheet) (length values) (length marks)) e
     where
       fault : Option ℕ
       fault = lowest (sheet_line_wrong (ltb max_sheet (length sheet)) (channels rows 1) (lines sheet)) (2 + length (lines sheet))
 
-      found : (o : Option ℕ) → answer_of (Option.map (λ L. (10, L)) o) (length ls) ≡ Refused L → Option.map {B = Refusal} (λ L. (10, L)) o ≡ some (10, L)
+      found : (o : Option ℕ) → answer_of (Option.map (λ L. (10, L)) o) (length ls) ≡ Err (Refused L) → Option.map {B = Refusal} (λ L. (10, L)) o ≡ some (10, L)
       found none e = absurd (let z : ◌≡◌ {A = ℕ} 0 1 = cc in omega arith)
       found (some n) e = let q : n ≡ L = cc in ap {B = Option Refusal} (λ (n : ℕ). some (10, n)) q
 
-      go : (t : Bool) → (if_else {A = SheetRead × List ℤ × List ℕ} t (Full, values, marks) (answer_of (sheet_fault rows sheet) (length ls), put_lines value_of 0 (lines_after (header_of rows sheet) sheet) values, put_lines reading_mark 0 (lines_after (header_of rows sheet) sheet) marks)).0 ≡ Refused L
+      go : (t : Bool) → (if_else {A = Result ℕ SheetError × List ℤ × List ℕ} t (Err Full, values, marks) (answer_of (sheet_fault rows sheet) (length ls), put_lines value_of 0 (lines_after (header_of rows sheet) sheet) values, put_lines reading_mark 0 (lines_after (header_of rows sheet) sheet) marks)).0 ≡ Err (Refused L)
           → sheet_fault rows sheet ≡ some (10, L)
       go true e = absurd (let z : ◌≡◌ {A = ℕ} 0 1 = cc in omega arith)
       go false e = found fault e
@@ -151,14 +150,14 @@ module _ (rows : List ℤ) (sheet : List ℕ) (values : List ℤ) (marks : List 
     values-are : (sheet_read rows sheet values marks).1 ≡ put_lines value_of 0 (lines_after (header_of rows sheet) sheet) values
     marks-are : (sheet_read rows sheet values marks).2 ≡ put_lines reading_mark 0 (lines_after (header_of rows sheet) sheet) marks
 
-  answered : (n : ℕ) → (sheet_read rows sheet values marks).0 ≡ Lines n → Answered n
+  answered : (n : ℕ) → (sheet_read rows sheet values marks).0 ≡ Ok n → Answered n
   unfolding sheet_read
   answered n e = go (is_full (header_of rows sheet) (length values) (length marks)) refl (sheet_fault rows sheet) refl e
     where
-      put : Option Refusal → SheetRead × List ℤ × List ℕ
+      put : Option Refusal → Result ℕ SheetError × List ℤ × List ℕ
       put o = (answer_of o (length ls), put_lines value_of 0 (lines_after (header_of rows sheet) sheet) values, put_lines reading_mark 0 (lines_after (header_of rows sheet) sheet) marks)
 
-      go : (t : Bool) → is_full (header_of rows sheet) (length values) (length marks) ≡ t → (o : Option Refusal) → sheet_fault rows sheet ≡ o → (if_else t (Full, values, marks) (put o)).0 ≡ Lines n → Answered n
+      go : (t : Bool) → is_full (header_of rows sheet) (length values) (length marks) ≡ t → (o : Option Refusal) → sheet_fault rows sheet ≡ o → (if_else t (Err Full, values, marks) (put o)).0 ≡ Ok n → Answered n
       go true f o g q = absurd (let z : ◌≡◌ {A = ℕ} 0 1 = cc in omega arith)
       go false f (some r) g q = absurd (let z : ◌≡◌ {A = ℕ} 0 1 = cc in omega arith)
       go false f none g q =
@@ -166,11 +165,11 @@ module _ (rows : List ℤ) (sheet : List ℕ) (values : List ℤ) (marks : List 
             roomy = f;
             no-fault = g;
             count-is = let c : length ls ≡ n = cc in sym c;
-            values-are = ap (λ (t : Bool). (if_else t (Full, values, marks) (put (sheet_fault rows sheet))).1) f;
-            marks-are = ap (λ (t : Bool). (if_else t (Full, values, marks) (put (sheet_fault rows sheet))).2) f;
+            values-are = ap (λ (t : Bool). (if_else t (Err Full, values, marks) (put (sheet_fault rows sheet))).1) f;
+            marks-are = ap (λ (t : Bool). (if_else t (Err Full, values, marks) (put (sheet_fault rows sheet))).2) f;
           }
 
-  module _ (n : ℕ) (e : (sheet_read rows sheet values marks).0 ≡ Lines n) where
+  module _ (n : ℕ) (e : (sheet_read rows sheet values marks).0 ≡ Ok n) where
     pub accepted-read : sheet_fault rows sheet ≡ none
     accepted-read = (answered n e).no-fault
 
@@ -184,11 +183,11 @@ module _ (rows : List ℤ) (sheet : List ℕ) (values : List ℤ) (marks : List 
     abbrev first : ℕ
     first = length (sheet_header (channels rows 1))
 
-    header_is : header_read rows sheet ≡ Channels k first
+    header_is : header_read rows sheet ≡ some (k, first)
     unfolding header_read
     header_is = ap (λ (t : Bool). header_as t (channels rows 1)) (not-false (same (line_at (lines sheet) 1) (sheet_header (channels rows 1))) (right-line 1 (omega arith)))
 
-    header-found : header_of rows sheet ≡ Channels k first
+    header-found : header_of rows sheet ≡ some (k, first)
     header-found = header_of_lem rows sheet (ltb-false max_sheet (length sheet) (right-line 0 (omega arith))) ∙ header_is
 
     lines_after_lem : lines (drop first sheet) ≡ ls
@@ -233,7 +232,7 @@ module _ (rows : List ℤ) (sheet : List ℕ) (values : List ℤ) (marks : List 
 
     lines-put : lines_after (header_of rows sheet) sheet ≡ vss
     lines-put =
-        ap (λ (h : Header). lines_after h sheet) header-found
+        ap (λ (h : Option (ℕ × ℕ)). lines_after h sheet) header-found
         ∙ all_lines k max_lines (drop first sheet) vss (ap (map (values_of k)) lines_after_lem ∙ all_read) (omega (arith, vss-length, few))
 
     -- each has one for each channel
@@ -251,7 +250,7 @@ module _ (rows : List ℤ) (sheet : List ℕ) (values : List ℤ) (marks : List 
         ∙ ap (ltb m) (ap length (column-of p h) ∙ length-map vss (λ (v : List (Option ℤ)). get_or v p none) ∙ vss-length ∙ sym (answered n e).count-is)
 
     rooms : (k ≤ length values / 128) × (k ≤ length marks / 128)
-    rooms = go (leb k (length values / 128)) refl (leb k (length marks / 128)) refl (sym (ap (λ (h : Header). is_full h (length values) (length marks)) header-found) ∙ (answered n e).roomy)
+    rooms = go (leb k (length values / 128)) refl (leb k (length marks / 128)) refl (sym (ap (λ (h : Option (ℕ × ℕ)). is_full h (length values) (length marks)) header-found) ∙ (answered n e).roomy)
       where
         go : (s : Bool) → leb k (length values / 128) ≡ s → (t : Bool) → leb k (length marks / 128) ≡ t → not (s && t) ≡ false → (k ≤ length values / 128) × (k ≤ length marks / 128)
         go true f true g q = (leb-true k (length values / 128) f, leb-true k (length marks / 128) g)

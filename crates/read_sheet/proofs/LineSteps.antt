@@ -10,10 +10,10 @@ use lib.ListN.{length, take, drop, set, length-append, length-set}
 use Rattle.meaning.specs.Basics.{if_else, with_first}
 use Rattle.meaning.specs.Lines.{line_size}
 use Rattle.meaning.specs.Sheet.{reading, values_of}
-use Rattle.read_table.specs.Fields.{field_size, first_line, opens, stop_of}
-use Rattle.read_sheet.specs.declared.fields.Field.{Field}
-use Rattle.read_sheet.specs.declared.lines.Line.TheVariants.{Right, Wrong}
-use Rattle.read_sheet.specs.Fields.{value_of, reading_mark, wrong_field, field_as, reading_field}
+use Rattle.read_table.specs.Fields.{field_size, first_line, opens, stop_of, with_next}
+use Rattle.base_numbers.proofs.Options.{pair-is}
+use Rattle.std.specs.Prelude.{Some, None}
+use Rattle.read_sheet.specs.Fields.{value_of, reading_mark, reading_field}
 use Rattle.read_sheet.specs.Lines.{put_readings, line_as, right_fields, line_read}
 use Rattle.read_table.proofs.ReadFields.{left, left_size, line-left, left-none, size-left, none_left, no-line-of-none, field-not-ended, field-not-read, field-first}
 use Rattle.read_sheet.proofs.RightFields.{none-unended, none-unread, first_read, right-line}
@@ -26,13 +26,10 @@ unfolding values_of
 no-channel s = no-line-of-none reading s
 
 -- what a field that is right says of the line: its reading is the first of those that are left
-pub record FieldRead (sheet : List ℕ) (at m : ℕ) (f : Field) : Type 0 where
-  pub it : Option ℤ
-  pub value-is : f.value ≡ value_of it
-  pub mark-is : f.mark ≡ reading_mark it
-  pub readings-left : left reading (suc m) (drop at sheet) ≡ with_first it (left reading m (drop f.next sheet))
-  pub right-left : right_fields (suc m) (drop at sheet) ≡ it ∷ right_fields m (drop f.next sheet)
-  pub place-left : at + left_size (suc m) (drop at sheet) ≡ f.next + left_size m (drop f.next sheet)
+pub record FieldRead (sheet : List ℕ) (at m : ℕ) (it : Option ℤ) (next : ℕ) : Type 0 where
+  pub readings-left : left reading (suc m) (drop at sheet) ≡ with_first it (left reading m (drop next sheet))
+  pub right-left : right_fields (suc m) (drop at sheet) ≡ it ∷ right_fields m (drop next sheet)
+  pub place-left : at + left_size (suc m) (drop at sheet) ≡ next + left_size m (drop next sheet)
 
 module _ (sheet : List ℕ) (at m : ℕ) where
   abbrev n : ℕ
@@ -44,27 +41,29 @@ module _ (sheet : List ℕ) (at m : ℕ) where
   abbrev ended : Bool
   ended = opens (stop_of m) (drop n (drop at sheet))
 
-  pub field-wrong : (reading_field (stop_of m) (drop at sheet) at).right ≡ false → (left reading (suc m) (drop at sheet) ≡ none) × (right_fields (suc m) (drop at sheet) ≡ [])
+  pub field-wrong : reading_field (stop_of m) (drop at sheet) at ≡ none → (left reading (suc m) (drop at sheet) ≡ none) × (right_fields (suc m) (drop at sheet) ≡ [])
   unfolding reading_field
   field-wrong e = go ended refl (reading f) refl e
     where
-      go : (t : Bool) → ended ≡ t → (r : Option (Option ℤ)) → reading f ≡ r → (if_else t (field_as r (at + n + 1)) wrong_field).right ≡ false
+      go : (t : Bool) → ended ≡ t → (r : Option (Option ℤ)) → reading f ≡ r → if_else t (with_next r (at + n + 1)) none ≡ none
           → (left reading (suc m) (drop at sheet) ≡ none) × (right_fields (suc m) (drop at sheet) ≡ [])
       go false i r j h = (field-not-ended reading sheet at m i, none-unended sheet at m i)
       go true i none j h = (field-not-read reading sheet at m j, none-unread sheet at m j)
-      go true i (some v) j h = absurd (let c : ◌≡◌ {A = ℕ} 0 1 = cc in omega arith)
+      go true i (some v) j h = cc
 
-  pub field-right : (reading_field (stop_of m) (drop at sheet) at).right ≡ true → FieldRead sheet at m (reading_field (stop_of m) (drop at sheet) at)
+  pub field-right : (it : Option ℤ) (next : ℕ) → reading_field (stop_of m) (drop at sheet) at ≡ some (it, next) → FieldRead sheet at m it next
   unfolding reading_field
-  field-right e = go ended refl (reading f) refl e
+  field-right it next e = go ended refl (reading f) refl e
     where
-      go : (t : Bool) → ended ≡ t → (r : Option (Option ℤ)) → reading f ≡ r → (if_else t (field_as r (at + n + 1)) wrong_field).right ≡ true
-          → FieldRead sheet at m (if_else t (field_as r (at + n + 1)) wrong_field)
-      go false i r j h = absurd (let c : ◌≡◌ {A = ℕ} 0 1 = cc in omega arith)
-      go true i none j h = absurd (let c : ◌≡◌ {A = ℕ} 0 1 = cc in omega arith)
+      go : (t : Bool) → ended ≡ t → (r : Option (Option ℤ)) → reading f ≡ r → if_else t (with_next r (at + n + 1)) none ≡ some (it, next) → FieldRead sheet at m it next
+      go false i r j h = cc
+      go true i none j h = cc
       go true i (some v) j h =
+          let parts = pair-is v it (at + n + 1) next h in
           let first = field-first reading sheet at m i v j in
-          record { it = v; value-is = refl; mark-is = refl; readings-left = first.0; right-left = first_read sheet at m i v j; place-left = first.1 }
+          subst (FieldRead sheet at m it) parts.1
+          (subst (λ (u : Option ℤ). FieldRead sheet at m u (at + n + 1)) parts.0
+          (record { readings-left = first.0; right-left = first_read sheet at m i v j; place-left = first.1 }))
 
 -- Putting in place ----------------------------------------------------------------------------------------------------------------
 
@@ -107,7 +106,7 @@ pub line-is : (count line from : ℕ) (s : List ℕ) (values : List ℤ) (marks 
 line-is count line from s values marks values' marks' o vs e i j k = rw (e, i, j, k)
 
 -- with no channel a line is wrong, and nothing is put in place
-pub none-put : (count line from : ℕ) (s : List ℕ) (values : List ℤ) (marks : List ℕ) → count ≡ 0 → (Wrong, values, marks) ≡ line_read count line from s values marks
+pub none-put : (count line from : ℕ) (s : List ℕ) (values : List ℤ) (marks : List ℕ) → count ≡ 0 → (None, values, marks) ≡ line_read count line from s values marks
 unfolding put_readings right_fields
 none-put count line from s values marks e = line-is count line from s values marks values marks none [] (ap (λ (k : ℕ). values_of k (first_line s)) e ∙ no-channel s) (ap (λ (k : ℕ). right_fields k s) e) refl refl
 
@@ -154,21 +153,21 @@ module _ (sheet : List ℕ) (from count line : ℕ) (values₀ : List ℤ) (mark
     pub marks-length : length marks ≡ length marks₀
     marks-length = ap length h.marks-kept ∙ all-length reading_mark line 0 h.so_far marks₀
 
-    -- the field f is read, which the byte `stop` is to end
-    module _ (l : j < count) (stop : ℕ) (i : stop ≡ stop_of (count - j - 1)) (f : Field) (g : f ≡ reading_field stop (drop at sheet) at) where
+    -- the field that the byte `stop` is to end
+    module _ (l : j < count) (stop : ℕ) (i : stop ≡ stop_of (count - j - 1)) where
       abbrev m : ℕ
       m = count - j - 1
 
-      e : f ≡ reading_field (stop_of m) (drop at sheet) at
-      e = g ∙ ap (λ (b : ℕ). reading_field b (drop at sheet) at) i
+      by-stop : reading_field stop (drop at sheet) at ≡ reading_field (stop_of m) (drop at sheet) at
+      by-stop = ap (λ (b : ℕ). reading_field b (drop at sheet) at) i
 
       more : count - j ≡ suc m
       more = omega arith
 
       -- a field that is wrong makes the line wrong, and nothing more is put in place
-      pub stopped : f.right ≡ false → (Wrong, values, marks) ≡ line_read count line from here values₀ marks₀
+      pub stopped : reading_field stop (drop at sheet) at ≡ none → (None, values, marks) ≡ line_read count line from here values₀ marks₀
       stopped r =
-          let wrong = field-wrong sheet at m (sym (ap (λ (g : Field). g.right) e) ∙ r) in
+          let wrong = field-wrong sheet at m (sym by-stop ∙ r) in
           line-is count line from here values₀ marks₀ values marks none h.so_far
           (no-readings
           (h.readings-left
@@ -182,33 +181,33 @@ module _ (sheet : List ℕ) (from count line : ℕ) (values₀ : List ℤ) (mark
           h.marks-kept
 
       -- a field that is right is put in place
-      pub passed : f.right ≡ true → (values' : List ℤ) (marks' : List ℕ) (value : ℤ) → value ≡ f.value → values' ≡ set values (j * 128 + line) value → marks' ≡ set marks (j * 128 + line) f.mark
-          → Halfway values' marks' f.next (j + 1)
-      passed r values' marks' value u v w =
-          let q : FieldRead sheet at m f = subst (FieldRead sheet at m) (sym e) (field-right sheet at m (sym (ap (λ (g : Field). g.right) e) ∙ r)) in
+      pub passed : (it : Option ℤ) (next : ℕ) → reading_field stop (drop at sheet) at ≡ some (it, next) → (value : ℤ) → value ≡ value_of it → (mark : ℕ) → mark ≡ reading_mark it
+          → Halfway (set values (j * 128 + line) value) (set marks (j * 128 + line) mark) next (j + 1)
+      passed it next r value u mark w =
+          let q : FieldRead sheet at m it next = field-right sheet at m it next (sym by-stop ∙ r) in
           let less : count - (j + 1) ≡ m = omega arith in
           let size = ap (λ (k : ℕ). left_size k (drop at sheet)) more in
-          let size' = ap (λ (k : ℕ). left_size k (drop f.next sheet)) less in
+          let size' = ap (λ (k : ℕ). left_size k (drop next sheet)) less in
           record {
             some-channel = h.some-channel;
             within = omega arith;
-            so_far = h.so_far ++ (q.it ∷ []);
-            so-many = length-append h.so_far (q.it ∷ []) ∙ ap (λ (k : ℕ). k + 1) h.so-many;
+            so_far = h.so_far ++ (it ∷ []);
+            so-many = length-append h.so_far (it ∷ []) ∙ ap (λ (k : ℕ). k + 1) h.so-many;
             readings-left =
                 h.readings-left
                 ∙ ap (λ (k : ℕ). infront h.so_far (left reading k (drop at sheet))) more
                 ∙ ap (infront h.so_far) q.readings-left
-                ∙ infront-one h.so_far q.it (left reading m (drop f.next sheet))
-                ∙ ap (λ (k : ℕ). infront (h.so_far ++ (q.it ∷ [])) (left reading k (drop f.next sheet))) (sym less);
+                ∙ infront-one h.so_far it (left reading m (drop next sheet))
+                ∙ ap (λ (k : ℕ). infront (h.so_far ++ (it ∷ [])) (left reading k (drop next sheet))) (sym less);
             right-left =
                 h.right-left
                 ∙ ap (λ (k : ℕ). h.so_far ++ right_fields k (drop at sheet)) more
                 ∙ ap {B = List (Option ℤ)} (λ vs. h.so_far ++ vs) q.right-left
-                ∙ sym (append_assoc h.so_far (q.it ∷ []) (right_fields m (drop f.next sheet)))
-                ∙ ap (λ (k : ℕ). (h.so_far ++ (q.it ∷ [])) ++ right_fields k (drop f.next sheet)) (sym less);
+                ∙ sym (append_assoc h.so_far (it ∷ []) (right_fields m (drop next sheet)))
+                ∙ ap (λ (k : ℕ). (h.so_far ++ (it ∷ [])) ++ right_fields k (drop next sheet)) (sym less);
             place = omega (arith, h.place, q.place-left);
-            values-kept = v ∙ kept_more value_of values values₀ value q.it (u ∙ q.value-is) h.values-kept;
-            marks-kept = w ∙ kept_more reading_mark marks marks₀ f.mark q.it q.mark-is h.marks-kept;
+            values-kept = kept_more value_of values values₀ value it u h.values-kept;
+            marks-kept = kept_more reading_mark marks marks₀ mark it w h.marks-kept;
           }
         where
           kept_more : {A : Type 0} (kept : Option ℤ → A) (now then : List A) (a : A) (v : Option ℤ) → a ≡ kept v → now ≡ put_readings kept line 0 h.so_far then
@@ -220,7 +219,7 @@ module _ (sheet : List ℕ) (from count line : ℕ) (values₀ : List ℤ) (mark
               ∙ put_last kept line 0 h.so_far v then
 
     -- after the last field the line is read
-    pub line-right : count ≤ j → (Right at, values, marks) ≡ line_read count line from here values₀ marks₀
+    pub line-right : count ≤ j → (Some at, values, marks) ≡ line_read count line from here values₀ marks₀
     line-right l =
         let finished : count - j ≡ 0 = omega arith in
         let all : values_of count (first_line here) ≡ some h.so_far =
@@ -232,5 +231,5 @@ module _ (sheet : List ℕ) (from count line : ℕ) (values₀ : List ℤ) (mark
         in
         let size = ap (λ (k : ℕ). left_size k (drop at sheet)) finished in
         let end : at ≡ from + line_size here = omega (arith, h.place, (values-at-start count here h.some-channel).1, none_left (drop at sheet)) in
-        ap (λ (k : ℕ). (Right k, values, marks)) end
+        ap (λ (k : ℕ). (Some k, values, marks)) end
         ∙ line-is count line from here values₀ marks₀ values marks (some h.so_far) h.so_far all (right-line count here h.so_far all) h.values-kept h.marks-kept

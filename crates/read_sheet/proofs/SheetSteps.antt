@@ -20,13 +20,11 @@ use Rattle.meaning.proofs.NoFault.{none-lowest, and_none, or-none, same_refl}
 use Rattle.base_rows.proofs.LowestFound.{lowest-some}
 use Rattle.read_table.specs.Fields.{first_line}
 use Rattle.read_table.proofs.Reading.{lines_at}
-use Rattle.read_sheet.specs.declared.SheetRead.{SheetRead}
-use Rattle.read_sheet.specs.declared.SheetRead.TheVariants.{Lines, Full, Refused}
-use Rattle.read_sheet.specs.declared.header.Header.{Header}
-use Rattle.read_sheet.specs.declared.header.Header.TheVariants.{Channels, Wrong}
-use Rattle.read_sheet.specs.declared.lines.Line.{Line}
-use Rattle.read_sheet.specs.declared.lines.Line.TheVariants as line-variants
 use Rattle.read_sheet.specs.Fields.{value_of, reading_mark}
+use Rattle.std.specs.Prelude as std
+use Rattle.std.specs.Prelude.{Some, None, Result, Ok, Err}
+use Rattle.read_sheet.specs.declared.SheetError.{SheetError}
+use Rattle.read_sheet.specs.declared.SheetError.TheVariants.{Full, Refused}
 use Rattle.read_sheet.specs.Header.{header_read}
 use Rattle.read_sheet.specs.Lines.{put_readings, right_fields, line_as, line_read}
 use Rattle.read_sheet.specs.SheetRead.{answer_of, if_right, right_lines, put_lines, header_of, is_full, lines_after, sheet_read}
@@ -41,11 +39,11 @@ or-true true = refl
 or-true false = refl
 
 -- what reading a line answers
-line-none : (o : Option (List (Option ℤ))) (n : ℕ) → line-variants.Wrong ≡ line_as o n → o ≡ none
+line-none : (o : Option (List (Option ℤ))) (n : ℕ) → None ≡ line_as o n → o ≡ none
 line-none none n e = refl
 line-none (some v) n e = absurd (let c : ◌≡◌ {A = ℕ} 0 1 = cc in omega arith)
 
-line-some : (o : Option (List (Option ℤ))) (n next : ℕ) → line-variants.Right next ≡ line_as o n → (v : List (Option ℤ)) × (o ≡ some v) × (next ≡ n)
+line-some : (o : Option (List (Option ℤ))) (n next : ℕ) → Some next ≡ line_as o n → (v : List (Option ℤ)) × (o ≡ some v) × (next ≡ n)
 line-some none n next e = absurd (let c : ◌≡◌ {A = ℕ} 0 1 = cc in omega arith)
 line-some (some v) n next e = let q : next ≡ n = cc in (v, refl, q)
 
@@ -58,7 +56,7 @@ module _ (rows : List ℤ) (sheet : List ℕ) where
 
   -- the header is looked at where the sheet is not too long
   pub header_of_lem : length sheet ≤ max_sheet → header_of rows sheet ≡ header_read rows sheet
-  header_of_lem h = ap (λ (t : Bool). if_else t (header_read rows sheet) Wrong) (le-leb (length sheet) max_sheet h)
+  header_of_lem h = ap (λ (t : Bool). if_else t (header_read rows sheet) none) (le-leb (length sheet) max_sheet h)
 
   -- the first line at fault
   refused-by : (L : ℕ) → L < 2 + length (lines sheet) → ((i : ℕ) → i < L → at-fault i ≡ false) → at-fault L ≡ true → sheet_fault rows sheet ≡ some (10, L)
@@ -67,26 +65,26 @@ module _ (rows : List ℤ) (sheet : List ℕ) where
 
   module _ (values : List ℤ) (marks : List ℕ) where
     -- what is given, by the header, by whether there is no room, and by the answer
-    pub read_is : (header : Header) → header_of rows sheet ≡ header → is_full header (length values) (length marks) ≡ false → (answer : SheetRead) → answer_of (sheet_fault rows sheet) (length (tail (lines sheet))) ≡ answer
+    pub read_is : (header : Option (ℕ × ℕ)) → header_of rows sheet ≡ header → is_full header (length values) (length marks) ≡ false → (answer : Result ℕ SheetError) → answer_of (sheet_fault rows sheet) (length (tail (lines sheet))) ≡ answer
         → (vss : List (List (Option ℤ))) → lines_after header sheet ≡ vss → (answer, put_lines value_of 0 vss values, put_lines reading_mark 0 vss marks) ≡ sheet_read rows sheet values marks
     unfolding sheet_read
     read_is header e f answer a vss v = rw (e, f, a, v) refl
 
     -- without a header nothing is put
-    unread : (L : ℕ) → header_of rows sheet ≡ Wrong → sheet_fault rows sheet ≡ some (10, L) → (Refused L, values, marks) ≡ sheet_read rows sheet values marks
+    unread : (L : ℕ) → header_of rows sheet ≡ none → sheet_fault rows sheet ≡ some (10, L) → (Err (Refused L), values, marks) ≡ sheet_read rows sheet values marks
     unfolding put_lines
-    unread L e f = read_is Wrong e refl (Refused L) (ap (λ (o : Option Refusal). answer_of o (length (tail (lines sheet)))) f) [] refl
+    unread L e f = read_is none e refl (Err (Refused L)) (ap (λ (o : Option Refusal). answer_of o (length (tail (lines sheet)))) f) [] refl
 
-    pub too_long : max_sheet < length sheet → (Refused 0, values, marks) ≡ sheet_read rows sheet values marks
+    pub too_long : max_sheet < length sheet → (Err (Refused 0), values, marks) ≡ sheet_read rows sheet values marks
     too_long h =
-        unread 0 (ap (λ (t : Bool). if_else t (header_read rows sheet) Wrong) (lt-leb (length sheet) max_sheet h))
+        unread 0 (ap (λ (t : Bool). if_else t (header_read rows sheet) none) (lt-leb (length sheet) max_sheet h))
         (refused-by 0 (omega arith) (λ i l. absurd (omega arith)) (lt-ltb max_sheet (length sheet) h))
 
     module _ (short : length sheet ≤ max_sheet) where
       in_size : at-fault 0 ≡ false
       in_size = le-ltb max_sheet (length sheet) short
 
-      pub header-at-fault : header_read rows sheet ≡ Wrong → (Refused 1, values, marks) ≡ sheet_read rows sheet values marks
+      pub header-at-fault : header_read rows sheet ≡ none → (Err (Refused 1), values, marks) ≡ sheet_read rows sheet values marks
       header-at-fault e = unread 1 (header_of_lem short ∙ e) (refused-by 1 (omega arith) before (ap not (wrong-header rows sheet e)))
         where
           before : (i : ℕ) → i < 1 → at-fault i ≡ false
@@ -94,14 +92,14 @@ module _ (rows : List ℤ) (sheet : List ℕ) where
           before (suc i) l = absurd (omega arith)
 
       -- no room for the channels of the header
-      no_room : (count first : ℕ) → header_read rows sheet ≡ Channels count first → is_full (Channels count first) (length values) (length marks) ≡ true → (Full, values, marks) ≡ sheet_read rows sheet values marks
+      no_room : (count first : ℕ) → header_read rows sheet ≡ some (count, first) → is_full (some (count, first)) (length values) (length marks) ≡ true → (Err Full, values, marks) ≡ sheet_read rows sheet values marks
       unfolding sheet_read
       no_room count first e f = let h = header_of_lem short ∙ e in rw (h, f) refl
 
-      pub values-full : (count first : ℕ) → header_read rows sheet ≡ Channels count first → length values / 128 < count → (Full, values, marks) ≡ sheet_read rows sheet values marks
+      pub values-full : (count first : ℕ) → header_read rows sheet ≡ some (count, first) → length values / 128 < count → (Err Full, values, marks) ≡ sheet_read rows sheet values marks
       values-full count first e h = no_room count first e (ap (λ (t : Bool). not (t && leb count (length marks / 128))) (lt-leb count (length values / 128) h))
 
-      pub marks-full : (count first : ℕ) → header_read rows sheet ≡ Channels count first → count ≤ length values / 128 → length marks / 128 < count → (Full, values, marks) ≡ sheet_read rows sheet values marks
+      pub marks-full : (count first : ℕ) → header_read rows sheet ≡ some (count, first) → count ≤ length values / 128 → length marks / 128 < count → (Err Full, values, marks) ≡ sheet_read rows sheet values marks
       marks-full count first e g h =
           no_room count first e (ap₂ (λ (s t : Bool). not (s && t)) (le-leb count (length values / 128) g) (lt-leb count (length marks / 128) h))
 
@@ -111,7 +109,7 @@ module _ (rows : List ℤ) (sheet : List ℕ) (values₀ : List ℤ) (marks₀ :
   -- `line` lines of values are read and kept, and the next begins at `at`
   pub record Passed (values : List ℤ) (marks : List ℕ) (line at : ℕ) : Type 0 where
     pub short : length sheet ≤ max_sheet
-    pub header_is : header_read rows sheet ≡ Channels count first
+    pub header_is : header_read rows sheet ≡ some (count, first)
     pub values-room : count ≤ length values₀ / 128
     pub marks-room : count ≤ length marks₀ / 128
     pub done : List (List (Option ℤ))
@@ -122,7 +120,7 @@ module _ (rows : List ℤ) (sheet : List ℕ) (values₀ : List ℤ) (marks₀ :
     pub values-kept : values ≡ put_lines value_of 0 done values₀
     pub marks-kept : marks ≡ put_lines reading_mark 0 done marks₀
 
-  pub nothing-passed : length sheet ≤ max_sheet → header_read rows sheet ≡ Channels count first → count ≤ length values₀ / 128 → count ≤ length marks₀ / 128 → Passed values₀ marks₀ 0 first
+  pub nothing-passed : length sheet ≤ max_sheet → header_read rows sheet ≡ some (count, first) → count ≤ length values₀ / 128 → count ≤ length marks₀ / 128 → Passed values₀ marks₀ 0 first
   unfolding put_lines
   nothing-passed h e v m =
       record {
@@ -156,11 +154,11 @@ module _ (rows : List ℤ) (sheet : List ℕ) (values₀ : List ℤ) (marks₀ :
     marks-length = ap length h.marks-kept ∙ lines-length reading_mark 0 h.done marks₀
 
     -- what is given in the end, if these lines are put
-    given : (answer : SheetRead) → answer_of (sheet_fault rows sheet) (length (tail (lines sheet))) ≡ answer → (vss : List (List (Option ℤ))) → right_lines count max_lines (drop first sheet) ≡ vss
+    given : (answer : Result ℕ SheetError) → answer_of (sheet_fault rows sheet) (length (tail (lines sheet))) ≡ answer → (vss : List (List (Option ℤ))) → right_lines count max_lines (drop first sheet) ≡ vss
         → (values' : List ℤ) (marks' : List ℕ) → values' ≡ put_lines value_of 0 vss values₀ → marks' ≡ put_lines reading_mark 0 vss marks₀ → (answer, values', marks') ≡ sheet_read rows sheet values₀ marks₀
     given answer a vss v values' marks' i j =
         ap₂ (λ (x : List ℤ) (y : List ℕ). (answer, x, y)) i j
-        ∙ read_is rows sheet values₀ marks₀ (Channels count first) (header_of_lem rows sheet h.short ∙ h.header_is)
+        ∙ read_is rows sheet values₀ marks₀ (some (count, first)) (header_of_lem rows sheet h.short ∙ h.header_is)
         (ap₂ (λ (s t : Bool). not (s && t)) (le-leb count (length values₀ / 128) h.values-room) (le-leb count (length marks₀ / 128) h.marks-room))
         answer a vss v
 
@@ -195,30 +193,30 @@ module _ (rows : List ℤ) (sheet : List ℕ) (values₀ : List ℤ) (marks₀ :
       more : line < length ls
       more = let n = split-count (values_of count) ls (here ∷ lines (drop (at + line_size (drop at sheet)) sheet)) h.done left in let m = h.so-many in omega arith
 
-      fault-here : (leb max_lines line || not (is_some (values_of (length (channels rows 1)) (get_or ls line [])))) ≡ true → answer_of (sheet_fault rows sheet) (length (tail (lines sheet))) ≡ Refused (line + 2)
+      fault-here : (leb max_lines line || not (is_some (values_of (length (channels rows 1)) (get_or ls line [])))) ≡ true → answer_of (sheet_fault rows sheet) (length (tail (lines sheet))) ≡ Err (Refused (line + 2))
       fault-here e =
           let two : suc (suc line) ≡ line + 2 = omega arith in
           let size : length (lines sheet) ≡ suc (length ls) = ap length header-first in
           ap (λ (o : Option Refusal). answer_of o (length (tail (lines sheet))))
           (refused-by rows sheet (suc (suc line)) (omega (arith, more)) right-so-far
           (by_lines (suc (suc line)) ∙ ap₂ (λ (s t : Bool). s && t) (le-leb (suc (suc line)) (suc (length ls)) (omega (arith, more))) e))
-          ∙ ap Refused two
+          ∙ ap (λ (n : ℕ). Err (Refused n)) two
 
       -- "line 130 at fault if it exists"
-      pub one-line-too-many : line ≡ 128 → (Refused 130, values, marks) ≡ sheet_read rows sheet values₀ marks₀
+      pub one-line-too-many : line ≡ 128 → (Err (Refused 130), values, marks) ≡ sheet_read rows sheet values₀ marks₀
       unfolding right_lines
       one-line-too-many e =
           let n : line + 2 ≡ 130 = omega arith in
           let none_left : max_lines - line ≡ 0 = omega arith in
-          given (Refused 130)
-          (fault-here (ap (λ (t : Bool). t || not (is_some (values_of (length (channels rows 1)) (get_or ls line [])))) (le-leb max_lines line (omega arith))) ∙ ap Refused n)
+          given (Err (Refused 130))
+          (fault-here (ap (λ (t : Bool). t || not (is_some (values_of (length (channels rows 1)) (get_or ls line [])))) (le-leb max_lines line (omega arith))) ∙ ap (λ (n : ℕ). Err (Refused n)) n)
           h.done
           (h.right-left ∙ ap (λ (k : ℕ). h.done ++ right_lines count k (drop at sheet)) none_left ∙ append-nil h.done)
           values marks h.values-kept h.marks-kept
 
-      module _ (answer : Line) (values' : List ℤ) (marks' : List ℕ) (r : (answer, values', marks') ≡ line_read count line at (drop at sheet) values marks) (fit : line ≡ 128 → ⊥) where
+      module _ (answer : std.Option ℕ) (values' : List ℤ) (marks' : List ℕ) (r : (answer, values', marks') ≡ line_read count line at (drop at sheet) values marks) (fit : line ≡ 128 → ⊥) where
         answered : answer ≡ line_as (values_of count here) (at + line_size (drop at sheet))
-        answered = ap (λ (w : Line × List ℤ × List ℕ). w.0) r
+        answered = ap (λ (w : std.Option ℕ × List ℤ × List ℕ). w.0) r
 
         -- the line is put, and the others after it if it is right
         right-here : right_lines count max_lines (drop first sheet) ≡ h.done ++ (right_fields count (drop at sheet) ∷ if_right (values_of count here) (right_lines count (max_lines - (line + 1)) (drop (at + line_size (drop at sheet)) sheet)))
@@ -238,12 +236,12 @@ module _ (rows : List ℤ) (sheet : List ℕ) (values₀ : List ℤ) (marks₀ :
             ∙ one-more-line kept 0 h.done (right_fields count (drop at sheet)) then
 
         values-put : values' ≡ put_lines value_of 0 (h.done ++ (right_fields count (drop at sheet) ∷ [])) values₀
-        values-put = line-put value_of values values₀ values' h.values-kept (ap (λ (w : Line × List ℤ × List ℕ). w.1) r)
+        values-put = line-put value_of values values₀ values' h.values-kept (ap (λ (w : std.Option ℕ × List ℤ × List ℕ). w.1) r)
 
         marks-put : marks' ≡ put_lines reading_mark 0 (h.done ++ (right_fields count (drop at sheet) ∷ [])) marks₀
-        marks-put = line-put reading_mark marks marks₀ marks' h.marks-kept (ap (λ (w : Line × List ℤ × List ℕ). w.2) r)
+        marks-put = line-put reading_mark marks marks₀ marks' h.marks-kept (ap (λ (w : std.Option ℕ × List ℤ × List ℕ). w.2) r)
 
-        pub line-at-fault : answer ≡ line-variants.Wrong → (Refused (line + 2), values', marks') ≡ sheet_read rows sheet values₀ marks₀
+        pub line-at-fault : answer ≡ None → (Err (Refused (line + 2)), values', marks') ≡ sheet_read rows sheet values₀ marks₀
         line-at-fault e =
             let o : values_of count here ≡ none = line-none (values_of count here) (at + line_size (drop at sheet)) (sym e ∙ answered) in
             let q : values_of (length (channels rows 1)) (get_or ls line []) ≡ none =
@@ -251,13 +249,13 @@ module _ (rows : List ℤ) (sheet : List ℕ) (values₀ : List ℤ) (marks₀ :
             ∙ split-here (values_of count) ls (lines (drop (at + line_size (drop at sheet)) sheet)) here h.done left
             ∙ o
             in
-            given (Refused (line + 2))
+            given (Err (Refused (line + 2)))
             (fault-here (ap (λ (o : Option (List (Option ℤ))). leb max_lines line || not (is_some o)) q ∙ or-true (leb max_lines line)))
             (h.done ++ (right_fields count (drop at sheet) ∷ []))
             (right-here ∙ ap (λ (o : Option (List (Option ℤ))). h.done ++ (right_fields count (drop at sheet) ∷ if_right o (right_lines count (max_lines - (line + 1)) (drop (at + line_size (drop at sheet)) sheet)))) o)
             values' marks' values-put marks-put
 
-        module _ (next : ℕ) (e : answer ≡ line-variants.Right next) where
+        module _ (next : ℕ) (e : answer ≡ Some next) where
           it : (v : List (Option ℤ)) × (values_of count here ≡ some v) × (next ≡ at + line_size (drop at sheet))
           it = line-some (values_of count here) (at + line_size (drop at sheet)) next (sym e ∙ answered)
 
@@ -316,9 +314,9 @@ module _ (rows : List ℤ) (sheet : List ℕ) (values₀ : List ℤ) (marks₀ :
               ∙ ap (λ (t : Bool). t && (leb max_lines line || not (is_some (values_of (length (channels rows 1)) (get_or ls line []))))) past
           go L m false e = let n = eqb-false L (suc (suc line)) e in right-so-far L (omega (arith, n))
 
-      pub all-passed : (Lines line, values, marks) ≡ sheet_read rows sheet values₀ marks₀
+      pub all-passed : (Ok line, values, marks) ≡ sheet_read rows sheet values₀ marks₀
       all-passed =
-          given (Lines line)
+          given (Ok line)
           (ap₂ (λ (o : Option Refusal) (n : ℕ). answer_of o n) no-fault (ap (λ (m : List (List ℕ)). length (tail m)) header-first ∙ count-lines))
           h.done
           (h.right-left

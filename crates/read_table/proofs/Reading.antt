@@ -20,13 +20,15 @@ use Rattle.meaning.specs.TableBytes.{header, read_row, overlong, malformed, one_
 use Rattle.meaning.proofs.NoFault.{and_none, or-none}
 use Rattle.meaning.proofs.FirstLine.{lines-first}
 use Rattle.meaning.specs.Refusals.{Refusal}
-use Rattle.read_table.specs.declared.row.Row.TheVariants.{Numbers, Malformed}
 use Rattle.read_table.specs.Fields.{first_line, row_from_line}
-use Rattle.read_table.specs.declared.TableRead.{TableRead}
-use Rattle.read_table.specs.declared.TableRead.TheVariants.{Rows, Full, Refused}
+use Rattle.std.specs.Prelude.{Result, Ok, Err}
+use Rattle.read_table.specs.declared.TableError.{TableError}
+use Rattle.read_table.specs.declared.TableError.TheVariants.{Full, Refused}
 use Rattle.read_table.specs.TableRead.{rows_to_read, rows_unless_refused, past, table_read}
 use Rattle.read_table.proofs.LineRow.{row-numbers, row-none}
-use Rattle.read_table.proofs.RowStored.{set_four, row-stored}
+use Rattle.meaning.proofs.RowLaws.{row-form}
+use Rattle.read_table.proofs.RowStored.{row-stored}
+use borrow.Rule.Slice.PartMut.{put_mid}
 
 -- the lines from a place of the bytes on
 pub lines_at : (bytes : List ℕ) (at : ℕ) → at < length bytes → lines (drop at bytes) ≡ first_line (drop at bytes) ∷ lines (drop (at + line_size (drop at bytes)) bytes)
@@ -97,18 +99,18 @@ module _ (bytes : List ℕ) where
 
   -- a refusal before the first row
   module _ (lent : List ℤ) where
-    first-refused : (p : ℕ) → p - 2 ≡ 0 → bytes_fault bytes ≡ some (2, p) → (Refused 2 p, lent) ≡ table_read bytes lent
+    first-refused : (p : ℕ) → p - 2 ≡ 0 → bytes_fault bytes ≡ some (2, p) → (Err (Refused 2 p), lent) ≡ table_read bytes lent
     unfolding table_read
     first-refused p h e = let none-fit : min (length lent / 4) 0 ≡ 0 = omega arith in rw (e, h, none-fit, le-ltb (length lent / 4) 0 (omega arith)) refl
 
-    pub overlong-refused : overlong bytes ≡ true → (Refused 2 0, lent) ≡ table_read bytes lent
+    pub overlong-refused : overlong bytes ≡ true → (Err (Refused 2 0), lent) ≡ table_read bytes lent
     overlong-refused e = first-refused 0 refl (found 0 (suc (length (lines bytes))) searched (rw e refl) ∙ rw e refl)
 
     module _ (short : overlong bytes ≡ false) where
       not-overlong : Searched 1 (suc (length (lines bytes)))
       not-overlong = passed 0 (suc (length (lines bytes))) searched (rw short refl)
 
-      pub header_refused : same (first_line bytes) header ≡ false → (Refused 2 1, lent) ≡ table_read bytes lent
+      pub header_refused : same (first_line bytes) header ≡ false → (Err (Refused 2 1), lent) ≡ table_read bytes lent
       header_refused e = first-refused 1 refl (found 1 (length (lines bytes)) not-overlong (rw (first-line bytes, e) refl) ∙ rw (first-line bytes, e) refl)
 
       pub reading-starts : same (first_line bytes) header ≡ true → Reading bytes lent lent 0 (line_size bytes)
@@ -153,21 +155,21 @@ module _ (bytes : List ℕ) (lent held : List ℤ) (n at : ℕ) (r : Reading byt
   room = length lent / 4
 
   -- the rows so far are what is held where there is no room or no row for more
-  stopped : (t : TableRead) → min room count ≡ n → t ≡ if_else (ltb room count) Full (rows_unless_refused (bytes_fault bytes) count) → (t, held) ≡ table_read bytes lent
+  stopped : (t : Result ℕ TableError) → min room count ≡ n → t ≡ if_else (ltb room count) (Err Full) (rows_unless_refused (bytes_fault bytes) count) → (t, held) ≡ table_read bytes lent
   unfolding table_read
   stopped t m e =
       let so_far : take (4 * n) (rows_of bytes) ≡ r.numbers = ap (take (4 * n)) r.rows_left ∙ take_at r.numbers _ (4 * n) r.four-each in
       rw (m, so_far, e, r.held-is) refl
 
   -- a refusal after them
-  refused-here : (number place : ℕ) → bytes_fault bytes ≡ some (number, place) → if_else (eqb number 2) (place - 2) place ≡ n → (Refused number place, held) ≡ table_read bytes lent
+  refused-here : (number place : ℕ) → bytes_fault bytes ≡ some (number, place) → if_else (eqb number 2) (place - 2) place ≡ n → (Err (Refused number place), held) ≡ table_read bytes lent
   refused-here number place e h =
       let fits = r.fits in
       let all : count ≡ n = ap (λ (o : Option Refusal). rows_to_read o (rows_of bytes)) e ∙ h in
-      stopped (Refused number place) (omega arith) (rw (all, le-ltb room n (omega arith), e) refl)
+      stopped (Err (Refused number place)) (omega arith) (rw (all, le-ltb room n (omega arith), e) refl)
 
   -- no line is left
-  pub reading-ends : length bytes ≤ at → (Rows n, held) ≡ table_read bytes lent
+  pub reading-ends : length bytes ≤ at → (Ok n, held) ≡ table_read bytes lent
   unfolding lines flatten lowest_from
   reading-ends h =
       let gone : lines (drop at bytes) ≡ [] = ap lines (drop_of_length-le bytes h) in
@@ -184,7 +186,7 @@ module _ (bytes : List ℕ) (lent held : List ℤ) (n at : ℕ) (r : Reading byt
       let whole : row_count (rows_of bytes) ≡ n = (let size = ap length numbers in let four = r.four-each in omega arith) in
       let all : count ≡ n = ap (λ (o : Option Refusal). rows_to_read o (rows_of bytes)) right ∙ whole in
       let fits = r.fits in
-      stopped (Rows n) (omega arith) (rw (all, le-ltb room n (omega arith), right) refl)
+      stopped (Ok n) (omega arith) (rw (all, le-ltb room n (omega arith), right) refl)
 
   module _ (h : at < length bytes) where
     -- the next line is the one at the place
@@ -199,7 +201,7 @@ module _ (bytes : List ℕ) (lent held : List ℤ) (n at : ℕ) (r : Reading byt
     there = let one = ap length (lines_at bytes at h) in omega (arith, sizes)
 
     -- it is no row
-    pub reading-malformed : row_from_line bytes at ≡ Malformed → (Refused 2 (n + 2), held) ≡ table_read bytes lent
+    pub reading-malformed : row_from_line bytes at ≡ none → (Err (Refused 2 (n + 2)), held) ≡ table_read bytes lent
     reading-malformed e =
         let bad : malformed (overlong bytes) (lines bytes) (suc (suc n)) ≡ true = rw (line, row-none bytes at e, le-leb (suc (suc n)) (length (lines bytes)) there) refl in
         let place : suc (suc n) ≡ n + 2 = omega arith in
@@ -210,20 +212,23 @@ module _ (bytes : List ℕ) (lent held : List ℤ) (n at : ℕ) (r : Reading byt
         refused-here 2 (n + 2) fault (omega arith)
 
     -- it is a row
-    module _ (k a b c : ℤ) (next : ℕ) (e : row_from_line bytes at ≡ Numbers k a b c next) where
-      row : read_row (first_line (drop at bytes)) ≡ some (k ∷ a ∷ b ∷ c ∷ [])
-      row = (row-numbers bytes at next k a b c e).0
+    module _ (row : List ℤ) (next : ℕ) (e : row_from_line bytes at ≡ some (row, next)) where
+      row-read : read_row (first_line (drop at bytes)) ≡ some row
+      row-read = (row-numbers bytes at next row e).0
+
+      four-there : length row ≡ 4
+      four-there = (row-form (first_line (drop at bytes)) row row-read).1.0
 
       ahead : lines (drop at bytes) ≡ first_line (drop at bytes) ∷ lines (drop next bytes)
-      ahead = lines_at bytes at h ∙ ap (λ (m : ℕ). first_line (drop at bytes) ∷ lines (drop m bytes)) (row-numbers bytes at next k a b c e).1
+      ahead = lines_at bytes at h ∙ ap (λ (m : ℕ). first_line (drop at bytes) ∷ lines (drop m bytes)) (row-numbers bytes at next row e).1
 
       well-formed : malformed (overlong bytes) (lines bytes) (suc (suc n)) ≡ false
       well-formed =
           and_none (leb (suc (suc n)) (length (lines bytes))) (not (is_some (read_row (get_or (lines bytes) (suc n) []))))
-          (rw (line, row) refl)
+          (rw (line, row-read) refl)
 
       -- one too many
-      pub reading-too-many : n ≡ 1024 → (Refused 3 1024, held) ≡ table_read bytes lent
+      pub reading-too-many : n ≡ 1024 → (Err (Refused 3 1024), held) ≡ table_read bytes lent
       reading-too-many m =
           let place = there in
           let over : one_too_many (lines bytes) (suc (suc n)) ≡ true = rw (eq-eqb (suc (suc n)) 1026 (omega arith), le-leb 1026 (length (lines bytes)) (omega arith)) refl in
@@ -234,13 +239,13 @@ module _ (bytes : List ℕ) (lent held : List ℤ) (n at : ℕ) (r : Reading byt
 
       module _ (m : n ≡ 1024 → ⊥) where
         -- the rows so far and this one, before those that are left
-        rows-ahead : rows_of bytes ≡ (r.numbers ++ (k ∷ a ∷ b ∷ c ∷ [])) ++ rows_in (lines (drop next bytes))
+        rows-ahead : rows_of bytes ≡ (r.numbers ++ row) ++ rows_in (lines (drop next bytes))
         unfolding flatten
         rows-ahead =
             r.rows_left
             ∙ ap (λ (ls : List (List ℕ)). r.numbers ++ rows_in ls) ahead
-            ∙ ap (λ (o : Option (List ℤ)). r.numbers ++ (Option.get_or o [] ++ rows_in (lines (drop next bytes)))) row
-            ∙ sym (append_assoc r.numbers (k ∷ a ∷ b ∷ c ∷ []) (rows_in (lines (drop next bytes))))
+            ∙ ap (λ (o : Option (List ℤ)). r.numbers ++ (Option.get_or o [] ++ rows_in (lines (drop next bytes)))) row-read
+            ∙ sym (append_assoc r.numbers row (rows_in (lines (drop next bytes))))
 
         -- no line is at fault up to this one
         no-fault-here : Searched bytes (suc (suc (suc n))) (length (lines (drop at bytes)))
@@ -263,24 +268,24 @@ module _ (bytes : List ℕ) (lent held : List ℤ) (n at : ℕ) (r : Reading byt
                 let size = ap length rows-ahead in
                 let four = r.four-each in
                 let all : count ≡ row_count (rows_of bytes) = ap (λ (q : Option Refusal). rows_to_read q (rows_of bytes)) f in
-                let parts = length-append (r.numbers ++ (k ∷ a ∷ b ∷ c ∷ [])) (rows_in (lines (drop next bytes))) in
-                omega (arith, length-append r.numbers (k ∷ a ∷ b ∷ c ∷ []))
+                let parts = length-append (r.numbers ++ row) (rows_in (lines (drop next bytes))) in
+                omega (arith, length-append r.numbers row, four-there)
             go (some L) i f = rw f (pick (malformed (overlong bytes) (lines bytes) L) L (not-before (faulty bytes) (suc (suc (suc n))) (length (lines (drop at bytes))) L i))
 
         -- there is no room for it
-        pub reading-full : n ≡ length lent / 4 → (Full, held) ≡ table_read bytes lent
-        reading-full f = let more = one_more in stopped Full (omega arith) (rw (lt-ltb room count (omega arith)) refl)
+        pub reading-full : n ≡ length lent / 4 → (Err Full, held) ≡ table_read bytes lent
+        reading-full f = let more = one_more in stopped (Err Full) (omega arith) (rw (lt-ltb room count (omega arith)) refl)
 
         -- it is stored
-        pub reading-goes-on : (n ≡ length lent / 4 → ⊥) → Reading bytes lent (set_four held (4 * n) k a b c) (n + 1) next
+        pub reading-goes-on : (n ≡ length lent / 4 → ⊥) → Reading bytes lent (put_mid (4 * n) (4 * n + 4 - 4 * n) held row) (n + 1) next
         reading-goes-on f =
             let few = r.few in
             let four = r.four-each in
             let fits = r.fits in
             record {
-              numbers = r.numbers ++ (k ∷ a ∷ b ∷ c ∷ []);
-              held-is = ap (λ (l : List ℤ). set_four l (4 * n) k a b c) r.held-is ∙ row-stored r.numbers lent (4 * n) k a b c (sym four) (omega arith);
-              four-each = simp length-append (omega arith);
+              numbers = r.numbers ++ row;
+              held-is = ap (λ (l : List ℤ). put_mid (4 * n) (4 * n + 4 - 4 * n) l row) r.held-is ∙ row-stored r.numbers lent row (4 * n) (4 * n + 4 - 4 * n) (sym four) (omega (arith, four-there));
+              four-each = simp length-append (omega (arith, four-there));
               few = omega arith;
               fits = omega arith;
               lines_left = ap (λ (i : ℕ). drop i (lines bytes)) (let p : suc (n + 1) ≡ suc n + 1 = omega arith in p) ∙ sym (drop-drop 1 (suc n) (lines bytes)) ∙ ap (drop 1) (r.lines_left ∙ ahead);

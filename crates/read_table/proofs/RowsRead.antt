@@ -22,8 +22,9 @@ use Rattle.meaning.specs.PrintedForms.{Each, each_none, each_more, IsRow, flat}
 use Rattle.meaning.specs.PrintedClaims.{TableForm, TableReads}
 use Rattle.meaning.proofs.LowestLaws.{lowest-is}
 use Rattle.meaning.proofs.TableLaws.{table-form, table-reads}
-use Rattle.read_table.specs.declared.TableRead.{TableRead}
-use Rattle.read_table.specs.declared.TableRead.TheVariants.{Rows, Full, Refused}
+use Rattle.std.specs.Prelude.{Result, Ok, Err}
+use Rattle.read_table.specs.declared.TableError.{TableError}
+use Rattle.read_table.specs.declared.TableError.TheVariants.{Full, Refused}
 use Rattle.read_table.specs.TableRead.{rows_to_read, rows_unless_refused, past, table_read}
 
 flat-length : (rows : List (List ℤ)) → Each IsRow rows → length (flat rows) ≡ 4 * length rows
@@ -81,33 +82,33 @@ pub record RowsRead (bytes : List ℕ) (held : List ℤ) (count : ℕ) : Type 0 
   pub size : 4 * count ≡ length (rows_of bytes)
   pub rows_are : take (4 * count) held ≡ rows_of bytes
 
-module _ (bytes : List ℕ) (lent held : List ℤ) (t : TableRead) (e : (t, held) ≡ table_read bytes lent) where
+module _ (bytes : List ℕ) (lent held : List ℤ) (t : Result ℕ TableError) (e : (t, held) ≡ table_read bytes lent) where
   abbrev count : ℕ
   count = rows_to_read (bytes_fault bytes) (rows_of bytes)
 
   abbrev room : ℕ
   room = length lent / 4
 
-  told : t ≡ if_else (ltb room count) Full (rows_unless_refused (bytes_fault bytes) count)
+  told : t ≡ if_else (ltb room count) (Err Full) (rows_unless_refused (bytes_fault bytes) count)
   unfolding table_read
-  told = ap (λ (p : TableRead × List ℤ). p.0) e
+  told = ap (λ (p : Result ℕ TableError × List ℤ). p.0) e
 
   held-is : held ≡ past (take (4 * min room count) (rows_of bytes)) lent
   unfolding table_read
-  held-is = ap (λ (p : TableRead × List ℤ). p.1) e
+  held-is = ap (λ (p : Result ℕ TableError × List ℤ). p.1) e
 
-  pub refused-read : (number place : ℕ) → t ≡ Refused number place → bytes_fault bytes ≡ some (number, place)
+  pub refused-read : (number place : ℕ) → t ≡ Err (Refused number place) → bytes_fault bytes ≡ some (number, place)
   refused-read number place i = go (ltb room count) (bytes_fault bytes) (sym i ∙ told)
     where
-      go : (b : Bool) (o : Option Refusal) → Refused number place ≡ if_else b Full (rows_unless_refused o count) → o ≡ some (number, place)
+      go : (b : Bool) (o : Option Refusal) → Err (Refused number place) ≡ if_else b (Err Full) (rows_unless_refused o count) → o ≡ some (number, place)
       go true o h = absurd (let z : ◌≡◌ {A = ℕ} 0 1 = cc in omega arith)
       go false none h = absurd (let z : ◌≡◌ {A = ℕ} 0 1 = cc in omega arith)
       go false (some (n, p)) h = cc
 
-  pub rows-read : (n : ℕ) → t ≡ Rows n → RowsRead bytes held n
+  pub rows-read : (n : ℕ) → t ≡ Ok n → RowsRead bytes held n
   rows-read n i = go (ltb room count) refl (bytes_fault bytes) refl (sym i ∙ told)
     where
-      go : (b : Bool) → ltb room count ≡ b → (o : Option Refusal) → bytes_fault bytes ≡ o → Rows n ≡ if_else b Full (rows_unless_refused o count) → RowsRead bytes held n
+      go : (b : Bool) → ltb room count ≡ b → (o : Option Refusal) → bytes_fault bytes ≡ o → Ok n ≡ if_else b (Err Full) (rows_unless_refused o count) → RowsRead bytes held n
       go true j o k h = absurd (let z : ◌≡◌ {A = ℕ} 0 1 = cc in omega arith)
       go false j (some f) k h = absurd (let z : ◌≡◌ {A = ℕ} 0 1 = cc in omega arith)
       go false j none k h =
@@ -122,10 +123,10 @@ module _ (bytes : List ℕ) (lent held : List ℤ) (t : TableRead) (e : (t, held
           let taken = ap length rows in
           record { no-fault = k; few = omega (arith, w.1, w.2); fits = omega (arith, length-take (4 * n) held); size = size; rows_are = rows }
 
-  pub never-full : 4096 ≤ length lent → t ≡ Full → ⊥
+  pub never-full : 4096 ≤ length lent → t ≡ Err Full → ⊥
   never-full l i = go (ltb room count) refl (bytes_fault bytes) (sym i ∙ told)
     where
-      go : (b : Bool) → ltb room count ≡ b → (o : Option Refusal) → Full ≡ if_else b Full (rows_unless_refused o count) → ⊥
+      go : (b : Bool) → ltb room count ≡ b → (o : Option Refusal) → Err Full ≡ if_else b (Err Full) (rows_unless_refused o count) → ⊥
       go true j o h = let more = ltb-true room count j in let few = rows_few bytes in omega arith
       go false j none h = let z : ◌≡◌ {A = ℕ} 0 1 = cc in omega arith
       go false j (some (n, p)) h = let z : ◌≡◌ {A = ℕ} 0 1 = cc in omega arith

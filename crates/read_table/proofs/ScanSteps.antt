@@ -1,6 +1,6 @@
 -- Laws for code that reads bytes from left to right: where a field ends, and whether bytes are equal.
 use mathlib.Core.Path.{◌≡◌, refl, ap}
-use mathlib.Core.Bool.{Bool, true, false}
+use mathlib.Core.Bool.{Bool, true, false, ◌&&◌}
 use mathlib.Core.List.{List, [], ◌∷◌}
 use Prim.Native.Nat.{ℕ, suc, ◌+◌, ◌≤◌, ◌<◌}
 use native.Mathlib.Numerals.{add-one}
@@ -8,11 +8,11 @@ use native.Mathlib.Omega.{arith}
 use lib.ListN.{length, get_or, drop, drop_of_length-le}
 use lib.Seq.{drop-cons}
 use lib.Dec.{eqb}
+use lib.Pointwise.{pointwise}
 use Rattle.meaning.specs.Basics.{if_else}
 use borrow.Author.Tests.{eq-eqb, ne_eqb}
 use Rattle.meaning.specs.Texts.{line_feed, comma}
 use Rattle.meaning.specs.Lines.{line_size, same}
-use Rattle.meaning.proofs.NoFault.{same-is}
 use Rattle.read_table.specs.Fields.{field_size}
 
 -- Lines -------------------------------------------------------------------------------------------------------------------------
@@ -53,24 +53,13 @@ module _ (s : List ℕ) (at : ℕ) where
 
 -- Equal bytes -------------------------------------------------------------------------------------------------------------------
 
--- bytes of other length are not the same
-pub same-by-length : (a b : List ℕ) → (length a ≡ length b → ⊥) → same a b ≡ false
-same-by-length a b n = go (same a b) refl
+pub equal-same : (a b : List ℕ) → pointwise eqb a b ≡ same a b
+unfolding same
+equal-same [] [] = refl
+equal-same [] (c ∷ cs) = refl
+equal-same (b ∷ bs) [] = refl
+equal-same (b ∷ bs) (c ∷ cs) = go (eqb b c) (equal-same bs cs)
   where
-    go : (t : Bool) → same a b ≡ t → t ≡ false
-    go true e = absurd (n (ap length (same-is a b e)))
+    go : (t : Bool) → pointwise eqb bs cs ≡ same bs cs → t && pointwise eqb bs cs ≡ if_else t (same bs cs) false
+    go true e = e
     go false e = refl
-
-module _ (a b : List ℕ) (i : ℕ) where
-  pub same-at-end : length a ≤ i → length b ≤ i → same (drop i a) (drop i b) ≡ true
-  unfolding same
-  same-at-end h k = rw (drop_of_length-le a h, drop_of_length-le b k)
-
-  module _ (h : i < length a) (k : i < length b) where
-    pub same_differs : (get_or a i 0 ≡ get_or b i 0 → ⊥) → same (drop i a) (drop i b) ≡ false
-    unfolding same
-    same_differs n = rw (drop-cons a i 0 h, drop-cons b i 0 k, ne_eqb (get_or a i 0) (get_or b i 0) n)
-
-    pub same-goes-on : get_or a i 0 ≡ get_or b i 0 → same (drop i a) (drop i b) ≡ same (drop (i + 1) a) (drop (i + 1) b)
-    unfolding same
-    same-goes-on e = rw (add-one i, drop-cons a i 0 h, drop-cons b i 0 k, eq-eqb (get_or a i 0) (get_or b i 0) e)

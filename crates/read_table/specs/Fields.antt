@@ -6,10 +6,6 @@ use Rattle.meaning.specs.Texts.{line_feed, comma}
 use Rattle.meaning.specs.Lines.{line_size}
 use Rattle.meaning.specs.Numerals.{number}
 use Rattle.meaning.specs.TableBytes.{read_row}
-use Rattle.read_table.specs.declared.row.Field.{Field}
-use Rattle.read_table.specs.declared.row.Field.TheVariants.{Number, Wrong}
-use Rattle.read_table.specs.declared.row.Row.{Row}
-use Rattle.read_table.specs.declared.row.Row.TheVariants.{Numbers, Malformed}
 
 -- how many bytes stand before the first comma or line feed
 unfoldable pub field_size : List ℕ → ℕ
@@ -26,33 +22,23 @@ abbrev pub stop_of : ℕ → ℕ
 stop_of zero = line_feed
 stop_of (suc after) = comma
 
--- a number, and where the next field begins
-abbrev pub number_up_to : Option ℤ → ℕ → Field
-number_up_to none next = Wrong
-number_up_to (some z) next = Number z next
+-- a value, if there is one, and where what comes after it begins
+abbrev pub with_next : {A : Type 0} → Option A → ℕ → Option (A × ℕ)
+with_next none next = none
+with_next (some x) next = some (x, next)
 
 -- the first field of the bytes from a place on, if it holds a number and the byte `stop` ends it
-unfoldable pub number_field : ℕ → List ℕ → ℕ → Field
+unfoldable pub number_field : ℕ → List ℕ → ℕ → Option (ℤ × ℕ)
 number_field stop s at =
     let e = field_size s in
-    if_else (opens stop (drop e s)) (number_up_to (number (take e s)) (at + e + 1)) Wrong
+    if_else (opens stop (drop e s)) (with_next (number (take e s)) (at + e + 1)) none
 
 -- the first line of some bytes
 abbrev pub first_line : List ℕ → List ℕ
 first_line s = take (line_size s) s
 
--- four numbers, and where the next line begins
-abbrev pub four_numbers : Option (List ℤ) → ℕ → Row
-four_numbers none next = Malformed
-four_numbers (some []) next = Malformed
-four_numbers (some (k ∷ [])) next = Malformed
-four_numbers (some (k ∷ a ∷ [])) next = Malformed
-four_numbers (some (k ∷ a ∷ b ∷ [])) next = Malformed
-four_numbers (some (k ∷ a ∷ b ∷ c ∷ [])) next = Numbers k a b c next
-four_numbers (some (k ∷ a ∷ b ∷ c ∷ z ∷ zs)) next = Malformed
-
 -- the line that begins at a place, read as a row
-unfoldable pub row_from_line : List ℕ → ℕ → Row
+unfoldable pub row_from_line : List ℕ → ℕ → Option (List ℤ × ℕ)
 row_from_line bytes at =
     let s = drop at bytes in
-    four_numbers (read_row (first_line s)) (at + line_size s)
+    with_next (read_row (first_line s)) (at + line_size s)

@@ -7,47 +7,40 @@ ghost use Rattle.read_table.specs.TableRead.{table_read};
 pub mod scan; // scan.rt: where a line and a field end, and whether bytes are equal
 mod row; // row.rt: a line's four numbers
 
-use row::Row;
-
-// What reading comes to: so many rows are read, there is no room for a row, or the bytes are refused.
-#[derive(Drop)]
-pub enum TableRead {
-    Rows(usize),
+// Why not all rows are read: there is no room for a row, or the bytes are refused, with the refusal's number and place.
+#[derive(Clone, Copy, Debug, PartialEq, Eq)]
+pub enum TableError {
     Full,
     Refused(u8, u32),
 }
 
-// The rows of a table's bytes, in lent rows of four numbers, up to the first line at fault or the first row without room.
-pub fn read_table(bytes: &[u8], rows: &mut [i32]) -> TableRead
+// The rows of a table's bytes, in lent rows of four numbers, up to the first line at fault or the first row without room; how many they are.
+pub fn read_table(bytes: &[u8], rows: &mut [i32]) -> Result<usize, TableError>
     ensures { (result, rows.new) ≡ table_read bytes.now rows.old }
 {
     if 32768 < bytes.len() {
-        return TableRead::Refused(2, 0);
+        return Err(TableError::Refused(2, 0));
     }
     let first = scan::line_end(bytes, 0);
     if !scan::same(&bytes[..first], b"kind,a,b,c\n") {
-        return TableRead::Refused(2, 1);
+        return Err(TableError::Refused(2, 1));
     }
     let room = rows.len() / 4;
     let mut count: usize = 0;
     let mut at = first;
+    // kept: the place advances by a line, not by one
     while at < bytes.len() {
-        let Row::Numbers(kind, a, b, c, next) = row::read_row(bytes, at) else {
-            return TableRead::Refused(2, (count + 2) as u32);
-        };
+        let line = row::read_row(bytes, at).ok_or(TableError::Refused(2, (count + 2) as u32))?;
         if count == 1024 {
-            return TableRead::Refused(3, 1024);
+            return Err(TableError::Refused(3, 1024));
         }
         if count == room {
-            return TableRead::Full;
+            return Err(TableError::Full);
         }
-        let start = 4 * count;
-        rows[start] = kind;
-        rows[start + 1] = a;
-        rows[start + 2] = b;
-        rows[start + 3] = c;
+        let row = line.0;
+        rows[4 * count..4 * count + 4].copy_from_slice(&row);
         count += 1;
-        at = next;
+        at = line.1;
     }
-    TableRead::Rows(count)
+    Ok(count)
 }

@@ -4,14 +4,13 @@ use mathlib.Core.Bool.{true, false}
 use mathlib.Core.List.{List}
 use mathlib.Core.Option.{Option, none, some}
 use Prim.Native.Nat.{ℕ, ◌≤◌, ◌<◌}
-use Rattle.std.specs.Prelude.{Some, None}
 use native.Mathlib.Omega.{arith}
 use lib.IntN.{ℤ, pos}
 use lib.ListN.{length}
 use borrow.Author.Tests.{le-leb, lt-leb}
 use Rattle.meaning.specs.Numerals as numerals
-use Rattle.base_numbers.specs.declared.Parsed.TheVariants.{Number, Malformed}
-use Rattle.base_numbers.specs.Reading.{parsed_of}
+use Rattle.std.specs.Prelude.{Some, None}
+use Rattle.base_numbers.specs.Reading.{option_of}
 use Rattle.grammar.specs.Grammar.{Token}
 use Rattle.grammar.specs.Tokens.{words, symbols, token_spelt, is_word, or_name, or_number, token_of}
 use Rattle.read_tokens.specs.Sorts as sorts
@@ -35,15 +34,15 @@ number-after none q l e = cc
 number-after (some t) q l e = e
 
 -- a number after nothing
-read-after : (q : Option ℤ) (z : ℤ) → parsed_of q ≡ Number z → Some (valued sorts.number z) ≡ lexeme_of (or_number none q)
+read-after : (q : Option ℤ) (z : ℤ) → option_of q ≡ Some z → Some (valued sorts.number z) ≡ lexeme_of (or_number none q)
 unfolding or_number
-read-after none z h = absurd (let c : ◌≡◌ {A = ℕ} 0 1 = cc in omega arith)
+read-after none z h = cc
 read-after (some y) z h = let e : z ≡ y = cc in ap (λ (y : ℤ). Some (valued sorts.number y)) e
 
-misread-after : (q : Option ℤ) → parsed_of q ≡ Malformed → None ≡ lexeme_of (or_number none q)
+misread-after : (q : Option ℤ) → option_of q ≡ None → None ≡ lexeme_of (or_number none q)
 unfolding or_number
 misread-after none h = refl
-misread-after (some y) h = absurd (let c : ◌≡◌ {A = ℕ} 0 1 = cc in omega arith)
+misread-after (some y) h = cc
 
 -- what the code has found
 module _ (o : Option Token) where
@@ -68,11 +67,11 @@ module _ (o : Option Token) where
     symbol-found l e = number-after o q l e
 
     -- a number
-    pub number-found : None ≡ lexeme_of o → (z : ℤ) → parsed_of q ≡ Number z → Some (valued sorts.number z) ≡ lexeme_of (or_number o q)
+    pub number-found : None ≡ lexeme_of o → (z : ℤ) → option_of q ≡ Some z → Some (valued sorts.number z) ≡ lexeme_of (or_number o q)
     number-found e z h = rw (no-token o (sym e)) (read-after q z h)
 
     -- neither
-    pub none_found : None ≡ lexeme_of o → parsed_of q ≡ Malformed → None ≡ lexeme_of (or_number o q)
+    pub none_found : None ≡ lexeme_of o → option_of q ≡ None → None ≡ lexeme_of (or_number o q)
     none_found e h = rw (no-token o (sym e)) (misread-after q h)
 
 -- words and names, and the others

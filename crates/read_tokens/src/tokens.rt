@@ -5,7 +5,6 @@ ghost use Rattle.grammar.specs.Tokens as tokens;
 ghost use Rattle.read_tokens.specs.Lexemes.{lexeme_of};
 
 use crate::{Lexeme, chunks, sorts, table};
-use base_numbers::Parsed;
 
 // Whether each of some bytes is a letter, a digit or `_`.
 fn are_word_bytes(bytes: &[u8]) -> bool
@@ -44,13 +43,11 @@ fn symbol_or_number(chunk: &[u8]) -> Option<Lexeme>
     if let Some(found) = table::symbol(chunk) {
         return Some(found);
     }
-    match base_numbers::read_number(chunk) {
-        Parsed::Malformed => None,
-        Parsed::Number(z) => Some(Lexeme {
-            sort: sorts::NUMBER,
-            value: z,
-        }),
-    }
+    let z = base_numbers::read_number(chunk)?;
+    Some(Lexeme {
+        sort: sorts::NUMBER,
+        value: z,
+    })
 }
 
 // The token that bytes are.

@@ -10,18 +10,7 @@ use lib.ListN.{length, set}
 use lib.Dec.{eqb}
 use borrow.Author.Tests.{eq-eqb, ne_eqb, eqb-true}
 use Rattle.meaning.specs.Basics.{if_else}
-use Rattle.base_numbers.specs.Reading.{parsed_of}
-use Rattle.base_numbers.specs.declared.Parsed.TheVariants.{Number, Malformed}
 use Rattle.test_leaves.specs.Lent.{number_lent, reason_of, copied}
-
--- what a field's reading says of its number
-pub parsed-number : (o : Option ℤ) (z : ℤ) → Number z ≡ parsed_of o → o ≡ some z
-parsed-number none z e = absurd (let q : ◌≡◌ {A = ℕ} 0 1 = cc in omega arith)
-parsed-number (some y) z e = ap some (cc)
-
-pub parsed-malformed : (o : Option ℤ) → Malformed ≡ parsed_of o → o ≡ none
-parsed-malformed none e = refl
-parsed-malformed (some y) e = absurd (let q : ◌≡◌ {A = ℕ} 0 1 = cc in omega arith)
 
 pub number-stored : (z : ℤ) (out : List ℤ) → ¬ (length out ≡ 0) → ◌≡◌ {A = ℕ × List ℤ} (1, set out 0 z) (number_lent (some z) out)
 number-stored z [] h = absurd (h refl)

@@ -1,5 +1,5 @@
 -- What the exported functions answer that join several leaves.
-use Rattle.std.specs.Prelude.{List, [], ◌∷◌, ℕ, ℤ, pos, set, replicate}
+use Rattle.std.specs.Prelude.{List, [], ◌∷◌, ℕ, ℤ, pos, set, replicate, Result, Ok, Err}
 use Rattle.meaning.specs.Basics.{if_else, is_some}
 use Rattle.meaning.specs.Tree.{content_at}
 use Rattle.meaning.specs.TableBytes.{bytes_fault, rows_of, numbers_fault}
@@ -10,8 +10,8 @@ use Rattle.meaning.specs.Buffers.{decoded}
 use Rattle.meaning.specs.Answers.{check}
 use Rattle.meaning.specs.declared.Value.{Value}
 use Rattle.meaning.specs.declared.Value.TheVariants.{Missing}
-use Rattle.read_sheet.specs.declared.SheetRead.{SheetRead}
-use Rattle.read_sheet.specs.declared.SheetRead.TheVariants.{Lines, Full, Refused}
+use Rattle.read_sheet.specs.declared.SheetError.{SheetError}
+use Rattle.read_sheet.specs.declared.SheetError.TheVariants.{Full, Refused}
 use Rattle.test_leaves.specs.Lent.{copied}
 
 -- the stages 3 to 6 of the verdict on rows
@@ -38,11 +38,11 @@ pub record SheetAnswer : Type 0 where
   pub place : List ℕ
 
 -- a refusal with its line; that there is no room; or the count of lines
-abbrev pub sheet_answer : SheetRead → List ℤ → List ℕ → List ℕ → SheetAnswer
-sheet_answer (Lines n) values marks place = record { answer = 0; values = values; marks = marks; place = set place 0 n }
-sheet_answer Full values marks place = record { answer = 1; values = values; marks = marks; place = place }
-sheet_answer (Refused p) values marks place = record { answer = 10; values = values; marks = marks; place = set place 0 p }
+abbrev pub sheet_answer : Result ℕ SheetError → List ℤ → List ℕ → List ℕ → SheetAnswer
+sheet_answer (Ok n) values marks place = record { answer = 0; values = values; marks = marks; place = set place 0 n }
+sheet_answer (Err Full) values marks place = record { answer = 1; values = values; marks = marks; place = place }
+sheet_answer (Err (Refused p)) values marks place = record { answer = 10; values = values; marks = marks; place = set place 0 p }
 
 -- with what the buffers hold
-abbrev pub sheet_lent : SheetRead × List ℤ × List ℕ → List ℕ → SheetAnswer
+abbrev pub sheet_lent : Result ℕ SheetError × List ℤ × List ℕ → List ℕ → SheetAnswer
 sheet_lent w place = sheet_answer w.0 w.1 w.2 place

@@ -10,7 +10,6 @@ mod lending; // lending.rt: what is put into lent buffers
 mod sheets; // sheets.rt: a readings sheet
 mod tables; // tables.rt: a table's bytes, and the value of an expression of its rows
 
-use base_numbers::Parsed;
 
 // 1 and the number at the start of `out`, if the field has the form and there is room; else 0.
 #[unsafe(no_mangle)]
@@ -19,8 +18,8 @@ pub extern "C" fn leaf_number(field: &[u8], out: &mut [i32]) -> u32
 {
     let read = base_numbers::read_number(field);
     match read {
-        Parsed::Malformed => 0,
-        Parsed::Number(z) => {
+        None => 0,
+        Some(z) => {
             if out.len() == 0 {
                 return 0;
             }

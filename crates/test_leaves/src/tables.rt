@@ -10,7 +10,7 @@ ghost use Rattle.test_leaves.specs.Leaves.{form_of_bytes, cells_lent, value_at};
 
 use crate::lending;
 use meaning::{Value, Verdict};
-use read_table::TableRead;
+use read_table::TableError;
 
 // The verdict on a table's bytes by the stages 2 to 6.
 fn form_of_bytes(bytes: &[u8]) -> Verdict
@@ -18,9 +18,9 @@ fn form_of_bytes(bytes: &[u8]) -> Verdict
 {
     let mut rows = [0i32; 4096];
     match read_table::read_table(bytes, &mut rows) {
-        TableRead::Refused(number, place) => Verdict::Rejected(number, place),
-        TableRead::Rows(n) => check_form::check_form(&rows[..4 * n]),
-        TableRead::Full => Verdict::Rejected(3, 1024),
+        Err(TableError::Refused(number, place)) => Verdict::Rejected(number, place),
+        Ok(n) => check_form::check_form(&rows[..4 * n]),
+        Err(TableError::Full) => Verdict::Rejected(3, 1024),
     }
 }
 

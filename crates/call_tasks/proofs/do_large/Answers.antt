@@ -10,31 +10,31 @@ use Rattle.call_tasks.proofs.do_large.Goals as goal
 
 pub overflow_mul-large : goal.overflow_mul-large
 overflow_mul-large c =
-    let read : RowsRead c.args.table.now c.read_table.new.rows c.in-Rows.n = rows-read _ _ _ _ c.read_table.ensures _ c.in-Rows.is in
+    let read : RowsRead c.args.table.now c.read_table.new.rows c.in-Ok.n = rows-read _ _ _ _ c.read_table.ensures _ c.in-Ok.is in
     let few = read.few in omega arith
 
 pub slice_bounds-large-end : goal.slice_bounds-large-end
 slice_bounds-large-end c =
-    let read : RowsRead c.args.table.now c.read_table.new.rows c.in-Rows.n = rows-read _ _ _ _ c.read_table.ensures _ c.in-Rows.is in
+    let read : RowsRead c.args.table.now c.read_table.new.rows c.in-Ok.n = rows-read _ _ _ _ c.read_table.ensures _ c.in-Ok.is in
     read.fits
 
 pub slice_bounds-do_rows-end : goal.slice_bounds-do_rows-end
 slice_bounds-do_rows-end c =
-    let read : RowsRead c.args.table.now c.read_table.new.rows c.in-Rows.n = rows-read _ _ _ _ c.read_table.ensures _ c.in-Rows.is in
+    let read : RowsRead c.args.table.now c.read_table.new.rows c.in-Ok.n = rows-read _ _ _ _ c.read_table.ensures _ c.in-Ok.is in
     sym (length-take-le _ _ read.fits)
 
-pub returns-in-Refused : goal.returns-in-Refused
-returns-in-Refused c =
+pub returns-in-Err-Refused : goal.returns-in-Err-Refused
+returns-in-Err-Refused c =
     let a = c.args in
-    let fault = refused-read _ _ _ _ c.read_table.ensures c.in-Refused.number c.in-Refused.place c.in-Refused.is in
-    table-done-refused a.table.now a.sheet.now a.choices.now a.budget (lists_lent a.readied.now a.taken.now) c.in-Refused.number c.in-Refused.place _ fault c.refused.ensures
+    let fault = refused-read _ _ _ _ c.read_table.ensures c.in-Err-Refused.number c.in-Err-Refused.place (cc) in
+    table-done-refused a.table.now a.sheet.now a.choices.now a.budget (lists_lent a.readied.now a.taken.now) c.in-Err-Refused.number c.in-Err-Refused.place _ fault (rw (c.in-Err-Refused.number-is, c.in-Err-Refused.place-is) at c.refused.ensures)
 
-pub returns-in-Rows : goal.returns-in-Rows
-returns-in-Rows c =
-    let read : RowsRead c.args.table.now c.read_table.new.rows c.in-Rows.n = rows-read _ _ _ _ c.read_table.ensures _ c.in-Rows.is in
+pub returns-in-Ok : goal.returns-in-Ok
+returns-in-Ok c =
+    let read : RowsRead c.args.table.now c.read_table.new.rows c.in-Ok.n = rows-read _ _ _ _ c.read_table.ensures _ c.in-Ok.is in
     let a = c.args in
     let r = read in
     (rw r.rows_are at c.do_rows.ensures) ∙ table-done-rows a.table.now a.sheet.now a.choices.now a.budget (lists_lent a.readied.now a.taken.now) r.no-fault
 
-pub returns-in-Full : goal.returns-in-Full
-returns-in-Full c = absurd (never-full _ _ _ _ c.read_table.ensures (omega arith) c.in-Full.is)
+pub returns-in-Err-Full : goal.returns-in-Err-Full
+returns-in-Err-Full c = absurd (never-full _ _ _ _ c.read_table.ensures (omega arith) (cc))

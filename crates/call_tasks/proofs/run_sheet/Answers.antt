@@ -12,16 +12,16 @@ run_readings-requires c =
     let a = c.args in
     record {
       accepted = c.requires;
-      kept = (readings a.rows.now a.sheet.now, sheet-kept a.rows.now a.sheet.now (replicate 512 (pos 0)) (replicate 512 0) c.read_sheet.result _ _ c.read_sheet.ensures c.in-Lines.lines c.in-Lines.is);
-      few = lines-few a.rows.now a.sheet.now (replicate 512 (pos 0)) (replicate 512 0) c.read_sheet.result _ _ c.read_sheet.ensures c.in-Lines.lines c.in-Lines.is;
+      kept = (readings a.rows.now a.sheet.now, sheet-kept a.rows.now a.sheet.now (replicate 512 (pos 0)) (replicate 512 0) c.read_sheet.result _ _ c.read_sheet.ensures c.in-Ok.lines c.in-Ok.is);
+      few = lines-few a.rows.now a.sheet.now (replicate 512 (pos 0)) (replicate 512 0) c.read_sheet.result _ _ c.read_sheet.ensures c.in-Ok.lines c.in-Ok.is;
     }
 
-pub returns-in-Refused : goal.returns-in-Refused
-returns-in-Refused c =
+pub returns-in-Err-Refused : goal.returns-in-Err-Refused
+returns-in-Err-Refused c =
     let a = c.args in
-    task-refused (task a.rows.now a.sheet.now a.choices.now a.budget) _ _ 10 c.in-Refused.line (sheet-refused a.rows.now a.sheet.now a.choices.now a.budget c.requires 10 c.in-Refused.line (sheet-fault a.rows.now a.sheet.now (replicate 512 (pos 0)) (replicate 512 0) c.read_sheet.result _ _ c.read_sheet.ensures c.in-Refused.line c.in-Refused.is)) c.refused.ensures
+    task-refused (task a.rows.now a.sheet.now a.choices.now a.budget) _ _ 10 c.in-Err-Refused.line (sheet-refused a.rows.now a.sheet.now a.choices.now a.budget c.requires 10 c.in-Err-Refused.line (sheet-fault a.rows.now a.sheet.now (replicate 512 (pos 0)) (replicate 512 0) c.read_sheet.result _ _ c.read_sheet.ensures c.in-Err-Refused.line (cc))) (rw c.in-Err-Refused.line-is at c.refused.ensures)
 
-pub returns-in-Lines : goal.returns-in-Lines
-returns-in-Lines c =
+pub returns-in-Ok : goal.returns-in-Ok
+returns-in-Ok c =
     let a = c.args in
-    c.run_readings.ensures a.sheet.now (sheet-accepted a.rows.now a.sheet.now (replicate 512 (pos 0)) (replicate 512 0) c.read_sheet.result _ _ c.read_sheet.ensures c.in-Lines.lines c.in-Lines.is, sheet-kept a.rows.now a.sheet.now (replicate 512 (pos 0)) (replicate 512 0) c.read_sheet.result _ _ c.read_sheet.ensures c.in-Lines.lines c.in-Lines.is)
+    c.run_readings.ensures a.sheet.now (sheet-accepted a.rows.now a.sheet.now (replicate 512 (pos 0)) (replicate 512 0) c.read_sheet.result _ _ c.read_sheet.ensures c.in-Ok.lines c.in-Ok.is, sheet-kept a.rows.now a.sheet.now (replicate 512 (pos 0)) (replicate 512 0) c.read_sheet.result _ _ c.read_sheet.ensures c.in-Ok.lines c.in-Ok.is)

@@ -13,21 +13,21 @@ run_readings-requires c =
     let a = c.args in
     record {
       accepted = c.requires;
-      kept = (readings a.rows.now a.sheet.now, sheet-kept a.rows.now a.sheet.now (replicate 1024 (pos 0)) (replicate 1024 0) c.read_sheet.result _ _ c.read_sheet.ensures c.in-Lines.lines c.in-Lines.is);
-      few = lines-few a.rows.now a.sheet.now (replicate 1024 (pos 0)) (replicate 1024 0) c.read_sheet.result _ _ c.read_sheet.ensures c.in-Lines.lines c.in-Lines.is;
+      kept = (readings a.rows.now a.sheet.now, sheet-kept a.rows.now a.sheet.now (replicate 1024 (pos 0)) (replicate 1024 0) c.read_sheet.result _ _ c.read_sheet.ensures c.in-Ok.lines c.in-Ok.is);
+      few = lines-few a.rows.now a.sheet.now (replicate 1024 (pos 0)) (replicate 1024 0) c.read_sheet.result _ _ c.read_sheet.ensures c.in-Ok.lines c.in-Ok.is;
     }
 
-pub returns-in-Refused : goal.returns-in-Refused
-returns-in-Refused c =
+pub returns-in-Err-Refused : goal.returns-in-Err-Refused
+returns-in-Err-Refused c =
     let a = c.args in
-    task-refused (task a.rows.now a.sheet.now a.choices.now a.budget) _ _ 10 c.in-Refused.place (sheet-refused a.rows.now a.sheet.now a.choices.now a.budget c.requires 10 c.in-Refused.place (sheet-fault a.rows.now a.sheet.now (replicate 1024 (pos 0)) (replicate 1024 0) c.read_sheet.result _ _ c.read_sheet.ensures c.in-Refused.place c.in-Refused.is)) c.refused.ensures
+    task-refused (task a.rows.now a.sheet.now a.choices.now a.budget) _ _ 10 c.in-Err-Refused.place (sheet-refused a.rows.now a.sheet.now a.choices.now a.budget c.requires 10 c.in-Err-Refused.place (sheet-fault a.rows.now a.sheet.now (replicate 1024 (pos 0)) (replicate 1024 0) c.read_sheet.result _ _ c.read_sheet.ensures c.in-Err-Refused.place (cc))) (rw c.in-Err-Refused.place-is at c.refused.ensures)
 
-pub returns-in-Full : goal.returns-in-Full
-returns-in-Full c =
+pub returns-in-Err-Full : goal.returns-in-Err-Full
+returns-in-Err-Full c =
     let a = c.args in
-    absurd (not_full a.rows.now a.sheet.now (replicate 1024 (pos 0)) (replicate 1024 0) c.read_sheet.result _ _ c.read_sheet.ensures c.requires (length-replicate {A = ℤ} 1024 (pos 0)) (length-replicate {A = ℕ} 1024 0) c.in-Full.is)
+    absurd (not_full a.rows.now a.sheet.now (replicate 1024 (pos 0)) (replicate 1024 0) c.read_sheet.result _ _ c.read_sheet.ensures c.requires (length-replicate {A = ℤ} 1024 (pos 0)) (length-replicate {A = ℕ} 1024 0) (cc))
 
-pub returns-in-Lines : goal.returns-in-Lines
-returns-in-Lines c =
+pub returns-in-Ok : goal.returns-in-Ok
+returns-in-Ok c =
     let a = c.args in
-    c.run_readings.ensures a.sheet.now (sheet-accepted a.rows.now a.sheet.now (replicate 1024 (pos 0)) (replicate 1024 0) c.read_sheet.result _ _ c.read_sheet.ensures c.in-Lines.lines c.in-Lines.is, sheet-kept a.rows.now a.sheet.now (replicate 1024 (pos 0)) (replicate 1024 0) c.read_sheet.result _ _ c.read_sheet.ensures c.in-Lines.lines c.in-Lines.is)
+    c.run_readings.ensures a.sheet.now (sheet-accepted a.rows.now a.sheet.now (replicate 1024 (pos 0)) (replicate 1024 0) c.read_sheet.result _ _ c.read_sheet.ensures c.in-Ok.lines c.in-Ok.is, sheet-kept a.rows.now a.sheet.now (replicate 1024 (pos 0)) (replicate 1024 0) c.read_sheet.result _ _ c.read_sheet.ensures c.in-Ok.lines c.in-Ok.is)

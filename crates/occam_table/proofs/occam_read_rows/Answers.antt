@@ -17,39 +17,39 @@ returns-then-rows-lt4096 c = rows-without-room c.args.table.now c.args.rows.now 
 
 pub overflow_mul-n : goal.overflow_mul-n
 overflow_mul-n c =
-    let read : RowsRead c.args.table.now c.read_table.new.rows c.in-Rows.count = rows-read _ _ _ _ c.read_table.ensures _ c.in-Rows.is in
+    let read : RowsRead c.args.table.now c.read_table.new.rows c.in-Ok.count = rows-read _ _ _ _ c.read_table.ensures _ c.in-Ok.is in
     let few = read.few in omega arith
 
 pub slice_bounds-held-end : goal.slice_bounds-held-end
 slice_bounds-held-end c =
-    let read : RowsRead c.args.table.now c.read_table.new.rows c.in-Rows.count = rows-read _ _ _ _ c.read_table.ensures _ c.in-Rows.is in
+    let read : RowsRead c.args.table.now c.read_table.new.rows c.in-Ok.count = rows-read _ _ _ _ c.read_table.ensures _ c.in-Ok.is in
     read.fits
 
 pub slice_bounds-copy_numbers-end : goal.slice_bounds-copy_numbers-end
 slice_bounds-copy_numbers-end c =
-    let read : RowsRead c.args.table.now c.read_table.new.rows c.in-Rows.count = rows-read _ _ _ _ c.read_table.ensures _ c.in-Rows.is in
+    let read : RowsRead c.args.table.now c.read_table.new.rows c.in-Ok.count = rows-read _ _ _ _ c.read_table.ensures _ c.in-Ok.is in
     sym (length-take-le _ _ read.fits)
 
 pub copy_numbers-requires : goal.copy_numbers-requires
 copy_numbers-requires c =
-    let read : RowsRead c.args.table.now c.read_table.new.rows c.in-Rows.count = rows-read _ _ _ _ c.read_table.ensures _ c.in-Rows.is in
+    let read : RowsRead c.args.table.now c.read_table.new.rows c.in-Ok.count = rows-read _ _ _ _ c.read_table.ensures _ c.in-Ok.is in
     let r = read in
     let rows = ap length r.rows_are in
     let size = r.size in
     let few = r.few in
     omega (arith, c.if-rows-lt4096.false)
 
-pub returns-in-Refused : goal.returns-in-Refused
-returns-in-Refused c =
+pub returns-in-Err-Refused : goal.returns-in-Err-Refused
+returns-in-Err-Refused c =
     let a = c.args in
-    rows-refused a.table.now a.rows.now c.if-rows-lt4096.false c.in-Refused.field-0 c.in-Refused.field-1 (refused-read _ _ _ _ c.read_table.ensures c.in-Refused.field-0 c.in-Refused.field-1 c.in-Refused.is)
+    rows-refused a.table.now a.rows.now c.if-rows-lt4096.false c.in-Err-Refused.field-0 c.in-Err-Refused.field-1 (refused-read _ _ _ _ c.read_table.ensures c.in-Err-Refused.field-0 c.in-Err-Refused.field-1 (cc))
 
-pub returns-in-Rows : goal.returns-in-Rows
-returns-in-Rows c =
-    let read : RowsRead c.args.table.now c.read_table.new.rows c.in-Rows.count = rows-read _ _ _ _ c.read_table.ensures _ c.in-Rows.is in
+pub returns-in-Ok : goal.returns-in-Ok
+returns-in-Ok c =
+    let read : RowsRead c.args.table.now c.read_table.new.rows c.in-Ok.count = rows-read _ _ _ _ c.read_table.ensures _ c.in-Ok.is in
     let a = c.args in
     let r = read in
-    rows-put a.table.now a.rows.now c.if-rows-lt4096.false (4 * c.in-Rows.count) _ r.no-fault r.size (c.copy_numbers.ensures ∙ ap (λ (l : List ℤ). past l a.rows.now) r.rows_are)
+    rows-put a.table.now a.rows.now c.if-rows-lt4096.false (4 * c.in-Ok.count) _ r.no-fault r.size (c.copy_numbers.ensures ∙ ap (λ (l : List ℤ). past l a.rows.now) r.rows_are)
 
-pub returns-in-Full : goal.returns-in-Full
-returns-in-Full c = absurd (never-full _ _ _ _ c.read_table.ensures (omega arith) c.in-Full.is)
+pub returns-in-Err-Full : goal.returns-in-Err-Full
+returns-in-Err-Full c = absurd (never-full _ _ _ _ c.read_table.ensures (omega arith) (cc))

@@ -1,9 +1,6 @@
-use mathlib.Core.Path.{sym, ◌∙◌}
 use Prim.Native.Nat.{◌-◌}
-use native.Mathlib.Omega.{arith}
-use borrow.Author.Rules.{rules}
 use lib.ListN.{length}
-use Rattle.read_sheet.proofs.SheetSteps.{too_long, header-at-fault, values-full, marks-full, Passed, nothing-passed, values_length, marks-length, one-line-too-many, line-at-fault, goes-forward, line-passed, all-passed}
+use Rattle.read_sheet.proofs.SheetSteps.{Passed}
 use Rattle.read_sheet.proofs.read_sheet.Given as goal
 
 abbrev pub invariant-loop-at : goal.invariant-loop-at

@@ -1,8 +1,7 @@
 -- The loop keeps which digits are compared. Assumes nothing.
 use mathlib.Core.Path.{sym}
 use native.Mathlib.Omega.{arith}
-use borrow.Author.Rules.{rules}
-use Rattle.read_sheet.proofs.DecimalSteps.{Compared, nothing-compared, too_few, digit-equal, digit-differs, not-one, by-first-digit}
+use Rattle.read_sheet.proofs.DecimalSteps.{nothing-compared, too_few, digit-equal, digit-differs, not-one, by-first-digit}
 use Rattle.read_sheet.proofs.header.is_decimal.Goals as goal
 
 pub loop-rest-init : goal.loop-rest-init

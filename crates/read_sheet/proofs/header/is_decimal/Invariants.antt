@@ -1,7 +1,4 @@
-use mathlib.Core.Path.{sym}
-use native.Mathlib.Omega.{arith}
-use borrow.Author.Rules.{rules}
-use Rattle.read_sheet.proofs.DecimalSteps.{Compared, nothing-compared, too_few, digit-equal, digit-differs, not-one, by-first-digit}
+use Rattle.read_sheet.proofs.DecimalSteps.{Compared}
 use Rattle.read_sheet.proofs.header.is_decimal.Given as goal
 
 abbrev pub invariant-loop-rest : goal.invariant-loop-rest

@@ -1,7 +1,6 @@
 -- By whether a field follows. Assumes nothing.
 use mathlib.Core.Path.{◌≡◌, refl}
 use Prim.Native.Nat.{ℕ, zero, suc}
-use borrow.Author.Rules.{rules}
 use Rattle.meaning.specs.Texts.{comma}
 use Rattle.read_table.specs.Fields.{stop_of}
 use Rattle.read_sheet.proofs.lines.stop_of.Goals as goal

@@ -1,10 +1,6 @@
 -- The loop keeps where the line ends. Assumes nothing.
-use mathlib.Core.Path.{◌≡◌, refl}
-use Prim.Native.Nat.{◌+◌, ◌-◌}
+use mathlib.Core.Path.{refl}
 use native.Mathlib.Omega.{arith}
-use borrow.Author.Rules.{rules}
-use lib.ListN.{length, drop}
-use Rattle.meaning.specs.Lines.{line_size}
 use Rattle.meaning.proofs.ScanLaws.{size-end, size-feed, size-more}
 use Rattle.read_table.proofs.scan.line_end.Goals as goal
 
@@ -23,5 +19,6 @@ loop-at-preserved c =
 
 pub returns : goal.returns
 returns c =
-    let e = size-end c.args.bytes.now c.loop-at.at c.loop-at-test.false in
-    omega (arith, c.loop-at.invariant)
+    let bytes = c.args.bytes.now in
+    let e = size-end bytes c.loop-at.at c.loop-at-test.false in
+    grind (arith, size-end bytes c.args.from, e, c.loop-at.invariant)
