@@ -5,6 +5,7 @@ use denote.Triple.Both.{Both}
 use Rattle.meaning.specs.Buffers.{Buffers}
 use Rattle.meaning.specs.Answers.{Task}
 use Rattle.machine.specs.Lending.{Lent}
+use Rattle.write_buffers.specs.declared.LentBuffers.{LentBuffers}
 
 -- what seven references hold
 abbrev pub buffers_at : MutBor (List ℤ) → MutBor (List ℕ) → MutBor (List ℕ) → MutBor (List ℕ) → MutBor (List ℤ) → MutBor (List ℕ) → MutBor (List ℕ) → Buffers
@@ -18,6 +19,18 @@ buffers_at cells marks states places numbers counts output_marks =
       counts = counts.now;
       output_marks = output_marks.now;
     }
+
+-- what the seven references of a call's lent buffers hold
+abbrev pub buffers_in : LentBuffers → Buffers
+buffers_in b = buffers_at b.cells b.marks b.states b.places b.numbers b.counts b.output_marks
+
+-- the same seven at the call's end, as an `ensures` names them
+abbrev pub Left : Type 0
+Left = MutBor (List ℤ) × (MutBor (List ℕ) × (MutBor (List ℕ) × (MutBor (List ℕ) × (MutBor (List ℤ) × (MutBor (List ℕ) × (MutBor (List ℕ) × Unit {0}))))))
+
+-- what the call leaves in them
+abbrev pub buffers_left : Left → Buffers
+buffers_left b = buffers_at b.0 b.1.0 b.1.1.0 b.1.1.1.0 b.1.1.1.1.0 b.1.1.1.1.1.0 b.1.1.1.1.1.1.0
 
 -- the rows, the sheet and the choices that are lent, and the budget
 abbrev pub lent_task : Both (Bor (List ℤ)) (Bor (List ℤ)) → Both (Bor (List ℕ)) (Bor (List ℕ)) → Both (Bor (List ℕ)) (Bor (List ℕ)) → ℕ → Task
