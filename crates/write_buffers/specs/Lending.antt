@@ -1,5 +1,5 @@
 -- The task and the seven buffers that a call is lent, by its references: what they hold when it begins, and what it leaves behind them.
-use Rattle.std.specs.Prelude.{List, ℕ, ℤ}
+use Rattle.std.specs.Prelude.{◌≡◌, List, ℕ, ℤ}
 use Rattle.std.specs.Borrow.{Bor, MutBor}
 use denote.Triple.Both.{Both}
 use Rattle.meaning.specs.Buffers.{Buffers}
@@ -24,13 +24,15 @@ buffers_at cells marks states places numbers counts output_marks =
 abbrev pub buffers_in : LentBuffers → Buffers
 buffers_in b = buffers_at b.cells b.marks b.states b.places b.numbers b.counts b.output_marks
 
--- the same seven at the call's end, as an `ensures` names them
-abbrev pub Left : Type 0
-Left = MutBor (List ℤ) × (MutBor (List ℕ) × (MutBor (List ℕ) × (MutBor (List ℕ) × (MutBor (List ℤ) × (MutBor (List ℕ) × (MutBor (List ℕ) × Unit {0}))))))
-
--- what the call leaves in them
-abbrev pub buffers_left : Left → Buffers
-buffers_left b = buffers_at b.0 b.1.0 b.1.1.0 b.1.1.1.0 b.1.1.1.1.0 b.1.1.1.1.1.0 b.1.1.1.1.1.1.0
+-- they are the same seven after a call as before it
+pub record SameBuffers (before after : LentBuffers) : Type 0 where
+  pub cells : after.cells.ghost_name ≡ before.cells.ghost_name
+  pub marks : after.marks.ghost_name ≡ before.marks.ghost_name
+  pub states : after.states.ghost_name ≡ before.states.ghost_name
+  pub places : after.places.ghost_name ≡ before.places.ghost_name
+  pub numbers : after.numbers.ghost_name ≡ before.numbers.ghost_name
+  pub counts : after.counts.ghost_name ≡ before.counts.ghost_name
+  pub output_marks : after.output_marks.ghost_name ≡ before.output_marks.ghost_name
 
 -- the rows, the sheet and the choices that are lent, and the budget
 abbrev pub lent_task : Both (Bor (List ℤ)) (Bor (List ℤ)) → Both (Bor (List ℕ)) (Bor (List ℕ)) → Both (Bor (List ℕ)) (Bor (List ℕ)) → ℕ → Task

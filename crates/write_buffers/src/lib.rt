@@ -4,7 +4,7 @@
 ghost use Rattle.std.specs.Prelude.{◌≡◌};
 ghost use Rattle.meaning.specs.Buffers.{too_short};
 ghost use Rattle.write_buffers.specs.Replies.{Long, reply_in, put_reply};
-ghost use Rattle.write_buffers.specs.Lending.{buffers_in, buffers_left};
+ghost use Rattle.write_buffers.specs.Lending.{buffers_in, SameBuffers};
 
 pub mod copying; // copying.rt: a list over the first places of a buffer
 
@@ -46,9 +46,10 @@ impl LentBuffers<'_> {
     }
 
     // The answer of a task; the arrays of a run are put into the buffers, a refusal leaves them alone.
-    pub fn put(self, done: Result<Run, Refusal>) -> Answer
-        requires { Long (buffers_in self) }
-        ensures { record { answer = result; buffers = buffers_left self.exit } ≡ put_reply (reply_in done) (buffers_in self.entry) }
+    pub fn put(&mut self, done: Result<Run, Refusal>) -> Answer
+        requires { Long (buffers_in self.old) }
+        ensures answered { record { answer = result; buffers = buffers_in self.new } ≡ put_reply (reply_in done) (buffers_in self.old) }
+        ensures same { SameBuffers self.old self.new }
     {
         match done {
             Err(refusal) => Answer::Refused(refusal.number, refusal.place),

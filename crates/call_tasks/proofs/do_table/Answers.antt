@@ -1,5 +1,5 @@
 -- The bytes' own refusal, or what the rows read come to; a table with more rows than there is room for is done as a large one. Assumes nothing.
-use mathlib.Core.Path.{sym, ◌∙◌}
+use mathlib.Core.Path.{refl, sym, ◌∙◌}
 use native.Mathlib.Omega.{arith}
 use lib.Seq.{length-take-le}
 use borrow.Author.Rules.{rules}
@@ -27,7 +27,7 @@ pub returns-in-Refused : goal.returns-in-Refused
 returns-in-Refused c =
     let a = c.args in
     let fault = refused-read _ _ _ _ c.read_table.ensures c.in-Refused.number c.in-Refused.place c.in-Refused.is in
-    table-done-refused a.table.now a.sheet.now a.choices.now a.budget (lists_lent a.readied.now a.taken.now) c.in-Refused.number c.in-Refused.place _ fault c.refused.ensures
+    table-done-refused a.table.now a.sheet.now a.choices.now a.budget (lists_lent a.readied.now a.taken.now) c.in-Refused.number c.in-Refused.place _ fault refl
 
 pub returns-in-Rows : goal.returns-in-Rows
 returns-in-Rows c =

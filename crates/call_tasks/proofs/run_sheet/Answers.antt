@@ -1,4 +1,5 @@
 -- The sheet's refusal, or the run on the readings of its channels; or the same with more room. Assumes nothing.
+use mathlib.Core.Path.{refl}
 use lib.IntN.{pos}
 use lib.ListN.{replicate}
 use borrow.Author.Rules.{rules}
@@ -19,7 +20,7 @@ run_readings-requires c =
 pub returns-in-Refused : goal.returns-in-Refused
 returns-in-Refused c =
     let a = c.args in
-    task-refused (task a.rows.now a.sheet.now a.choices.now a.budget) _ _ 10 c.in-Refused.line (sheet-refused a.rows.now a.sheet.now a.choices.now a.budget c.requires 10 c.in-Refused.line (sheet-fault a.rows.now a.sheet.now (replicate 512 (pos 0)) (replicate 512 0) c.read_sheet.result _ _ c.read_sheet.ensures c.in-Refused.line c.in-Refused.is)) c.refused.ensures
+    task-refused (task a.rows.now a.sheet.now a.choices.now a.budget) _ _ 10 c.in-Refused.place (sheet-refused a.rows.now a.sheet.now a.choices.now a.budget c.requires 10 c.in-Refused.place (sheet-fault a.rows.now a.sheet.now (replicate 512 (pos 0)) (replicate 512 0) c.read_sheet.result _ _ c.read_sheet.ensures c.in-Refused.place c.in-Refused.is)) refl
 
 pub returns-in-Lines : goal.returns-in-Lines
 returns-in-Lines c =

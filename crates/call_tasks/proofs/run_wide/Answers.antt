@@ -1,4 +1,5 @@
 -- The sheet's refusal, or the run on the readings of all its channels; the lists are not full. Assumes nothing.
+use mathlib.Core.Path.{refl}
 use Prim.Native.Nat.{ℕ}
 use lib.IntN.{ℤ, pos}
 use lib.ListN.{replicate, length-replicate}
@@ -20,7 +21,7 @@ run_readings-requires c =
 pub returns-in-Refused : goal.returns-in-Refused
 returns-in-Refused c =
     let a = c.args in
-    task-refused (task a.rows.now a.sheet.now a.choices.now a.budget) _ _ 10 c.in-Refused.place (sheet-refused a.rows.now a.sheet.now a.choices.now a.budget c.requires 10 c.in-Refused.place (sheet-fault a.rows.now a.sheet.now (replicate 1024 (pos 0)) (replicate 1024 0) c.read_sheet.result _ _ c.read_sheet.ensures c.in-Refused.place c.in-Refused.is)) c.refused.ensures
+    task-refused (task a.rows.now a.sheet.now a.choices.now a.budget) _ _ 10 c.in-Refused.place (sheet-refused a.rows.now a.sheet.now a.choices.now a.budget c.requires 10 c.in-Refused.place (sheet-fault a.rows.now a.sheet.now (replicate 1024 (pos 0)) (replicate 1024 0) c.read_sheet.result _ _ c.read_sheet.ensures c.in-Refused.place c.in-Refused.is)) refl
 
 pub returns-in-Full : goal.returns-in-Full
 returns-in-Full c =
