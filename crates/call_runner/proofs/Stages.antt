@@ -92,7 +92,7 @@ module _ (rows : List ℤ) (sheet : List ℕ) (d : Reply) (e : d ≡ reply_of ro
     -- its row states are bytes
     states-bytes : ((i : ℕ) → get_or d.buffers.states i 0 < 256) → Each (λ n. n < 256) ending.state.states
     states-bytes b =
-        let few : length ending.state.states ≤ max_rows = (let a = held.buffers.states-all in let c = held.rows_few in omega arith) in
+        let few : length ending.state.states ≤ max_rows = (let a = held.states-all in let c = held.rows_few in omega arith) in
         let is = states-are rows ending.state d.buffers (ap (λ (r : Reply). r.buffers) (e ∙ ap (reply_of rows blank) runs)) in
         each_of 0 ending.state.states (λ i. subst (λ (n : ℕ). n < 256) (ap (λ (l : List ℕ). get_or l i 0) is ∙ blank-at 0 max_rows i ending.state.states few) (b i))
 

@@ -17,6 +17,5 @@ returns-in-Ok c =
     let a = c.args in
     let done = ap reply_in (sym c.in-Ok.is) ∙ c.task_done.ensures in
     let states = c.row_states in
-    let run = c.in-Ok.run in
-    let p = run-done a.rows.now a.sheet.now _ done a.out.now run.outcome run.steps run.ready refl _ states.ensures.same states.ensures.bytes _ c.run_printed_text.ensures in
+    let p = run-done a.rows.now a.sheet.now _ done a.out.now _ _ _ refl _ states.ensures.same states.ensures.bytes _ c.run_printed_text.ensures in
     record { written = p.0; fits = p.1 }
