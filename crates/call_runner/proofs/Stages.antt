@@ -27,8 +27,6 @@ use Rattle.meaning.proofs.LentLaws.{blank-at}
 use Rattle.agreement.proofs.VerdictStages.{whole-passes}
 use Rattle.machine.specs.Held.{blank}
 use Rattle.machine.proofs.HeldLaws.{states-are}
-use Rattle.write_buffers.specs.declared.Done.{Done}
-use Rattle.write_buffers.specs.Replies.{reply_in}
 use Rattle.call_tasks.proofs.Stages.{task-run}
 use Rattle.write_lines.specs.declared.Parts.{Parts}
 use Rattle.write_lines.specs.Decoding.{table_rows, state_in}
@@ -55,7 +53,7 @@ refused-answer : (rows : List ℤ) (r : Result) (n p : ℕ) → Refused n p ≡ 
 refused-answer rows (refused (m, q)) n p e = cc
 refused-answer rows (ran q) n p e = let z : ◌≡◌ {A = ℕ} 0 1 = cc in absurd (omega arith)
 
-module _ (rows : List ℤ) (sheet : List ℕ) (d : Done) (e : reply_in d ≡ reply_of rows blank (result (task_of rows sheet))) where
+module _ (rows : List ℤ) (sheet : List ℕ) (d : Reply) (e : d ≡ reply_of rows blank (result (task_of rows sheet))) where
   -- what is printed for the task
   abbrev printed : List ℕ
   printed = printed_result rows (result (task_of rows sheet))
@@ -84,22 +82,22 @@ module _ (rows : List ℤ) (sheet : List ℕ) (d : Done) (e : reply_in d ≡ rep
     shown (Ran o n m) b = printed_lines (end_lines (table_rows rows) o n (state_in (table_rows rows) b.cells b.marks b.states b.numbers b.counts b.output_marks))
 
     -- the printed text of what a run leaves
-    run-printed : shown (Ran o k total) (reply_in d).buffers ≡ printed
+    run-printed : shown (Ran o k total) d.buffers ≡ printed
     run-printed =
-        ap (λ (x : Answer). shown x (reply_in d).buffers) (sym a)
+        ap (λ (x : Answer). shown x d.buffers) (sym a)
         ∙ ap (λ (r : Reply). shown r.answer r.buffers) (e ∙ ap (reply_of rows blank) runs)
         ∙ printed-text-said rows ending.state blank held (rows_short rows unrefused.0) ending.outcome ending.steps ending.ready
         ∙ ap (printed_result rows) (sym runs)
 
     -- its row states are bytes
-    states-bytes : ((i : ℕ) → get_or d.states i 0 < 256) → Each (λ n. n < 256) ending.state.states
+    states-bytes : ((i : ℕ) → get_or d.buffers.states i 0 < 256) → Each (λ n. n < 256) ending.state.states
     states-bytes b =
         let few : length ending.state.states ≤ max_rows = (let a = held.states-all in let c = held.rows_few in omega arith) in
-        let is = states-are rows ending.state (reply_in d).buffers (ap (λ (r : Reply). r.buffers) (e ∙ ap (reply_of rows blank) runs)) in
+        let is = states-are rows ending.state d.buffers (ap (λ (r : Reply). r.buffers) (e ∙ ap (reply_of rows blank) runs)) in
         each_of 0 ending.state.states (λ i. subst (λ (n : ℕ). n < 256) (ap (λ (l : List ℕ). get_or l i 0) is ∙ blank-at 0 max_rows i ending.state.states few) (b i))
 
     -- so its printed text is short
-    run_fits : Each In32 rows → ((i : ℕ) → get_or d.states i 0 < 256) → length printed ≤ max_printed_text
+    run_fits : Each In32 rows → ((i : ℕ) → get_or d.buffers.states i 0 < 256) → length printed ≤ max_printed_text
     run_fits numbers b = rw runs (run_short rows numbers unrefused.0 sheet unrefused.1 (states-bytes b))
 
   module _ (old : List ℕ) where
@@ -109,11 +107,11 @@ module _ (rows : List ℤ) (sheet : List ℕ) (d : Done) (e : reply_in d ≡ rep
     refusal-done n p a w h short = rw (refused-answer rows (result (task_of rows sheet)) n p (sym a ∙ ap (λ (r : Reply). r.answer) e)) (h, λ i. short)
 
     -- the printed text of a run, in a lent buffer
-    pub run-done : (o : Outcome) (k total : ℕ) → d.answer ≡ Ran o k total → (states : List ℕ) → states ≡ d.states → ((i : ℕ) → get_or d.states i 0 < 256) → (w : ℕ × List ℕ)
-        → w ≡ printed_in (printed_lines (end_lines (table_rows rows) o k (state_in (table_rows rows) d.cells d.marks states d.numbers d.counts d.output_marks))) old → (w ≡ printed_in printed old) × (Each In32 rows → length printed ≤ max_printed_text)
+    pub run-done : (o : Outcome) (k total : ℕ) → d.answer ≡ Ran o k total → (states : List ℕ) → states ≡ d.buffers.states → ((i : ℕ) → get_or d.buffers.states i 0 < 256) → (w : ℕ × List ℕ)
+        → w ≡ printed_in (printed_lines (end_lines (table_rows rows) o k (state_in (table_rows rows) d.buffers.cells d.buffers.marks states d.buffers.numbers d.buffers.counts d.buffers.output_marks))) old → (w ≡ printed_in printed old) × (Each In32 rows → length printed ≤ max_printed_text)
     run-done o k total a states is bytes w h = (
       h
-          ∙ ap (λ (l : List ℕ). printed_in (printed_lines (end_lines (table_rows rows) o k (state_in (table_rows rows) d.cells d.marks l d.numbers d.counts d.output_marks))) old) is
+          ∙ ap (λ (l : List ℕ). printed_in (printed_lines (end_lines (table_rows rows) o k (state_in (table_rows rows) d.buffers.cells d.buffers.marks l d.buffers.numbers d.buffers.counts d.buffers.output_marks))) old) is
           ∙ ap (λ (l : List ℕ). printed_in l old) (run-printed o k total a),
       λ i. run_fits o k total a i bytes,
     )

@@ -13,9 +13,10 @@ ghost use Rattle.meaning.specs.PrintedForms.{Each, In32};
 ghost use Rattle.write_bytes.specs.Writing.{printed_in};
 ghost use Rattle.call_runner.specs.PrintedTexts.{task_of, max_printed_text, printed_bytes};
 
-use meaning::Answer;
 use read_table::TableError;
-use write_buffers::Done;
+use run_steps::result::Run;
+use write_buffers::Refusal;
+use write_bytes::slices;
 
 // What is printed: its bytes at the start of a buffer that holds every printed text, zeros after them, and how many they are.
 #[derive(Drop)]
@@ -37,11 +38,11 @@ fn row_states(states: &[u8]) -> &[u8]
     ensures same { result.now ≡ states.now }
     ensures bytes { (i : ℕ) → get_or states.now i 0 < 256 }
 {
-    write_bytes::slices::of_bytes(states, 0, states.len())
+    slices::part(states, 0, states.len())
 }
 
 // What the task of rows and a sheet comes to: no choices, budget 65,536, and no trace is kept.
-fn task_done(rows: &[i32], sheet: &[u8]) -> Done
+fn task_done(rows: &[i32], sheet: &[u8]) -> Result<Run, Refusal>
     ensures { reply_in result ≡ reply_of rows.now blank (result_of_task (task_of rows.now sheet.now)) }
 {
     let choices = [0u16; 0];
@@ -55,30 +56,20 @@ fn rows_printed_text(rows: &[i32], sheet: &[u8], out: &mut [u8]) -> usize
     ensures written { (result, out.new) ≡ printed_in (printed_result rows.now (result_of_task (task_of rows.now sheet.now))) out.old }
     ensures fits { Each In32 rows.now → length (printed_result rows.now (result_of_task (task_of rows.now sheet.now))) ≤ max_printed_text }
 {
-    let done = task_done(rows, sheet);
-    let answer = done.answer;
-    match answer {
-        Answer::Refused(number, place) => refusal_printed_text(number, place, out),
-        Answer::Ran(outcome, steps, _) => {
-            let cells = done.cells;
-            let marks = done.marks;
-            let states = done.states;
-            let numbers = done.numbers;
-            let counts = done.counts;
-            let output_marks = done.output_marks;
-            write_lines::run_printed_text(
-                rows,
-                outcome,
-                steps,
-                &cells,
-                &marks,
-                row_states(&states),
-                &numbers,
-                &counts,
-                &output_marks,
-                out,
-            )
-        }
+    match task_done(rows, sheet) {
+        Err(refusal) => refusal_printed_text(refusal.number, refusal.place, out),
+        Ok(run) => write_lines::run_printed_text(
+            rows,
+            run.outcome,
+            run.steps,
+            &run.state.values,
+            &run.state.marks,
+            row_states(&run.states),
+            &run.outputs.numbers,
+            &run.outputs.counts,
+            &run.outputs.marks,
+            out,
+        ),
     }
 }
 
@@ -101,9 +92,7 @@ fn answer_printed_text(input: &[u8], out: &mut [u8]) -> usize
     ensures fits { length (runner input.now) ≤ max_printed_text }
 {
     let parts = write_lines::split(input);
-    let end = parts.end;
-    let start = parts.start;
-    table_printed_text(&input[..end], &input[start..], out)
+    table_printed_text(&input[..parts.end], &input[parts.start..], out)
 }
 
 // What the sheet runner prints for standard input.

@@ -5,9 +5,10 @@ ghost use Rattle.std.specs.Prelude.{◌≡◌};
 ghost use Rattle.meaning.specs.Answers.{reply, reply_to_bytes};
 ghost use Rattle.meaning.specs.Trace.{reply_traced, reply_to_bytes_traced};
 ghost use Rattle.machine.specs.Lending.{lent_lists, left_lists};
-ghost use Rattle.write_buffers.specs.Lending.{lent_task, lent_buffers, left_buffers};
+ghost use Rattle.write_buffers.specs.Lending.{lent_task, buffers_in, SameBuffers};
 
 use meaning::Answer;
+use write_buffers::LentBuffers;
 
 // A run of rows lent as numbers.
 pub fn run_rows(
@@ -15,40 +16,18 @@ pub fn run_rows(
     sheet: &[u8],
     choices: &[u16],
     budget: u32,
-    cells: &mut [i32],
-    marks: &mut [u8],
-    states: &mut [u8],
-    places: &mut [u32],
-    numbers: &mut [i32],
-    counts: &mut [u32],
-    output_marks: &mut [u8],
+    lent: &mut LentBuffers<'_>,
 ) -> Answer
-    ensures { record { answer = result; buffers = left_buffers cells marks states places numbers counts output_marks } ≡ reply (lent_task rows sheet choices budget) (lent_buffers cells marks states places numbers counts output_marks) }
+    ensures answered { record { answer = result; buffers = buffers_in lent.new } ≡ reply (lent_task rows sheet choices budget) (buffers_in lent.old) }
+    ensures same { SameBuffers lent.old lent.new }
 {
-    if write_buffers::too_short(
-        cells.len(),
-        marks.len(),
-        states.len(),
-        places.len(),
-        numbers.len(),
-        counts.len(),
-        output_marks.len(),
-    ) {
+    if lent.too_short() {
         return Answer::Refused(1, 0);
     }
     let mut readied = [0u16; 1];
     let mut taken = [0u16; 1];
     let done = call_tasks::do_rows(rows, sheet, choices, budget, &mut readied, &mut taken);
-    write_buffers::put_done(
-        done,
-        cells,
-        marks,
-        states,
-        places,
-        numbers,
-        counts,
-        output_marks,
-    )
+    lent.put(done)
 }
 
 // A run of a table's bytes.
@@ -57,40 +36,18 @@ pub fn run_table(
     sheet: &[u8],
     choices: &[u16],
     budget: u32,
-    cells: &mut [i32],
-    marks: &mut [u8],
-    states: &mut [u8],
-    places: &mut [u32],
-    numbers: &mut [i32],
-    counts: &mut [u32],
-    output_marks: &mut [u8],
+    lent: &mut LentBuffers<'_>,
 ) -> Answer
-    ensures { record { answer = result; buffers = left_buffers cells marks states places numbers counts output_marks } ≡ reply_to_bytes table.now sheet.now choices.now budget (lent_buffers cells marks states places numbers counts output_marks) }
+    ensures answered { record { answer = result; buffers = buffers_in lent.new } ≡ reply_to_bytes table.now sheet.now choices.now budget (buffers_in lent.old) }
+    ensures same { SameBuffers lent.old lent.new }
 {
-    if write_buffers::too_short(
-        cells.len(),
-        marks.len(),
-        states.len(),
-        places.len(),
-        numbers.len(),
-        counts.len(),
-        output_marks.len(),
-    ) {
+    if lent.too_short() {
         return Answer::Refused(1, 0);
     }
     let mut readied = [0u16; 1];
     let mut taken = [0u16; 1];
     let done = call_tasks::do_table(table, sheet, choices, budget, &mut readied, &mut taken);
-    write_buffers::put_done(
-        done,
-        cells,
-        marks,
-        states,
-        places,
-        numbers,
-        counts,
-        output_marks,
-    )
+    lent.put(done)
 }
 
 // A traced run of rows lent as numbers: for each step the two lists get how many steps were ready, and the row that orders the one taken.
@@ -99,43 +56,21 @@ pub fn run_rows_traced(
     sheet: &[u8],
     choices: &[u16],
     budget: u32,
-    cells: &mut [i32],
-    marks: &mut [u8],
-    states: &mut [u8],
-    places: &mut [u32],
-    numbers: &mut [i32],
-    counts: &mut [u32],
-    output_marks: &mut [u8],
+    lent: &mut LentBuffers<'_>,
     readied: &mut [u16],
     taken: &mut [u16],
 ) -> Answer
-    ensures { record { reply = record { answer = result; buffers = left_buffers cells marks states places numbers counts output_marks }; lists = left_lists readied taken } ≡ reply_traced (lent_task rows sheet choices budget) (lent_buffers cells marks states places numbers counts output_marks) (lent_lists readied taken) }
+    ensures answered { record { reply = record { answer = result; buffers = buffers_in lent.new }; lists = left_lists readied taken } ≡ reply_traced (lent_task rows sheet choices budget) (buffers_in lent.old) (lent_lists readied taken) }
+    ensures same { SameBuffers lent.old lent.new }
 {
     if run_trace::lists_short(readied.len(), taken.len()) {
         return Answer::Refused(1, 0);
     }
-    if write_buffers::too_short(
-        cells.len(),
-        marks.len(),
-        states.len(),
-        places.len(),
-        numbers.len(),
-        counts.len(),
-        output_marks.len(),
-    ) {
+    if lent.too_short() {
         return Answer::Refused(1, 0);
     }
     let done = call_tasks::do_rows(rows, sheet, choices, budget, readied, taken);
-    write_buffers::put_done(
-        done,
-        cells,
-        marks,
-        states,
-        places,
-        numbers,
-        counts,
-        output_marks,
-    )
+    lent.put(done)
 }
 
 // A traced run of a table's bytes.
@@ -144,41 +79,19 @@ pub fn run_table_traced(
     sheet: &[u8],
     choices: &[u16],
     budget: u32,
-    cells: &mut [i32],
-    marks: &mut [u8],
-    states: &mut [u8],
-    places: &mut [u32],
-    numbers: &mut [i32],
-    counts: &mut [u32],
-    output_marks: &mut [u8],
+    lent: &mut LentBuffers<'_>,
     readied: &mut [u16],
     taken: &mut [u16],
 ) -> Answer
-    ensures { record { reply = record { answer = result; buffers = left_buffers cells marks states places numbers counts output_marks }; lists = left_lists readied taken } ≡ reply_to_bytes_traced table.now sheet.now choices.now budget (lent_buffers cells marks states places numbers counts output_marks) (lent_lists readied taken) }
+    ensures answered { record { reply = record { answer = result; buffers = buffers_in lent.new }; lists = left_lists readied taken } ≡ reply_to_bytes_traced table.now sheet.now choices.now budget (buffers_in lent.old) (lent_lists readied taken) }
+    ensures same { SameBuffers lent.old lent.new }
 {
     if run_trace::lists_short(readied.len(), taken.len()) {
         return Answer::Refused(1, 0);
     }
-    if write_buffers::too_short(
-        cells.len(),
-        marks.len(),
-        states.len(),
-        places.len(),
-        numbers.len(),
-        counts.len(),
-        output_marks.len(),
-    ) {
+    if lent.too_short() {
         return Answer::Refused(1, 0);
     }
     let done = call_tasks::do_table(table, sheet, choices, budget, readied, taken);
-    write_buffers::put_done(
-        done,
-        cells,
-        marks,
-        states,
-        places,
-        numbers,
-        counts,
-        output_marks,
-    )
+    lent.put(done)
 }

@@ -1,12 +1,13 @@
 -- What a task comes to, with arrays of zeros lent and two lists of any length.
-use Rattle.std.specs.Prelude.{◌≡◌, List, ℕ, ℤ}
+use Rattle.std.specs.Prelude.{◌≡◌, Result as Done, List, ℕ, ℤ}
 use Rattle.std.proofs.Math.Option.{none}
 use Rattle.meaning.specs.TableBytes.{rows_of}
 use Rattle.meaning.specs.Sheet.{sheet_fault, readings}
 use Rattle.meaning.specs.Answers.{Task, result, result_of_bytes, reply_of}
 use Rattle.meaning.specs.Trace.{trace, TraceLists, TracedReply}
 use Rattle.machine.specs.Held.{blank, KeptReadings}
-use Rattle.write_buffers.specs.declared.Done.{Done}
+use Rattle.run_steps.specs.declared.result.Run.{Run}
+use Rattle.write_buffers.specs.declared.Refusal.{Refusal}
 use Rattle.write_buffers.specs.Replies.{reply_in}
 use Rattle.run_trace.specs.Cleared.{lists_left}
 
@@ -31,10 +32,10 @@ abbrev pub task_with : List ℤ → List ℕ → List ℕ → ℕ → Task
 task_with rows sheet choices budget = record { rows = rows; sheet = sheet; choices = choices; budget = budget }
 
 -- what is handed back, and the two lists, are what a task comes to; what the call of a table's bytes comes to
-abbrev pub DoneAs : Task → Done → TraceLists → TraceLists → Type 0
+abbrev pub DoneAs : Task → Done Run Refusal → TraceLists → TraceLists → Type 0
 DoneAs t d first lists = record { reply = reply_in d; lists = lists } ≡ task_done t first
 
-abbrev pub TableDoneAs : List ℕ → List ℕ → List ℕ → ℕ → Done → TraceLists → TraceLists → Type 0
+abbrev pub TableDoneAs : List ℕ → List ℕ → List ℕ → ℕ → Done Run Refusal → TraceLists → TraceLists → Type 0
 TableDoneAs table sheet choices budget d first lists = record { reply = reply_in d; lists = lists } ≡ table_done table sheet choices budget first
 
 -- a sheet is not refused, and the arrays keep its readings

@@ -5,66 +5,16 @@ ghost use Rattle.std.specs.Prelude.{◌≡◌, List, ℕ, ◌≤◌};
 ghost use Rattle.std.proofs.Math.Option.{none};
 ghost use Rattle.meaning.specs.Readings.{Sheet};
 ghost use Rattle.meaning.specs.Answers.{check};
-ghost use Rattle.machine.specs.Held.{blank, KeptReadings};
+ghost use Rattle.machine.specs.Held.{KeptReadings};
 ghost use Rattle.machine.specs.Lending.{lent_lists, left_lists};
-ghost use Rattle.meaning.specs.declared.Answer.TheVariants.{Refused, Ran};
-ghost use Rattle.run_steps.specs.Ran.{arrays_in};
-ghost use Rattle.write_buffers.specs.Replies.{reply_in};
 ghost use Rattle.write_buffers.specs.Lending.{lent_task};
 ghost use Rattle.call_tasks.specs.Tasks.{task_with, DoneAs, TableDoneAs, SheetKept};
 
-use meaning::{Answer, Verdict};
+use meaning::Verdict;
 use read_sheet::SheetError;
 use read_table::TableError;
 use run_steps::result::Run;
-use write_buffers::Done;
-
-// A refusal by its number and place.
-fn refused(number: u8, place: u32) -> Done
-    ensures { reply_in result ≡ record { answer = Refused number place; buffers = blank } }
-{
-    let cells = [0i32; 256];
-    let marks = [0u8; 256];
-    let states = [0u8; 1024];
-    let places = [0u32; 8];
-    let numbers = [0i32; 1024];
-    let counts = [0u32; 8];
-    let output_marks = [0u8; 1024];
-    Done {
-        answer: Answer::Refused(number, place),
-        cells,
-        marks,
-        states,
-        places,
-        numbers,
-        counts,
-        output_marks,
-    }
-}
-
-// What a run comes to.
-fn ran(r: Run) -> Done
-    ensures { reply_in result ≡ record { answer = Ran r.outcome r.steps r.ready; buffers = arrays_in r } }
-{
-    let outcome = r.outcome;
-    let cells = r.state.values;
-    let marks = r.state.marks;
-    let states = r.states;
-    let places = r.state.places;
-    let numbers = r.outputs.numbers;
-    let counts = r.outputs.counts;
-    let output_marks = r.outputs.marks;
-    Done {
-        answer: Answer::Ran(outcome, r.steps, r.ready),
-        cells,
-        marks,
-        states,
-        places,
-        numbers,
-        counts,
-        output_marks,
-    }
-}
+use write_buffers::Refusal;
 
 // The run of an accepted table on the readings that are kept, if the budget is not refused. The two lists are cleared before it.
 fn run_readings<'a>(
@@ -76,18 +26,21 @@ fn run_readings<'a>(
     budget: u32,
     readied: &mut [u16],
     taken: &mut [u16],
-) -> Done
+) -> Result<Run, Refusal>
     requires accepted { check rows.now ≡ none }
     requires kept { (sheet : Sheet) × KeptReadings rows.now sheet readings.now given.now lines }
     requires few { lines ≤ 128 }
     ensures { (sheet : List ℕ) → SheetKept rows.now sheet readings.now given.now lines → DoneAs (task_with rows.now sheet choices.now budget) result (lent_lists readied taken) (left_lists readied taken) }
 {
     if 65536 < budget {
-        return refused(11, 0);
+        return Err(Refusal {
+            number: 11,
+            place: 0,
+        });
     }
     run_trace::clear(readied);
     run_trace::clear(taken);
-    ran(run_steps::run(
+    Ok(run_steps::run(
         rows, readings, given, lines, choices, budget, readied, taken,
     ))
 }
@@ -100,15 +53,18 @@ fn run_wide(
     budget: u32,
     readied: &mut [u16],
     taken: &mut [u16],
-) -> Done
+) -> Result<Run, Refusal>
     requires { check rows.now ≡ none }
     ensures { DoneAs (lent_task rows sheet choices budget) result (lent_lists readied taken) (left_lists readied taken) }
 {
     let mut readings = [0i32; 1024];
     let mut given = [0u8; 1024];
     match read_sheet::read_sheet(rows, sheet, &mut readings, &mut given) {
-        Err(SheetError::Refused(place)) => refused(10, place),
-        Err(SheetError::Full) => refused(10, 0),
+        Err(SheetError::Refused(place)) => Err(Refusal { number: 10, place }),
+        Err(SheetError::Full) => Err(Refusal {
+            number: 10,
+            place: 0,
+        }),
         Ok(lines) => run_readings(
             rows, &readings, &given, lines, choices, budget, readied, taken,
         ),
@@ -123,14 +79,14 @@ fn run_sheet(
     budget: u32,
     readied: &mut [u16],
     taken: &mut [u16],
-) -> Done
+) -> Result<Run, Refusal>
     requires { check rows.now ≡ none }
     ensures { DoneAs (lent_task rows sheet choices budget) result (lent_lists readied taken) (left_lists readied taken) }
 {
     let mut readings = [0i32; 512];
     let mut given = [0u8; 512];
     match read_sheet::read_sheet(rows, sheet, &mut readings, &mut given) {
-        Err(SheetError::Refused(line)) => refused(10, line),
+        Err(SheetError::Refused(place)) => Err(Refusal { number: 10, place }),
         Err(SheetError::Full) => run_wide(rows, sheet, choices, budget, readied, taken),
         Ok(lines) => run_readings(
             rows, &readings, &given, lines, choices, budget, readied, taken,
@@ -146,12 +102,12 @@ pub fn do_rows(
     budget: u32,
     readied: &mut [u16],
     taken: &mut [u16],
-) -> Done
+) -> Result<Run, Refusal>
     ensures { DoneAs (lent_task rows sheet choices budget) result (lent_lists readied taken) (left_lists readied taken) }
 {
     let verdict = check_verdict::check_rows(rows);
     match verdict {
-        Verdict::Rejected(number, row) => refused(number, row),
+        Verdict::Rejected(number, place) => Err(Refusal { number, place }),
         Verdict::Accepted => run_sheet(rows, sheet, choices, budget, readied, taken),
     }
 }
@@ -164,12 +120,12 @@ pub fn do_table(
     budget: u32,
     readied: &mut [u16],
     taken: &mut [u16],
-) -> Done
+) -> Result<Run, Refusal>
     ensures { TableDoneAs table.now sheet.now choices.now budget result (lent_lists readied taken) (left_lists readied taken) }
 {
     let mut small = [0i32; 512];
     match read_table::read_table(table, &mut small) {
-        Err(TableError::Refused(number, place)) => refused(number, place),
+        Err(TableError::Refused(number, place)) => Err(Refusal { number, place }),
         Ok(n) => do_rows(&small[..4 * n], sheet, choices, budget, readied, taken),
         Err(TableError::Full) => do_large(table, sheet, choices, budget, readied, taken),
     }
@@ -183,13 +139,16 @@ fn do_large(
     budget: u32,
     readied: &mut [u16],
     taken: &mut [u16],
-) -> Done
+) -> Result<Run, Refusal>
     ensures { TableDoneAs table.now sheet.now choices.now budget result (lent_lists readied taken) (left_lists readied taken) }
 {
     let mut large = [0i32; 4096];
     match read_table::read_table(table, &mut large) {
-        Err(TableError::Refused(number, place)) => refused(number, place),
+        Err(TableError::Refused(number, place)) => Err(Refusal { number, place }),
         Ok(n) => do_rows(&large[..4 * n], sheet, choices, budget, readied, taken),
-        Err(TableError::Full) => refused(3, 1024),
+        Err(TableError::Full) => Err(Refusal {
+            number: 3,
+            place: 1024,
+        }),
     }
 }

@@ -20,8 +20,6 @@ use Rattle.grammar.specs.TextRows.{text_rows}
 use Rattle.grammar.specs.TextRead.{text_fault}
 use Rattle.grammar.specs.TextCalls.{check_text, reply_to_text}
 use Rattle.agreement_texts.proofs.TextCalls.{short-refused-text, text-as-rows}
-use Rattle.write_buffers.specs.Replies.{any_short}
-use Rattle.write_buffers.proofs.RepliesPut.{short_in}
 use Rattle.agreement_texts.proofs.TextRefusals.{rows_whole}
 use Rattle.read_text.specs.Reading.{max_numbers, rows_in, refused, read_unless, text_read}
 use Rattle.read_text.specs.declared.Refused as read
@@ -79,16 +77,9 @@ unfolding check_text
 verdict-on-rows text e = rw e
 
 -- the reply
-too-short-is : (b : Buffers) (short : Bool) → short ≡ short_in b → short ≡ too_short b
-unfolding any_short
-too-short-is b short told = told
-
-pub long-enough : (b : Buffers) (short : Bool) → short ≡ short_in b → short ≡ false → too_short b ≡ false
-long-enough b short told e = sym (too-short-is b short told) ∙ e
-
-pub reply-short : (text sheet choices : List ℕ) (budget : ℕ) (b : Buffers) (short : Bool) → short ≡ short_in b → short ≡ true
+pub reply-short : (text sheet choices : List ℕ) (budget : ℕ) (b : Buffers) (short : Bool) → short ≡ too_short b → short ≡ true
     → ◌≡◌ {A = Reply} (record { answer = Refused 1 0; buffers = b }) (reply_to_text text sheet choices budget b)
-reply-short text sheet choices budget b short told e = sym (short-refused-text text sheet choices budget b (sym (too-short-is b short told) ∙ e))
+reply-short text sheet choices budget b short told e = sym (short-refused-text text sheet choices budget b (sym told ∙ e))
 
 pub reply-refused : (text sheet choices : List ℕ) (budget : ℕ) (b : Buffers) (number place : ℕ) → too_short b ≡ false → text_fault text ≡ some (number, place)
     → ◌≡◌ {A = Reply} (record { answer = Refused number place; buffers = b }) (reply_to_text text sheet choices budget b)

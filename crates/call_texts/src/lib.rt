@@ -5,9 +5,10 @@ ghost use Rattle.std.specs.Prelude.{◌≡◌, false, ◌≤◌, length};
 ghost use Rattle.meaning.specs.Buffers.{too_short};
 ghost use Rattle.meaning.specs.Answers.{verdict_of};
 ghost use Rattle.grammar.specs.TextCalls.{check_text, reply_to_text};
-ghost use Rattle.write_buffers.specs.Lending.{buffers_at, lent_buffers, left_buffers};
+ghost use Rattle.write_buffers.specs.Lending.{buffers_in, SameBuffers};
 
 use meaning::{Answer, Verdict};
+use write_buffers::LentBuffers;
 
 // The verdict on a text, read into lent rows.
 fn check_read(text: &[u8], rows: &mut [i32]) -> Verdict
@@ -35,16 +36,12 @@ fn run_read(
     sheet: &[u8],
     choices: &[u16],
     budget: u32,
-    cells: &mut [i32],
-    marks: &mut [u8],
-    states: &mut [u8],
-    places: &mut [u32],
-    numbers: &mut [i32],
-    counts: &mut [u32],
-    output_marks: &mut [u8],
+    lent: &mut LentBuffers<'_>,
 ) -> Answer
-    requires { (4096 ≤ length rows.old) × (too_short (buffers_at cells marks states places numbers counts output_marks) ≡ false) }
-    ensures { record { answer = result; buffers = left_buffers cells marks states places numbers counts output_marks } ≡ reply_to_text text.now sheet.now choices.now budget (lent_buffers cells marks states places numbers counts output_marks) }
+    requires room { 4096 ≤ length rows.old }
+    requires long { too_short (buffers_in lent.old) ≡ false }
+    ensures answered { record { answer = result; buffers = buffers_in lent.new } ≡ reply_to_text text.now sheet.now choices.now budget (buffers_in lent.old) }
+    ensures same { SameBuffers lent.old lent.new }
 {
     match read_text::read_text(text, rows) {
         Err(refused) => Answer::Refused(refused.number, refused.place),
@@ -53,13 +50,7 @@ fn run_read(
             sheet,
             choices,
             budget,
-            cells,
-            marks,
-            states,
-            places,
-            numbers,
-            counts,
-            output_marks,
+            lent,
         ),
     }
 }
@@ -70,40 +61,14 @@ pub fn run_text(
     sheet: &[u8],
     choices: &[u16],
     budget: u32,
-    cells: &mut [i32],
-    marks: &mut [u8],
-    states: &mut [u8],
-    places: &mut [u32],
-    numbers: &mut [i32],
-    counts: &mut [u32],
-    output_marks: &mut [u8],
+    lent: &mut LentBuffers<'_>,
 ) -> Answer
-    ensures { record { answer = result; buffers = left_buffers cells marks states places numbers counts output_marks } ≡ reply_to_text text.now sheet.now choices.now budget (lent_buffers cells marks states places numbers counts output_marks) }
+    ensures answered { record { answer = result; buffers = buffers_in lent.new } ≡ reply_to_text text.now sheet.now choices.now budget (buffers_in lent.old) }
+    ensures same { SameBuffers lent.old lent.new }
 {
-    if write_buffers::too_short(
-        cells.len(),
-        marks.len(),
-        states.len(),
-        places.len(),
-        numbers.len(),
-        counts.len(),
-        output_marks.len(),
-    ) {
+    if lent.too_short() {
         return Answer::Refused(1, 0);
     }
     let mut rows = [0i32; 4096];
-    run_read(
-        text,
-        &mut rows,
-        sheet,
-        choices,
-        budget,
-        cells,
-        marks,
-        states,
-        places,
-        numbers,
-        counts,
-        output_marks,
-    )
+    run_read(text, &mut rows, sheet, choices, budget, lent)
 }

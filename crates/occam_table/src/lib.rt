@@ -7,7 +7,7 @@ ghost use Rattle.meaning.specs.Answers.{check, check_bytes, verdict_of, check_co
 ghost use Rattle.grammar.specs.TextCalls.{check_text, reply_to_text};
 ghost use Rattle.meaning.specs.Trace.{reply_traced, reply_to_bytes_traced};
 ghost use Rattle.machine.specs.Lending.{lent_lists, left_lists};
-ghost use Rattle.write_buffers.specs.Lending.{lent_task, lent_buffers, left_buffers};
+ghost use Rattle.write_buffers.specs.Lending.{lent_task, buffers_in, SameBuffers};
 ghost use Rattle.occam_table.specs.Packing.{verdict_number, checked_number};
 ghost use Rattle.occam_table.specs.Exports.{packed, packed_traced, strip_number};
 ghost use Rattle.occam_table.specs.RowsLent.{rows_lent, read_lent};
@@ -15,12 +15,14 @@ ghost use Rattle.occam_table.specs.RowsLent.{rows_lent, read_lent};
 mod packing; // packing.rt: answers as one number
 
 use read_table::TableError;
+use write_buffers::copying;
 
 // The public entries of Rattle callers: the verdict, alone or with its count, the run, untraced and traced, the same of a text and its rows, the strip of a host channel and its marks.
 pub use call_table::{run_rows, run_rows_traced, run_table, run_table_traced};
 pub use call_texts::{check_text, run_text};
 pub use check_verdict::{check_rows, check_rows_counted, check_table, check_table_counted};
 pub use read_text::read_text;
+pub use write_buffers::LentBuffers;
 pub use write_strips::{strip, strip_marks};
 
 // The verdict on rows lent as numbers.
@@ -57,29 +59,12 @@ pub fn occam_run_rows(
     sheet: &[u8],
     choices: &[u16],
     budget: u32,
-    cells: &mut [i32],
-    marks: &mut [u8],
-    states: &mut [u8],
-    places: &mut [u32],
-    numbers: &mut [i32],
-    counts: &mut [u32],
-    output_marks: &mut [u8],
+    lent: &mut LentBuffers<'_>,
 ) -> u64
-    ensures { record { number = result; buffers = left_buffers cells marks states places numbers counts output_marks } ≡ packed (reply (lent_task rows sheet choices budget) (lent_buffers cells marks states places numbers counts output_marks)) }
+    ensures answered { record { number = result; buffers = buffers_in lent.new } ≡ packed (reply (lent_task rows sheet choices budget) (buffers_in lent.old)) }
+    ensures same { SameBuffers lent.old lent.new }
 {
-    packing::answer_number(call_table::run_rows(
-        rows,
-        sheet,
-        choices,
-        budget,
-        cells,
-        marks,
-        states,
-        places,
-        numbers,
-        counts,
-        output_marks,
-    ))
+    packing::answer_number(call_table::run_rows(rows, sheet, choices, budget, lent))
 }
 
 // A run of a table's bytes.
@@ -88,29 +73,12 @@ pub fn occam_run_table(
     sheet: &[u8],
     choices: &[u16],
     budget: u32,
-    cells: &mut [i32],
-    marks: &mut [u8],
-    states: &mut [u8],
-    places: &mut [u32],
-    numbers: &mut [i32],
-    counts: &mut [u32],
-    output_marks: &mut [u8],
+    lent: &mut LentBuffers<'_>,
 ) -> u64
-    ensures { record { number = result; buffers = left_buffers cells marks states places numbers counts output_marks } ≡ packed (reply_to_bytes table.now sheet.now choices.now budget (lent_buffers cells marks states places numbers counts output_marks)) }
+    ensures answered { record { number = result; buffers = buffers_in lent.new } ≡ packed (reply_to_bytes table.now sheet.now choices.now budget (buffers_in lent.old)) }
+    ensures same { SameBuffers lent.old lent.new }
 {
-    packing::answer_number(call_table::run_table(
-        table,
-        sheet,
-        choices,
-        budget,
-        cells,
-        marks,
-        states,
-        places,
-        numbers,
-        counts,
-        output_marks,
-    ))
+    packing::answer_number(call_table::run_table(table, sheet, choices, budget, lent))
 }
 
 // A traced run of rows lent as numbers: for each step how many steps were ready, and the row that orders the one taken, in two lent lists of
@@ -120,32 +88,15 @@ pub fn occam_run_rows_traced(
     sheet: &[u8],
     choices: &[u16],
     budget: u32,
-    cells: &mut [i32],
-    marks: &mut [u8],
-    states: &mut [u8],
-    places: &mut [u32],
-    numbers: &mut [i32],
-    counts: &mut [u32],
-    output_marks: &mut [u8],
+    lent: &mut LentBuffers<'_>,
     readied: &mut [u16],
     taken: &mut [u16],
 ) -> u64
-    ensures { record { reply = record { number = result; buffers = left_buffers cells marks states places numbers counts output_marks }; lists = left_lists readied taken } ≡ packed_traced (reply_traced (lent_task rows sheet choices budget) (lent_buffers cells marks states places numbers counts output_marks) (lent_lists readied taken)) }
+    ensures answered { record { reply = record { number = result; buffers = buffers_in lent.new }; lists = left_lists readied taken } ≡ packed_traced (reply_traced (lent_task rows sheet choices budget) (buffers_in lent.old) (lent_lists readied taken)) }
+    ensures same { SameBuffers lent.old lent.new }
 {
     packing::answer_number(call_table::run_rows_traced(
-        rows,
-        sheet,
-        choices,
-        budget,
-        cells,
-        marks,
-        states,
-        places,
-        numbers,
-        counts,
-        output_marks,
-        readied,
-        taken,
+        rows, sheet, choices, budget, lent, readied, taken,
     ))
 }
 
@@ -155,32 +106,15 @@ pub fn occam_run_table_traced(
     sheet: &[u8],
     choices: &[u16],
     budget: u32,
-    cells: &mut [i32],
-    marks: &mut [u8],
-    states: &mut [u8],
-    places: &mut [u32],
-    numbers: &mut [i32],
-    counts: &mut [u32],
-    output_marks: &mut [u8],
+    lent: &mut LentBuffers<'_>,
     readied: &mut [u16],
     taken: &mut [u16],
 ) -> u64
-    ensures { record { reply = record { number = result; buffers = left_buffers cells marks states places numbers counts output_marks }; lists = left_lists readied taken } ≡ packed_traced (reply_to_bytes_traced table.now sheet.now choices.now budget (lent_buffers cells marks states places numbers counts output_marks) (lent_lists readied taken)) }
+    ensures answered { record { reply = record { number = result; buffers = buffers_in lent.new }; lists = left_lists readied taken } ≡ packed_traced (reply_to_bytes_traced table.now sheet.now choices.now budget (buffers_in lent.old) (lent_lists readied taken)) }
+    ensures same { SameBuffers lent.old lent.new }
 {
     packing::answer_number(call_table::run_table_traced(
-        table,
-        sheet,
-        choices,
-        budget,
-        cells,
-        marks,
-        states,
-        places,
-        numbers,
-        counts,
-        output_marks,
-        readied,
-        taken,
+        table, sheet, choices, budget, lent, readied, taken,
     ))
 }
 
@@ -197,7 +131,7 @@ pub fn occam_read_rows(table: &[u8], rows: &mut [i32]) -> u64
         Err(TableError::Refused(_, _)) => 0,
         Ok(count) => {
             let n = 4 * count;
-            write_buffers::copying::copy_numbers(&held[..n], rows);
+            copying::copy_over(&held[..n], rows);
             n as u64
         }
         Err(TableError::Full) => 0,
@@ -224,29 +158,12 @@ pub fn occam_run_text(
     sheet: &[u8],
     choices: &[u16],
     budget: u32,
-    cells: &mut [i32],
-    marks: &mut [u8],
-    states: &mut [u8],
-    places: &mut [u32],
-    numbers: &mut [i32],
-    counts: &mut [u32],
-    output_marks: &mut [u8],
+    lent: &mut LentBuffers<'_>,
 ) -> u64
-    ensures { record { number = result; buffers = left_buffers cells marks states places numbers counts output_marks } ≡ packed (reply_to_text text.now sheet.now choices.now budget (lent_buffers cells marks states places numbers counts output_marks)) }
+    ensures answered { record { number = result; buffers = buffers_in lent.new } ≡ packed (reply_to_text text.now sheet.now choices.now budget (buffers_in lent.old)) }
+    ensures same { SameBuffers lent.old lent.new }
 {
-    packing::answer_number(call_texts::run_text(
-        text,
-        sheet,
-        choices,
-        budget,
-        cells,
-        marks,
-        states,
-        places,
-        numbers,
-        counts,
-        output_marks,
-    ))
+    packing::answer_number(call_texts::run_text(text, sheet, choices, budget, lent))
 }
 
 // Where the strip of an output channel begins, in the output numbers as in their marks, and its capacity.

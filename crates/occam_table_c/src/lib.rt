@@ -11,6 +11,8 @@ ghost use Rattle.occam_table.specs.Packing.{verdict_number, checked_number};
 ghost use Rattle.occam_table.specs.Exports.{packed, packed_traced, strip_number};
 ghost use Rattle.occam_table.specs.RowsLent.{rows_lent, read_lent};
 
+use occam_table::LentBuffers;
+
 // The verdict on rows lent as numbers.
 #[unsafe(no_mangle)]
 pub extern "C" fn occam_check_rows(rows: &[i32]) -> u64
@@ -65,13 +67,15 @@ pub extern "C" fn occam_run_rows(
         sheet,
         choices,
         budget,
-        cells,
-        marks,
-        states,
-        places,
-        numbers,
-        counts,
-        output_marks,
+        &mut LentBuffers {
+            cells,
+            marks,
+            states,
+            places,
+            numbers,
+            counts,
+            output_marks,
+        },
     )
 }
 
@@ -97,13 +101,15 @@ pub extern "C" fn occam_run_table(
         sheet,
         choices,
         budget,
-        cells,
-        marks,
-        states,
-        places,
-        numbers,
-        counts,
-        output_marks,
+        &mut LentBuffers {
+            cells,
+            marks,
+            states,
+            places,
+            numbers,
+            counts,
+            output_marks,
+        },
     )
 }
 
@@ -132,13 +138,15 @@ pub extern "C" fn occam_run_rows_traced(
         sheet,
         choices,
         budget,
-        cells,
-        marks,
-        states,
-        places,
-        numbers,
-        counts,
-        output_marks,
+        &mut LentBuffers {
+            cells,
+            marks,
+            states,
+            places,
+            numbers,
+            counts,
+            output_marks,
+        },
         readied,
         taken,
     )
@@ -168,13 +176,15 @@ pub extern "C" fn occam_run_table_traced(
         sheet,
         choices,
         budget,
-        cells,
-        marks,
-        states,
-        places,
-        numbers,
-        counts,
-        output_marks,
+        &mut LentBuffers {
+            cells,
+            marks,
+            states,
+            places,
+            numbers,
+            counts,
+            output_marks,
+        },
         readied,
         taken,
     )
@@ -227,13 +237,15 @@ pub extern "C" fn occam_run_text(
         sheet,
         choices,
         budget,
-        cells,
-        marks,
-        states,
-        places,
-        numbers,
-        counts,
-        output_marks,
+        &mut LentBuffers {
+            cells,
+            marks,
+            states,
+            places,
+            numbers,
+            counts,
+            output_marks,
+        },
     )
 }
 

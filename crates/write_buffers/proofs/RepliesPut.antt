@@ -9,24 +9,15 @@ use lib.Dec.{ltb}
 use borrow.Author.Tests.{ltb-false}
 use Rattle.meaning.specs.Limits.{max_rows, max_cells, max_host_channels, max_capacity}
 use Rattle.meaning.specs.State.{State}
-use Rattle.meaning.specs.Buffers.{Buffers, mark, number_in, capacities, strips, lent, encode}
+use Rattle.meaning.specs.Buffers.{Buffers, too_short, mark, number_in, capacities, strips, lent, encode}
 use Rattle.meaning.specs.TableBytes.{rows_of}
 use Rattle.meaning.specs.Stages.{buffer_fault}
 use Rattle.meaning.specs.Answers.{Task, Result, Reply, refused, ran, reply_of, unless, result, result_of_bytes, reply, reply_to_bytes}
-use Rattle.meaning.specs.declared.Outcome.{Outcome}
 use Rattle.meaning.specs.declared.Answer.TheVariants.{Refused, Ran}
 use Rattle.meaning.proofs.AnswerLaws.{reply-stages, reply-to-bytes}
 use Rattle.meaning.proofs.LentLaws.{sized-length, lent-blank}
 use Rattle.machine.specs.Held.{blank}
-use Rattle.write_buffers.specs.declared.Done.{Done}
-use Rattle.write_buffers.specs.Replies.{past, reply_in, over, put_reply, any_short, Long}
-
-module _ (d : Done) (b : Buffers) where
-  pub put_refused : (n p : ℕ) → d.answer ≡ Refused n p → ◌≡◌ {A = Reply} (record { answer = Refused n p; buffers = b }) (put_reply (reply_in d) b)
-  put_refused n p e = rw e
-
-  pub put-ran : (o : Outcome) (k n : ℕ) (r : Buffers) → d.answer ≡ Ran o k n → r ≡ over (reply_in d).buffers b → ◌≡◌ {A = Reply} (record { answer = Ran o k n; buffers = r }) (put_reply (reply_in d) b)
-  put-ran o k n r e h = rw (e, h)
+use Rattle.write_buffers.specs.Replies.{past, over, put_reply, Long}
 
 module _ {A : Type 0} where
   -- a list in a lent buffer is what it is over zeros, with what is past the limit
@@ -51,28 +42,24 @@ put-reply : (rows : List ℤ) (b : Buffers) (q : Result) → put_reply (reply_of
 put-reply rows b (refused f) = refl
 put-reply rows b (ran r) = λ i. record { answer = Ran r.outcome r.steps r.ready; buffers = over-encoded rows r.state b i }
 
--- whether a lent buffer is too short, by the lengths
-abbrev pub short_in : Buffers → Bool
-short_in b = any_short (length b.cells) (length b.marks) (length b.states) (length b.places) (length b.numbers) (length b.counts) (length b.output_marks)
-
 module _ (rows : List ℤ) (b : Buffers) (q : Result) where
-  short-refused : short_in b ≡ true → ◌≡◌ {A = Reply} (record { answer = Refused 1 0; buffers = b }) (reply_of rows b (unless (buffer_fault b) q))
-  unfolding buffer_fault any_short
+  short-refused : too_short b ≡ true → ◌≡◌ {A = Reply} (record { answer = Refused 1 0; buffers = b }) (reply_of rows b (unless (buffer_fault b) q))
+  unfolding buffer_fault
   short-refused e = rw e
 
-  long-replies : short_in b ≡ false → put_reply (reply_of rows blank q) b ≡ reply_of rows b (unless (buffer_fault b) q)
-  unfolding buffer_fault any_short
+  long-replies : too_short b ≡ false → put_reply (reply_of rows blank q) b ≡ reply_of rows b (unless (buffer_fault b) q)
+  unfolding buffer_fault
   long-replies e = rw e (put-reply rows b q)
 
 -- a call with a buffer that is too short is refused, whatever its task; else the task's reply is put
-module _ (t : Task) (b : Buffers) (short : Bool) (told : short ≡ short_in b) where
+module _ (t : Task) (b : Buffers) (short : Bool) (told : short ≡ too_short b) where
   pub rows_short : short ≡ true → ◌≡◌ {A = Reply} (record { answer = Refused 1 0; buffers = b }) (reply t b)
   rows_short e = short-refused t.rows b (result t) (sym told ∙ e) ∙ sym (reply-stages t b)
 
   pub rows_long : (d r : Reply) → short ≡ false → d ≡ reply_of t.rows blank (result t) → r ≡ put_reply d b → r ≡ reply t b
   rows_long d r e done put = put ∙ ap (λ (x : Reply). put_reply x b) done ∙ long-replies t.rows b (result t) (sym told ∙ e) ∙ sym (reply-stages t b)
 
-module _ (table sheet choices : List ℕ) (budget : ℕ) (b : Buffers) (short : Bool) (told : short ≡ short_in b) where
+module _ (table sheet choices : List ℕ) (budget : ℕ) (b : Buffers) (short : Bool) (told : short ≡ too_short b) where
   pub bytes-short : short ≡ true → ◌≡◌ {A = Reply} (record { answer = Refused 1 0; buffers = b }) (reply_to_bytes table sheet choices budget b)
   bytes-short e = short-refused (rows_of table) b (result_of_bytes table sheet choices budget) (sym told ∙ e) ∙ sym (reply-to-bytes table sheet choices budget b)
 
@@ -90,8 +77,7 @@ none-holds false false false false true f g h = absurd (false≢true (sym h))
 none-holds false false false false false true g h = absurd (false≢true (sym h))
 none-holds false false false false false false g h = (refl, refl, refl, refl, refl, refl, h)
 
-pub all-long : (b : Buffers) (short : Bool) → short ≡ short_in b → short ≡ false → Long b
-unfolding any_short
+pub all-long : (b : Buffers) (short : Bool) → short ≡ too_short b → short ≡ false → Long b
 all-long b short told h =
     let n = none-holds (ltb (length b.cells) max_cells) (ltb (length b.marks) max_cells) (ltb (length b.states) max_rows) (ltb (length b.places) max_host_channels) (ltb (length b.numbers) max_capacity) (ltb (length b.counts) max_host_channels) (ltb (length b.output_marks) max_capacity) (sym told ∙ h) in
     record {

@@ -1,19 +1,19 @@
 -- A task's answer and arrays before they are put into the lent buffers, and how they are put there.
-use Rattle.std.specs.Prelude.{Bool, ◌||◌, List, ◌++◌, ℕ, ◌≤◌, length, drop, ltb}
+use Rattle.std.specs.Prelude.{Result, Ok, Err, List, ◌++◌, ◌≤◌, length, drop}
 use Rattle.meaning.specs.Limits.{max_rows, max_cells, max_host_channels, max_capacity}
 use Rattle.meaning.specs.Buffers.{Buffers}
 use Rattle.meaning.specs.Answers.{Reply}
 use Rattle.meaning.specs.declared.Answer.{Answer}
 use Rattle.meaning.specs.declared.Answer.TheVariants.{Refused, Ran}
-use Rattle.write_buffers.specs.declared.Done.{Done}
+use Rattle.machine.specs.Held.{blank}
+use Rattle.run_steps.specs.declared.result.Run.{Run}
+use Rattle.run_steps.specs.Ran.{arrays_in}
+use Rattle.write_buffers.specs.declared.Refusal.{Refusal}
 
--- an answer with its arrays, as a reply to a call that lent arrays of zeros
-abbrev pub reply_in : Done → Reply
-reply_in d =
-    record {
-      answer = d.answer;
-      buffers = record { cells = d.cells; marks = d.marks; states = d.states; places = d.places; numbers = d.numbers; counts = d.counts; output_marks = d.output_marks };
-    }
+-- what a task comes to, as a reply to a call that lent arrays of zeros
+abbrev pub reply_in : Result Run Refusal → Reply
+reply_in (Ok r) = record { answer = Ran r.outcome r.steps r.ready; buffers = arrays_in r }
+reply_in (Err f) = record { answer = Refused f.number f.place; buffers = blank }
 
 -- a list over the first places of another, with what is past them
 abbrev pub past : {A : Type 0} → List A → List A → List A
@@ -40,10 +40,6 @@ written_unless_refused (Ran o k n) a b = over a b
 -- a reply put into the lent buffers
 abbrev pub put_reply : Reply → Buffers → Reply
 put_reply r b = record { answer = r.answer; buffers = written_unless_refused r.answer r.buffers b }
-
--- whether a lent buffer is shorter than its limit, by the lengths of cells, marks, row states, places, numbers, counts and output marks
-unfoldable pub any_short : ℕ → ℕ → ℕ → ℕ → ℕ → ℕ → ℕ → Bool
-any_short a b c d e f g = ltb a max_cells || ltb b max_cells || ltb c max_rows || ltb d max_host_channels || ltb e max_capacity || ltb f max_host_channels || ltb g max_capacity
 
 -- "Each lent buffer must be as long as its limit": the same said of each
 pub record Long (b : Buffers) : Type 0 where

@@ -1,109 +1,68 @@
 // The lent buffers: whether they are long enough, and what a task puts into them.
 #![tactic(auto)]
 
-ghost use Rattle.std.specs.Prelude.{◌≡◌, ◌≤◌, length};
-ghost use Rattle.write_buffers.specs.Replies.{past, any_short, Long, reply_in, put_reply};
-ghost use Rattle.write_buffers.specs.Lending.{buffers_at, lent_buffers, left_buffers};
+ghost use Rattle.std.specs.Prelude.{◌≡◌};
+ghost use Rattle.meaning.specs.Buffers.{too_short};
+ghost use Rattle.write_buffers.specs.Replies.{Long, reply_in, put_reply};
+ghost use Rattle.write_buffers.specs.Lending.{buffers_in, SameBuffers};
 
 pub mod copying; // copying.rt: a list over the first places of a buffer
 
-use copying::{copy_bytes, copy_counts, copy_numbers};
+use copying::copy_over;
 use meaning::Answer;
+use run_steps::result::Run;
 
-// What a task comes to: the answer, and the arrays that a run leaves, zeros in a refusal.
+// Why there is no run: the paper's number of the refusal, and its place.
 #[derive(Clone, Copy)]
-pub struct Done {
-    pub answer: Answer,
-    pub cells: [i32; 256],
-    pub marks: [u8; 256],
-    pub states: [u8; 1024],
-    pub places: [u32; 8],
-    pub numbers: [i32; 1024],
-    pub counts: [u32; 8],
-    pub output_marks: [u8; 1024],
+pub struct Refusal {
+    pub number: u8,
+    pub place: u32,
 }
 
-// Whether a lent buffer is shorter than its limit, by their lengths.
-pub fn too_short(
-    cells: usize,
-    marks: usize,
-    states: usize,
-    places: usize,
-    numbers: usize,
-    counts: usize,
-    output_marks: usize,
-) -> bool
-    ensures { result ≡ any_short cells marks states places numbers counts output_marks }
-{
-    if cells < 256 {
-        return true;
-    }
-    if marks < 256 {
-        return true;
-    }
-    if states < 1024 {
-        return true;
-    }
-    if places < 8 {
-        return true;
-    }
-    if numbers < 1024 {
-        return true;
-    }
-    if counts < 8 {
-        return true;
-    }
-    output_marks < 1024
+// The seven buffers that a call is lent.
+#[derive(Drop)]
+pub struct LentBuffers<'a> {
+    pub cells: &'a mut [i32],
+    pub marks: &'a mut [u8],
+    pub states: &'a mut [u8],
+    pub places: &'a mut [u32],
+    pub numbers: &'a mut [i32],
+    pub counts: &'a mut [u32],
+    pub output_marks: &'a mut [u8],
 }
 
-// A run's cells, their set marks and its row states.
-fn put_cells(d: Done, cells: &mut [i32], marks: &mut [u8], states: &mut [u8])
-    requires { (256 ≤ length cells.old) × (256 ≤ length marks.old) × (1024 ≤ length states.old) }
-    ensures { (cells.new ≡ past d.cells cells.old) × (marks.new ≡ past d.marks marks.old) × (states.new ≡ past d.states states.old) }
-{
-    copy_numbers(&d.cells, cells);
-    copy_bytes(&d.marks, marks);
-    copy_bytes(&d.states, states);
-}
+impl LentBuffers<'_> {
+    // Whether one of them is shorter than its limit.
+    pub fn too_short(&self) -> bool
+        ensures { result ≡ too_short (buffers_in self.now) }
+    {
+        self.cells.len() < 256
+            || self.marks.len() < 256
+            || self.states.len() < 1024
+            || self.places.len() < 8
+            || self.numbers.len() < 1024
+            || self.counts.len() < 8
+            || self.output_marks.len() < 1024
+    }
 
-// Its places in the readings, its output numbers, their counts and marks.
-fn put_host_channels(
-    d: Done,
-    places: &mut [u32],
-    numbers: &mut [i32],
-    counts: &mut [u32],
-    output_marks: &mut [u8],
-)
-    requires { (8 ≤ length places.old) × (1024 ≤ length numbers.old) × (8 ≤ length counts.old) × (1024 ≤ length output_marks.old) }
-    ensures { (places.new ≡ past d.places places.old) × (numbers.new ≡ past d.numbers numbers.old) × (counts.new ≡ past d.counts counts.old) × (output_marks.new ≡ past d.output_marks output_marks.old) }
-{
-    copy_counts(&d.places, places);
-    copy_numbers(&d.numbers, numbers);
-    copy_counts(&d.counts, counts);
-    copy_bytes(&d.output_marks, output_marks);
-}
-
-// The answer of a task; the arrays of a run are put into the lent buffers, those of a refusal are not.
-pub fn put_done(
-    d: Done,
-    cells: &mut [i32],
-    marks: &mut [u8],
-    states: &mut [u8],
-    places: &mut [u32],
-    numbers: &mut [i32],
-    counts: &mut [u32],
-    output_marks: &mut [u8],
-) -> Answer
-    requires { Long (buffers_at cells marks states places numbers counts output_marks) }
-    ensures { record { answer = result; buffers = left_buffers cells marks states places numbers counts output_marks } ≡ put_reply (reply_in d) (lent_buffers cells marks states places numbers counts output_marks) }
-{
-    let answer = d.answer;
-    match answer {
-        Answer::Refused(number, place) => Answer::Refused(number, place),
-        Answer::Ran(outcome, steps, ready) => {
-            put_cells(d, cells, marks, states);
-            put_host_channels(d, places, numbers, counts, output_marks);
-            Answer::Ran(outcome, steps, ready)
+    // The answer of a task; the arrays of a run are put into the buffers, a refusal leaves them alone.
+    pub fn put(&mut self, done: Result<Run, Refusal>) -> Answer
+        requires { Long (buffers_in self.old) }
+        ensures answered { record { answer = result; buffers = buffers_in self.new } ≡ put_reply (reply_in done) (buffers_in self.old) }
+        ensures same { SameBuffers self.old self.new }
+    {
+        match done {
+            Err(refusal) => Answer::Refused(refusal.number, refusal.place),
+            Ok(run) => {
+                copy_over(&run.state.values, self.cells);
+                copy_over(&run.state.marks, self.marks);
+                copy_over(&run.states, self.states);
+                copy_over(&run.state.places, self.places);
+                copy_over(&run.outputs.numbers, self.numbers);
+                copy_over(&run.outputs.counts, self.counts);
+                copy_over(&run.outputs.marks, self.output_marks);
+                Answer::Ran(run.outcome, run.steps, run.ready)
+            }
         }
     }
 }

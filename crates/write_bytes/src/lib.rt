@@ -25,10 +25,8 @@ pub fn put_bytes(bytes: &[u8], out: &mut [u8], at: usize) -> usize
     ensures { (result, out.new) ≡ put_all bytes.now (at, out.old) }
 {
     let mut place = at;
-    let mut i: usize = 0;
-    while i < bytes.len() {
-        place = put_byte(bytes[i], out, place);
-        i += 1;
+    for b in bytes {
+        place = put_byte(*b, out, place);
     }
     place
 }
@@ -37,10 +35,8 @@ pub fn put_bytes(bytes: &[u8], out: &mut [u8], at: usize) -> usize
 fn put_field(text: Text, out: &mut [u8], at: usize) -> usize
     ensures { (result, out.new) ≡ put_all (comma ∷ shown text) (at, out.old) }
 {
-    let place = put_byte(44, out, at);
-    let bytes = text.bytes;
-    let length = text.length;
-    put_bytes(slices::of_bytes(&bytes, 0, length), out, place)
+    let place = put_byte(b',', out, at);
+    put_bytes(slices::part(&text.bytes, 0, text.length), out, place)
 }
 
 // A line of four fields.
@@ -58,5 +54,5 @@ pub fn put_line(
     place = put_field(base_numbers::decimal(name), out, place);
     place = put_field(base_numbers::decimal(position), out, place);
     place = put_field(value, out, place);
-    put_byte(10, out, place)
+    put_byte(b'\n', out, place)
 }

@@ -1,12 +1,5 @@
 // Parts of slices, cut off at their ends.
-ghost use Rattle.std.specs.Prelude.{◌≡◌, ◌-◌, ◌<◌, pos, length, get_or, take, drop};
-
-// The smaller of two numbers.
-fn smaller(a: usize, b: usize) -> usize
-    ensures { result ≡ a - (a - b) }
-{
-    if a < b { a } else { b }
-}
+ghost use Rattle.std.specs.Prelude.{◌≡◌, ◌<◌, pos, length, get_or, take, drop};
 
 // The number at a place.
 pub fn number_at(s: &[i32], i: usize) -> i32
@@ -16,29 +9,10 @@ pub fn number_at(s: &[i32], i: usize) -> i32
     s[i]
 }
 
-// At most `size` bytes from a place on.
-pub fn of_bytes(s: &[u8], from: usize, size: usize) -> &[u8]
+// At most `size` elements from a place on.
+pub fn part<T>(s: &[T], from: usize, size: usize) -> &[T]
     ensures { result.now ≡ take size (drop from s.now) }
 {
-    let start = smaller(from, s.len());
-    let end = start + smaller(size, s.len() - start);
-    &s[start..end]
-}
-
-// The same of numbers.
-pub fn of_numbers(s: &[i32], from: usize, size: usize) -> &[i32]
-    ensures { result.now ≡ take size (drop from s.now) }
-{
-    let start = smaller(from, s.len());
-    let end = start + smaller(size, s.len() - start);
-    &s[start..end]
-}
-
-// The same of counts.
-pub fn of_counts(s: &[u32], from: usize, size: usize) -> &[u32]
-    ensures { result.now ≡ take size (drop from s.now) }
-{
-    let start = smaller(from, s.len());
-    let end = start + smaller(size, s.len() - start);
-    &s[start..end]
+    let rest = &s[from.min(s.len())..];
+    &rest[..size.min(rest.len())]
 }

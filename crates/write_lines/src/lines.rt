@@ -39,14 +39,12 @@ fn put_messages(
     ensures { (result, out.new) ≡ put_all (message_bytes word.now row 0 (decoded numbers.now marks.now)) (at, out.old) }
 {
     let mut place = at;
-    let mut i: usize = 0;
-    while i < numbers.len() {
+    for i in 0..numbers.len() {
         if marks.len() <= i {
             return place;
         }
         let text = message_text(marks[i], slices::number_at(numbers, i));
         place = put_line(word, row, i as u32, text, out, place);
-        i += 1;
     }
     place
 }
@@ -59,20 +57,18 @@ pub fn put_variables(rows: &[i32], marks: &[u8], values: &[i32], out: &mut [u8],
     let count = base_rows::declarations(rows);
     let mut place = at;
     let mut first: usize = 0;
-    let mut r: usize = 0;
-    while r < count {
+    for r in 0..count {
         let size = base_rows::cells_at(rows, count, r) as usize;
-        let cells = slices::of_numbers(values, first, size);
+        let cells = slices::part(values, first, size);
         place = put_messages(
             b"var",
             r as u32,
-            slices::of_bytes(marks, first, size),
+            slices::part(marks, first, size),
             cells,
             out,
             place,
         );
         first += size;
-        r += 1;
     }
     place
 }
@@ -106,21 +102,19 @@ pub fn put_outputs(
     let mut place = at;
     let mut first: usize = 0;
     let mut port: usize = 0;
-    let mut r: usize = 0;
-    while r < count {
+    for r in 0..count {
         let given = strip_count(rows, count, r, counts, port);
-        let strip = slices::of_numbers(numbers, first, given);
+        let strip = slices::part(numbers, first, given);
         place = put_messages(
             b"out",
             r as u32,
-            slices::of_bytes(marks, first, given),
+            slices::part(marks, first, given),
             strip,
             out,
             place,
         );
         first += base_rows::capacity_at(rows, count, r) as usize;
         port += base_rows::host_channels_at(2, rows, count, r) as usize;
-        r += 1;
     }
     place
 }
@@ -148,10 +142,8 @@ pub fn put_stops(states: &[u8], out: &mut [u8], at: usize) -> usize
     ensures { (result, out.new) ≡ put_lines (stop_lines 0 states.now) (at, out.old) }
 {
     let mut place = at;
-    let mut i: usize = 0;
-    while i < states.len() {
+    for i in 0..states.len() {
         place = put_stop(i as u32, states[i], out, place);
-        i += 1;
     }
     place
 }

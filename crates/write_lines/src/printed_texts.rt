@@ -62,17 +62,17 @@ pub fn run_printed_text(
 ) -> usize
     ensures { (result, out.new) ≡ printed_in (printed_lines (end_lines (table_rows rows.now) outcome steps (state_in (table_rows rows.now) values.now marks.now states.now numbers.now counts.now output_marks.now))) out.old }
 {
-    let table = slices::of_numbers(rows, 0, 4096);
+    let table = slices::part(rows, 0, 4096);
     put_run(
         table,
         outcome,
         steps,
-        slices::of_numbers(values, 0, 256),
-        slices::of_bytes(marks, 0, 256),
-        slices::of_bytes(states, 0, table.len() / 4),
-        slices::of_numbers(numbers, 0, 1024),
-        slices::of_counts(counts, 0, 8),
-        slices::of_bytes(output_marks, 0, 1024),
+        slices::part(values, 0, 256),
+        slices::part(marks, 0, 256),
+        slices::part(states, 0, table.len() / 4),
+        slices::part(numbers, 0, 1024),
+        slices::part(counts, 0, 8),
+        slices::part(output_marks, 0, 1024),
         out,
     )
 }

@@ -1,19 +1,21 @@
--- What is done of the task, a refusal or a run, is printed. Assumes nothing.
+-- What the task comes to, a refusal or a run, is printed. Assumes nothing.
+use mathlib.Core.Path.{refl, sym, ap, ◌∙◌}
+use Rattle.write_buffers.specs.Replies.{reply_in}
 use Rattle.call_runner.proofs.Stages.{refusal-done, run-done}
 use borrow.Author.Rules.{rules}
 use Rattle.call_runner.proofs.rows_printed_text.Goals as goal
 
-pub returns-in-Refused : goal.returns-in-Refused
-returns-in-Refused c =
+pub returns-in-Err : goal.returns-in-Err
+returns-in-Err c =
     let a = c.args in
-    let done = c.task_done-done in
-    let p = refusal-done a.rows.now a.sheet.now done.result done.ensures a.out.now c.in-Refused.number c.in-Refused.place c.in-Refused.is _ c.refusal_printed_text.ensures.written c.refusal_printed_text.ensures.fits in
+    let done = ap reply_in (sym c.in-Err.is) ∙ c.task_done.ensures in
+    let p = refusal-done a.rows.now a.sheet.now _ done a.out.now c.in-Err.refusal.number c.in-Err.refusal.place refl _ c.refusal_printed_text.ensures.written c.refusal_printed_text.ensures.fits in
     record { written = p.0; fits = p.1 }
 
-pub returns-in-Ran : goal.returns-in-Ran
-returns-in-Ran c =
+pub returns-in-Ok : goal.returns-in-Ok
+returns-in-Ok c =
     let a = c.args in
-    let done = c.task_done-done in
+    let done = ap reply_in (sym c.in-Ok.is) ∙ c.task_done.ensures in
     let states = c.row_states in
-    let p = run-done a.rows.now a.sheet.now done.result done.ensures a.out.now c.in-Ran.outcome c.in-Ran.steps c.in-Ran.field-2 c.in-Ran.is _ states.ensures.same states.ensures.bytes _ c.run_printed_text.ensures in
+    let p = run-done a.rows.now a.sheet.now _ done a.out.now _ _ _ refl _ states.ensures.same states.ensures.bytes _ c.run_printed_text.ensures in
     record { written = p.0; fits = p.1 }

@@ -1,5 +1,5 @@
 -- The bytes' own refusal, or what the rows read come to, for all of which there is room. Assumes nothing.
-use mathlib.Core.Path.{sym, ◌∙◌}
+use mathlib.Core.Path.{refl, sym, ◌∙◌}
 use native.Mathlib.Omega.{arith}
 use lib.Seq.{length-take-le}
 use borrow.Author.Rules.{rules}
@@ -27,7 +27,7 @@ pub returns-in-Err-Refused : goal.returns-in-Err-Refused
 returns-in-Err-Refused c =
     let a = c.args in
     let fault = refused-read _ _ _ _ c.read_table.ensures c.in-Err-Refused.number c.in-Err-Refused.place (cc) in
-    table-done-refused a.table.now a.sheet.now a.choices.now a.budget (lists_lent a.readied.now a.taken.now) c.in-Err-Refused.number c.in-Err-Refused.place _ fault (rw (c.in-Err-Refused.number-is, c.in-Err-Refused.place-is) at c.refused.ensures)
+    table-done-refused a.table.now a.sheet.now a.choices.now a.budget (lists_lent a.readied.now a.taken.now) c.in-Err-Refused.number c.in-Err-Refused.place _ fault refl
 
 pub returns-in-Ok : goal.returns-in-Ok
 returns-in-Ok c =

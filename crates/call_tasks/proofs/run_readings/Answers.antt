@@ -1,5 +1,5 @@
 -- The budget's refusal, or the run on the readings that are kept, with the two lists cleared. Assumes nothing.
-use mathlib.Core.Path.{ap₂, ◌∙◌}
+use mathlib.Core.Path.{refl, ap₂, ◌∙◌}
 use mathlib.Core.List.{List}
 use Prim.Native.Nat.{ℕ}
 use borrow.Author.Rules.{rules}
@@ -13,7 +13,7 @@ use Rattle.call_tasks.proofs.run_readings.Goals as goal
 pub returns-then-budget-gt65536 : goal.returns-then-budget-gt65536
 returns-then-budget-gt65536 c =
     let a = c.args in
-    λ sheet k. task-refused (task a.rows.now sheet a.choices.now a.budget) _ _ 11 0 (budget-refused a.rows.now sheet a.choices.now a.budget c.requires.accepted k.0 c.if-budget-gt65536.true) c.refused.ensures
+    λ sheet k. task-refused (task a.rows.now sheet a.choices.now a.budget) _ _ 11 0 (budget-refused a.rows.now sheet a.choices.now a.budget c.requires.accepted k.0 c.if-budget-gt65536.true) refl
 
 pub returns : goal.returns
 returns c =
@@ -24,4 +24,4 @@ returns c =
     let held = c.run.ensures (readings a.rows.now sheet) K in
     let q = run a.rows.now (readings a.rows.now sheet) a.choices.now a.budget in
     let stored = held.1 ∙ ap₂ (λ (x y : List ℕ). shown_from_place 0 (trace a.rows.now (readings a.rows.now sheet) a.choices.now a.budget) (lists_lent x y)) c.clear.ensures c.clear-2.ensures in
-    task-ran (task a.rows.now sheet a.choices.now a.budget) (lists_lent a.readied.now a.taken.now) _ q _ (task-run a.rows.now sheet a.choices.now a.budget c.requires.accepted e c.if-budget-gt65536.false) (c.ran.ensures ∙ held-reply a.rows.now q c.run.result held.0) stored
+    task-ran (task a.rows.now sheet a.choices.now a.budget) (lists_lent a.readied.now a.taken.now) _ q _ (task-run a.rows.now sheet a.choices.now a.budget c.requires.accepted e c.if-budget-gt65536.false) (held-reply a.rows.now q c.run.result held.0) stored

@@ -1,4 +1,5 @@
 -- The sheet's refusal, or the run on the readings of its channels; or the same with more room. Assumes nothing.
+use mathlib.Core.Path.{refl}
 use lib.IntN.{pos}
 use lib.ListN.{replicate}
 use borrow.Author.Rules.{rules}
@@ -19,7 +20,7 @@ run_readings-requires c =
 pub returns-in-Err-Refused : goal.returns-in-Err-Refused
 returns-in-Err-Refused c =
     let a = c.args in
-    task-refused (task a.rows.now a.sheet.now a.choices.now a.budget) _ _ 10 c.in-Err-Refused.line (sheet-refused a.rows.now a.sheet.now a.choices.now a.budget c.requires 10 c.in-Err-Refused.line (sheet-fault a.rows.now a.sheet.now (replicate 512 (pos 0)) (replicate 512 0) c.read_sheet.result _ _ c.read_sheet.ensures c.in-Err-Refused.line (cc))) (rw c.in-Err-Refused.line-is at c.refused.ensures)
+    task-refused (task a.rows.now a.sheet.now a.choices.now a.budget) _ _ 10 c.in-Err-Refused.place (sheet-refused a.rows.now a.sheet.now a.choices.now a.budget c.requires 10 c.in-Err-Refused.place (sheet-fault a.rows.now a.sheet.now (replicate 512 (pos 0)) (replicate 512 0) c.read_sheet.result _ _ c.read_sheet.ensures c.in-Err-Refused.place (cc))) refl
 
 pub returns-in-Ok : goal.returns-in-Ok
 returns-in-Ok c =

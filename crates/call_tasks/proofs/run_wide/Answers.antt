@@ -1,4 +1,5 @@
 -- The sheet's refusal, or the run on the readings of all its channels; the lists are not full. Assumes nothing.
+use mathlib.Core.Path.{refl}
 use Prim.Native.Nat.{ℕ}
 use lib.IntN.{ℤ, pos}
 use lib.ListN.{replicate, length-replicate}
@@ -20,7 +21,7 @@ run_readings-requires c =
 pub returns-in-Err-Refused : goal.returns-in-Err-Refused
 returns-in-Err-Refused c =
     let a = c.args in
-    task-refused (task a.rows.now a.sheet.now a.choices.now a.budget) _ _ 10 c.in-Err-Refused.place (sheet-refused a.rows.now a.sheet.now a.choices.now a.budget c.requires 10 c.in-Err-Refused.place (sheet-fault a.rows.now a.sheet.now (replicate 1024 (pos 0)) (replicate 1024 0) c.read_sheet.result _ _ c.read_sheet.ensures c.in-Err-Refused.place (cc))) (rw c.in-Err-Refused.place-is at c.refused.ensures)
+    task-refused (task a.rows.now a.sheet.now a.choices.now a.budget) _ _ 10 c.in-Err-Refused.place (sheet-refused a.rows.now a.sheet.now a.choices.now a.budget c.requires 10 c.in-Err-Refused.place (sheet-fault a.rows.now a.sheet.now (replicate 1024 (pos 0)) (replicate 1024 0) c.read_sheet.result _ _ c.read_sheet.ensures c.in-Err-Refused.place (cc))) refl
 
 pub returns-in-Err-Full : goal.returns-in-Err-Full
 returns-in-Err-Full c =

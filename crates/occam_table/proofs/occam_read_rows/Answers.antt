@@ -25,13 +25,13 @@ slice_bounds-held-end c =
     let read : RowsRead c.args.table.now c.read_table.new.rows c.in-Ok.count = rows-read _ _ _ _ c.read_table.ensures _ c.in-Ok.is in
     read.fits
 
-pub slice_bounds-copy_numbers-end : goal.slice_bounds-copy_numbers-end
-slice_bounds-copy_numbers-end c =
+pub slice_bounds-copy_over-end : goal.slice_bounds-copy_over-end
+slice_bounds-copy_over-end c =
     let read : RowsRead c.args.table.now c.read_table.new.rows c.in-Ok.count = rows-read _ _ _ _ c.read_table.ensures _ c.in-Ok.is in
     sym (length-take-le _ _ read.fits)
 
-pub copy_numbers-requires : goal.copy_numbers-requires
-copy_numbers-requires c =
+pub copy_over-requires : goal.copy_over-requires
+copy_over-requires c =
     let read : RowsRead c.args.table.now c.read_table.new.rows c.in-Ok.count = rows-read _ _ _ _ c.read_table.ensures _ c.in-Ok.is in
     let r = read in
     let rows = ap length r.rows_are in
@@ -49,7 +49,7 @@ returns-in-Ok c =
     let read : RowsRead c.args.table.now c.read_table.new.rows c.in-Ok.count = rows-read _ _ _ _ c.read_table.ensures _ c.in-Ok.is in
     let a = c.args in
     let r = read in
-    rows-put a.table.now a.rows.now c.if-rows-lt4096.false (4 * c.in-Ok.count) _ r.no-fault r.size (c.copy_numbers.ensures ∙ ap (λ (l : List ℤ). past l a.rows.now) r.rows_are)
+    rows-put a.table.now a.rows.now c.if-rows-lt4096.false (4 * c.in-Ok.count) _ r.no-fault r.size (c.copy_over.ensures ∙ ap (λ (l : List ℤ). past l a.rows.now) r.rows_are)
 
 pub returns-in-Err-Full : goal.returns-in-Err-Full
 returns-in-Err-Full c = absurd (never-full _ _ _ _ c.read_table.ensures (omega arith) (cc))

@@ -8,7 +8,7 @@ use Rattle.occam_table.proofs.Told.{calls-possible}
 use Rattle.occam_table.proofs.occam_run_rows.Goals as goal
 
 pub answer_number-requires : goal.answer_number-requires
-answer_number-requires c = subst (λ (r : Reply). PossibleAnswer r.answer) (sym c.run_rows.ensures) (calls-possible.0 _ _)
+answer_number-requires c = subst (λ (r : Reply). PossibleAnswer r.answer) (sym c.run_rows.ensures.answered) (calls-possible.0 _ _)
 
 pub returns : goal.returns
-returns c = packed-reply c.answer_number.result _ _ c.answer_number.ensures c.run_rows.ensures
+returns c = record { answered = packed-reply c.answer_number.result _ _ c.answer_number.ensures c.run_rows.ensures.answered; same = c.run_rows.ensures.same }

@@ -8,7 +8,7 @@ use Rattle.occam_table.proofs.Told.{traced-possible}
 use Rattle.occam_table.proofs.occam_run_rows_traced.Goals as goal
 
 pub answer_number-requires : goal.answer_number-requires
-answer_number-requires c = subst (λ (r : TracedReply). PossibleAnswer r.reply.answer) (sym c.run_rows_traced.ensures) (traced-possible.0 _ _ _)
+answer_number-requires c = subst (λ (r : TracedReply). PossibleAnswer r.reply.answer) (sym c.run_rows_traced.ensures.answered) (traced-possible.0 _ _ _)
 
 pub returns : goal.returns
-returns c = packed-traced c.answer_number.result _ _ c.answer_number.ensures c.run_rows_traced.ensures
+returns c = record { answered = packed-traced c.answer_number.result _ _ c.answer_number.ensures c.run_rows_traced.ensures.answered; same = c.run_rows_traced.ensures.same }

@@ -8,7 +8,7 @@ use Rattle.occam_table.proofs.TextsTold.{texts-possible}
 use Rattle.occam_table.proofs.occam_run_text.Goals as goal
 
 pub answer_number-requires : goal.answer_number-requires
-answer_number-requires c = subst (λ (r : Reply). PossibleAnswer r.answer) (sym c.run_text.ensures) (texts-possible.1 _ _ _ _ _)
+answer_number-requires c = subst (λ (r : Reply). PossibleAnswer r.answer) (sym c.run_text.ensures.answered) (texts-possible.1 _ _ _ _ _)
 
 pub returns : goal.returns
-returns c = packed-reply c.answer_number.result _ _ c.answer_number.ensures c.run_text.ensures
+returns c = record { answered = packed-reply c.answer_number.result _ _ c.answer_number.ensures c.run_text.ensures.answered; same = c.run_text.ensures.same }

@@ -6,8 +6,5 @@ use Rattle.write_bytes.specs.Writing.{Writer, put_all}
 use Rattle.write_bytes.proofs.Writers.{length-put, put_all-next, put_all-done}
 use Rattle.write_bytes.proofs.put_bytes.Given as goal
 
-abbrev pub invariant-loop-i : goal.invariant-loop-i
-invariant-loop-i l = (l.i ≤ length l.bytes) × (length l.out ≡ length l.initial.out) × (put_all (drop l.i l.bytes) (l.place, l.out) ≡ put_all l.bytes (l.at, l.initial.out))
-
-abbrev pub decreases-loop-i : goal.decreases-loop-i
-decreases-loop-i l = length l.bytes - l.i
+abbrev pub invariant-loop-b : goal.invariant-loop-b
+invariant-loop-b l = (length l.out ≡ length l.initial.out) × (put_all (drop l.b-index l.bytes) (l.place, l.out) ≡ put_all l.bytes (l.at, l.initial.out))

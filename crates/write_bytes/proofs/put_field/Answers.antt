@@ -8,4 +8,4 @@ pub returns : goal.returns
 unfolding put_all
 returns c =
     c.put_bytes.ensures
-    ∙ ap₂ put_all c.of_bytes.ensures c.put_byte-place.ensures
+    ∙ ap₂ put_all c.part.ensures c.put_byte-place.ensures

@@ -18,16 +18,16 @@ use Rattle.write_lines.proofs.LineSteps.{message-next, messages-done, cells-next
 use Rattle.write_lines.proofs.lines.put_messages.Goals as goal
 
 pub loop-i-init : goal.loop-i-init
-loop-i-init c = (search rules, refl, refl)
+loop-i-init c = (refl, refl)
 
 pub shape_of-out-then-marks-i : goal.shape_of-out-then-marks-i
-shape_of-out-then-marks-i c = c.loop-i.invariant.1
+shape_of-out-then-marks-i c = c.loop-i.invariant.0
 
 pub returns-then-marks-i : goal.returns-then-marks-i
 returns-then-marks-i c =
     let a = c.args in
     let k = c.loop-i in
-    sym (messages-done a.word.now a.row (decoded a.numbers.now a.marks.now) k.i (k.place, k.out) (cells-done a.marks.now a.numbers.now k.i c.if-marks-i.true)) ∙ k.invariant.2
+    sym (messages-done a.word.now a.row (decoded a.numbers.now a.marks.now) k.i (k.place, k.out) (cells-done a.marks.now a.numbers.now k.i c.if-marks-i.true)) ∙ k.invariant.1
 
 pub overflow_cast-i : goal.overflow_cast-i
 overflow_cast-i c = omega arith
@@ -41,18 +41,17 @@ loop-i-preserved c =
     let number = to_z-of_z w32 _ (record { sfits = c.number_at.type_inv }) ∙ c.number_at.ensures in
     let text = c.message_text-text.ensures ∙ ap (λ (z : ℤ). text_of (value_bytes (cell_of z (get_or a.marks.now k.i 0)))) number in
     let e = c.put_line-place.ensures ∙ ap (λ (l : List ℕ). put_all (line_of a.word.now a.row k.i l) (k.place, k.out)) (shown-text (value_bytes v) text) in (
-      search rules,
-      ap (λ (w : Writer). length w.1) e ∙ length-put_all (line_of a.word.now a.row k.i (value_bytes v)) (k.place, k.out) ∙ k.invariant.1,
+      ap (λ (w : Writer). length w.1) e ∙ length-put_all (line_of a.word.now a.row k.i (value_bytes v)) (k.place, k.out) ∙ k.invariant.0,
       ap (put_all (message_bytes a.word.now a.row (k.i + 1) (drop (k.i + 1) xs))) e
           ∙ sym (message-next a.word.now a.row xs k.i (k.place, k.out) v (cells-next a.marks.now a.numbers.now k.i (search rules) (search rules)))
-          ∙ k.invariant.2,
+          ∙ k.invariant.1,
     )
 
 pub shape_of-out : goal.shape_of-out
-shape_of-out c = c.loop-i.invariant.1
+shape_of-out c = c.loop-i.invariant.0
 
 pub returns : goal.returns
 returns c =
     let a = c.args in
     let k = c.loop-i in
-    sym (messages-done a.word.now a.row (decoded a.numbers.now a.marks.now) k.i (k.place, k.out) (cells_out a.marks.now a.numbers.now k.i c.loop-i-test.false)) ∙ k.invariant.2
+    sym (messages-done a.word.now a.row (decoded a.numbers.now a.marks.now) k.i (k.place, k.out) (cells_out a.marks.now a.numbers.now k.i (search rules))) ∙ k.invariant.1

@@ -17,7 +17,4 @@ use Rattle.write_lines.proofs.LineSteps.{message-next, messages-done, cells-next
 use Rattle.write_lines.proofs.lines.put_messages.Given as goal
 
 abbrev pub invariant-loop-i : goal.invariant-loop-i
-invariant-loop-i l = (l.i ≤ length l.numbers) × (length l.out ≡ length l.initial.out) × (put_all (message_bytes l.word l.row l.i (drop l.i (decoded l.numbers l.marks))) (l.place, l.out) ≡ put_all (message_bytes l.word l.row 0 (decoded l.numbers l.marks)) (l.at, l.initial.out))
-
-abbrev pub decreases-loop-i : goal.decreases-loop-i
-decreases-loop-i l = length l.numbers - l.i
+invariant-loop-i l = (length l.out ≡ length l.initial.out) × (put_all (message_bytes l.word l.row l.i (drop l.i (decoded l.numbers l.marks))) (l.place, l.out) ≡ put_all (message_bytes l.word l.row 0 (decoded l.numbers l.marks)) (l.at, l.initial.out))

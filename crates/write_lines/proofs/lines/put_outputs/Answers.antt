@@ -16,7 +16,6 @@ use Rattle.write_lines.proofs.lines.put_outputs.Goals as goal
 pub loop-r-init : goal.loop-r-init
 loop-r-init c =
     let a = c.args in (
-      search rules,
       sum-none (capacity_at a.rows.now),
       omega arith,
       sum-none (host_channels_at 2 a.rows.now),
@@ -31,7 +30,7 @@ pub overflow_cast-r : goal.overflow_cast-r
 overflow_cast-r c = let d = few-declarations c.args.rows.now c.requires.0 in let e = c.declarations-count.ensures in omega arith
 
 pub put_messages-place-requires : goal.put_messages-place-requires
-put_messages-place-requires c = let h = part-short c.loop-r.first c.strip_count-given.result c.args.numbers.now in let e = ap length c.of_numbers-strip.ensures in omega (arith, c.requires)
+put_messages-place-requires c = let h = part-short c.loop-r.first c.strip_count-given.result c.args.numbers.now in let e = ap length c.part-strip.ensures in omega (arith, c.requires)
 
 pub capacity_at-requires : goal.capacity_at-requires
 capacity_at-requires c = c.declarations-count.ensures
@@ -45,30 +44,26 @@ host_channels_at-requires c = c.declarations-count.ensures
 pub overflow_add-port : goal.overflow_add-port
 overflow_add-port c = let d = few-declarations c.args.rows.now c.requires.0 in let e = c.declarations-count.ensures in omega (arith, c.host_channels_at.type_inv, c.loop-r.invariant)
 
-pub overflow_add-r : goal.overflow_add-r
-overflow_add-r c = let d = few-declarations c.args.rows.now c.requires.0 in let e = c.declarations-count.ensures in omega arith
-
 pub loop-r-preserved : goal.loop-r-preserved
 unfolding word_bytes
 loop-r-preserved c =
     let a = c.args in
     let k = c.loop-r in (
-      search rules,
-      sum_more (capacity_at a.rows.now) k.r k.first c.capacity_at.result k.invariant.1 c.capacity_at.ensures,
+      sum_more (capacity_at a.rows.now) k.r k.first c.capacity_at.result k.invariant.0 c.capacity_at.ensures,
       omega (arith, c.capacity_at.type_inv, k.invariant),
-      sum_more (host_channels_at 2 a.rows.now) k.r k.port c.host_channels_at.result k.invariant.3 c.host_channels_at.ensures,
+      sum_more (host_channels_at 2 a.rows.now) k.r k.port c.host_channels_at.result k.invariant.2 c.host_channels_at.ensures,
       omega (arith, c.host_channels_at.type_inv, k.invariant),
-      outs-step a.rows.now a.counts.now a.marks.now a.numbers.now k.r k.first k.port c.strip_count-given.result (a.at, a.out.now) k.invariant.1 k.invariant.3 c.strip_count-given.ensures c.of_bytes.ensures c.of_numbers-strip.ensures k.invariant.5 c.put_messages-place.ensures,
+      outs-step a.rows.now a.counts.now a.marks.now a.numbers.now k.r k.first k.port c.strip_count-given.result (a.at, a.out.now) k.invariant.0 k.invariant.2 c.strip_count-given.ensures c.part.ensures c.part-strip.ensures k.invariant.4 c.put_messages-place.ensures,
     )
 
 pub shape_of-out : goal.shape_of-out
-shape_of-out c = let a = c.args in ap (λ (w : Writer). length w.1) c.loop-r.invariant.5 ∙ length-put_lines (outs_below a.rows.now a.counts.now (decoded a.numbers.now a.marks.now) c.loop-r.r) (a.at, a.out.now)
+shape_of-out c = let a = c.args in ap (λ (w : Writer). length w.1) c.loop-r.invariant.4 ∙ length-put_lines (outs_below a.rows.now a.counts.now (decoded a.numbers.now a.marks.now) c.loop-r.r) (a.at, a.out.now)
 
 pub returns : goal.returns
 returns c =
     let a = c.args in
     let x : Writer = (a.at, a.out.now) in
-    let all : c.loop-r.r ≡ declarations a.rows.now = omega (arith, c.declarations-count.ensures, c.loop-r.invariant) in
-    c.loop-r.invariant.5
+    let all : c.loop-r.r ≡ declarations a.rows.now = omega (arith, c.declarations-count.ensures) in
+    c.loop-r.invariant.4
     ∙ ap (λ (q : ℕ). put_lines (outs_below a.rows.now a.counts.now (decoded a.numbers.now a.marks.now) q) x) all
     ∙ ap (λ (l : List Line). put_lines l x) (outs-below-all a.rows.now a.counts.now (decoded a.numbers.now a.marks.now))

@@ -11,7 +11,4 @@ use Rattle.write_lines.proofs.LineSteps.{stops-next, stops-done}
 use Rattle.write_lines.proofs.lines.put_stops.Given as goal
 
 abbrev pub invariant-loop-i : goal.invariant-loop-i
-invariant-loop-i l = (l.i ≤ length l.states) × (length l.out ≡ length l.initial.out) × (put_lines (stop_lines l.i (drop l.i l.states)) (l.place, l.out) ≡ put_lines (stop_lines 0 l.states) (l.at, l.initial.out))
-
-abbrev pub decreases-loop-i : goal.decreases-loop-i
-decreases-loop-i l = length l.states - l.i
+invariant-loop-i l = (length l.out ≡ length l.initial.out) × (put_lines (stop_lines l.i (drop l.i l.states)) (l.place, l.out) ≡ put_lines (stop_lines 0 l.states) (l.at, l.initial.out))

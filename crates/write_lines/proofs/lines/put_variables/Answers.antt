@@ -16,7 +16,6 @@ use Rattle.write_lines.proofs.lines.put_variables.Goals as goal
 pub loop-r-init : goal.loop-r-init
 loop-r-init c =
     let a = c.args in (
-      search rules,
       sum-none (cells_at a.rows.now),
       omega arith,
       sym (ap (λ (l : List Line). put_lines l (a.at, a.out.now)) (cells-below-none a.rows.now (decoded a.values.now a.marks.now)) ∙ put_lines-none (a.at, a.out.now)),
@@ -29,33 +28,29 @@ pub overflow_cast-r : goal.overflow_cast-r
 overflow_cast-r c = let d = few-declarations c.args.rows.now c.requires.0 in let e = c.declarations-count.ensures in omega arith
 
 pub put_messages-place-requires : goal.put_messages-place-requires
-put_messages-place-requires c = let h = part-short c.loop-r.first c.cells_at-size.result c.args.values.now in let e = ap length c.of_numbers-cells.ensures in omega (arith, c.requires)
+put_messages-place-requires c = let h = part-short c.loop-r.first c.cells_at-size.result c.args.values.now in let e = ap length c.part-cells.ensures in omega (arith, c.requires)
 
 pub overflow_add-first : goal.overflow_add-first
 overflow_add-first c = let d = few-declarations c.args.rows.now c.requires.0 in let e = c.declarations-count.ensures in omega (arith, c.cells_at-size.type_inv, c.loop-r.invariant)
-
-pub overflow_add-r : goal.overflow_add-r
-overflow_add-r c = let d = few-declarations c.args.rows.now c.requires.0 in let e = c.declarations-count.ensures in omega arith
 
 pub loop-r-preserved : goal.loop-r-preserved
 unfolding word_bytes
 loop-r-preserved c =
     let a = c.args in
     let k = c.loop-r in (
-      search rules,
-      sum_more (cells_at a.rows.now) k.r k.first c.cells_at-size.result k.invariant.1 c.cells_at-size.ensures,
+      sum_more (cells_at a.rows.now) k.r k.first c.cells_at-size.result k.invariant.0 c.cells_at-size.ensures,
       omega (arith, c.cells_at-size.type_inv, k.invariant),
-      cells-step a.rows.now a.marks.now a.values.now k.r k.first c.cells_at-size.result (a.at, a.out.now) k.invariant.1 c.cells_at-size.ensures c.of_bytes.ensures c.of_numbers-cells.ensures k.invariant.3 c.put_messages-place.ensures,
+      cells-step a.rows.now a.marks.now a.values.now k.r k.first c.cells_at-size.result (a.at, a.out.now) k.invariant.0 c.cells_at-size.ensures c.part.ensures c.part-cells.ensures k.invariant.2 c.put_messages-place.ensures,
     )
 
 pub shape_of-out : goal.shape_of-out
-shape_of-out c = let a = c.args in ap (λ (w : Writer). length w.1) c.loop-r.invariant.3 ∙ length-put_lines (cells_below a.rows.now (decoded a.values.now a.marks.now) c.loop-r.r) (a.at, a.out.now)
+shape_of-out c = let a = c.args in ap (λ (w : Writer). length w.1) c.loop-r.invariant.2 ∙ length-put_lines (cells_below a.rows.now (decoded a.values.now a.marks.now) c.loop-r.r) (a.at, a.out.now)
 
 pub returns : goal.returns
 returns c =
     let a = c.args in
     let x : Writer = (a.at, a.out.now) in
-    let all : c.loop-r.r ≡ declarations a.rows.now = omega (arith, c.declarations-count.ensures, c.loop-r.invariant) in
-    c.loop-r.invariant.3
+    let all : c.loop-r.r ≡ declarations a.rows.now = omega (arith, c.declarations-count.ensures) in
+    c.loop-r.invariant.2
     ∙ ap (λ (q : ℕ). put_lines (cells_below a.rows.now (decoded a.values.now a.marks.now) q) x) all
     ∙ ap (λ (l : List Line). put_lines l x) (cells-below-all a.rows.now (decoded a.values.now a.marks.now))

@@ -13,7 +13,4 @@ use Rattle.write_lines.proofs.RowLines.{cells_below, cells-below-none, cells-bel
 use Rattle.write_lines.proofs.lines.put_variables.Given as goal
 
 abbrev pub invariant-loop-r : goal.invariant-loop-r
-invariant-loop-r l = (l.r ≤ l.count) × (l.first ≡ sum_below (cells_at l.rows) l.r) × (l.first ≤ l.r * 4294967296) × ((l.place, l.out) ≡ put_lines (cells_below l.rows (decoded l.values l.marks) l.r) (l.at, l.initial.out))
-
-abbrev pub decreases-loop-r : goal.decreases-loop-r
-decreases-loop-r l = l.count - l.r
+invariant-loop-r l = (l.first ≡ sum_below (cells_at l.rows) l.r) × (l.first ≤ l.r * 4294967296) × ((l.place, l.out) ≡ put_lines (cells_below l.rows (decoded l.values l.marks) l.r) (l.at, l.initial.out))

@@ -9,27 +9,27 @@ use Rattle.write_lines.proofs.printed_texts.run_printed_text.Goals as goal
 
 pub put_run-requires : goal.put_run-requires
 put_run-requires c = (
-  (let h = take_short 4096 c.args.rows.now in let e = ap length c.of_numbers-table.ensures in omega arith),
-  (let h = take_short 256 c.args.values.now in let e = ap length c.of_numbers.ensures in omega arith),
+  (let h = take_short 4096 c.args.rows.now in let e = ap length c.part-table.ensures in omega arith),
+  (let h = take_short 256 c.args.values.now in let e = ap length c.part.ensures in omega arith),
   (
       let h = take_short 4096 c.args.rows.now in
-      let e = ap length c.of_numbers-table.ensures in
-      let d = ap length c.of_bytes-2.ensures in
-      let k = take_short (length c.of_numbers-table.result.now / 4) c.args.states.now in
+      let e = ap length c.part-table.ensures in
+      let d = ap length c.part-3.ensures in
+      let k = take_short (length c.part-table.result.now / 4) c.args.states.now in
       omega arith
       ),
-  (let h = take_short 1024 c.args.numbers.now in let e = ap length c.of_numbers-2.ensures in omega arith),
+  (let h = take_short 1024 c.args.numbers.now in let e = ap length c.part-4.ensures in omega arith),
 )
 
 pub returns : goal.returns
 returns c =
     let a = c.args in
     run-made a.rows.now a.outcome a.steps a.values.now a.marks.now a.states.now a.numbers.now a.counts.now a.output_marks.now a.out.now
-    c.of_numbers-table.ensures
-    c.of_numbers.ensures
-    c.of_bytes.ensures
-    c.of_bytes-2.ensures
-    c.of_numbers-2.ensures
-    c.of_counts.ensures
-    c.of_bytes-3.ensures
+    c.part-table.ensures
+    c.part.ensures
+    c.part-2.ensures
+    c.part-3.ensures
+    c.part-4.ensures
+    c.part-5.ensures
+    c.part-6.ensures
     c.put_run.ensures
