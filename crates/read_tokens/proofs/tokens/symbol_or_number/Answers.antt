@@ -12,14 +12,14 @@ use Rattle.read_tokens.proofs.tokens.symbol_or_number.Goals as goal
 pub returns-in-Some : goal.returns-in-Some
 returns-in-Some c = let s = c.args.chunk.now in symbol-found (token_spelt symbols s) (number s) _ c.in-Some.ensures
 
-pub returns-in-None : goal.returns-in-None
-returns-in-None c =
+pub returns-in_err-z : goal.returns-in_err-z
+returns-in_err-z c =
     let s = c.args.chunk.now in
-    none_found (token_spelt symbols s) (number s) (sym c.in_default.is ∙ c.symbol.ensures) (sym c.read_number.ensures ∙ c.in-Malformed.is)
+    c.from_residual.ensures ∙ none_found (token_spelt symbols s) (number s) (sym c.in_default.is ∙ c.symbol.ensures) (sym c.in_err-z.ensures)
 
-pub returns-in-Some : goal.returns-in-Some
-returns-in-Some c =
+pub returns : goal.returns
+returns c =
     let s = c.args.chunk.now in
-    let fits : SFits w32 c.in-Some.z = search rules in
+    let fits : SFits w32 c.in_ok-z.z = search rules in
     rw (to_z-of_z w32 _ fits)
-    (number-found (token_spelt symbols s) (number s) (sym c.in_default.is ∙ c.symbol.ensures) c.in-Number.z (sym c.read_number.ensures ∙ c.in-Number.is))
+    (number-found (token_spelt symbols s) (number s) (sym c.in_default.is ∙ c.symbol.ensures) c.in_ok-z.z (sym c.in_ok-z.ensures))
