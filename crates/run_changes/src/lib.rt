@@ -10,6 +10,7 @@ use run_notes::Notes;
 
 // A change of data: none; a cell gets a number with its mark; a cell gets the next reading of a channel, whose place is
 // raised; a number with its mark for a channel to the host, whose strip begins there.
+// kept: a number and its mark are no `Option`, since `Does`, `Notes` and `Outputs` hold a message so, and this only hands it on
 #[derive(Clone, Copy)]
 pub enum Data {
     Nothing,
@@ -20,6 +21,7 @@ pub enum Data {
 
 // What a step of row `owner` does: row `at` gets state `next`, the row of the note `sender` (one more than its number, 0 is
 // none) ends, and the data changes.
+// kept: `sender` is no `Option`, since `Notes.elements` holds it so, and `states_changed` and `leave_step` read it so
 #[derive(Drop)]
 pub struct Change {
     pub owner: usize,

@@ -12,6 +12,7 @@ use run_ready_bits::{clear, lower};
 
 // What a row would do, as numbers: what it is; a row, channel, element or reason; third a cell, or of an output the mark of
 // its message; and a number with its sign.
+// kept: `what` is a number, since `Notes.acts` holds numbers (`note_numbers`); the enum is `Does`
 #[derive(Clone, Copy)]
 pub struct Note {
     pub what: u16,
@@ -33,6 +34,7 @@ fn note_with(what: u16, at: u16, third: u16, number: i32) -> Note
 }
 
 // A number cut to sixteen bits.
+// kept: `as` alone would have to lose nothing
 fn short(n: usize) -> u16
     ensures { result ≡ short n }
 {
@@ -84,7 +86,7 @@ pub fn first_option(code: &[u16; 6150], r: usize) -> usize
 
 // What is noted of rows at work: three numbers of each row's note, and the number that it hands over; of each channel element
 // who waits there to input and who to output (a row and 1, or 0); and the rows that have a ready step, as bits.
-// kept: numbers and no `[Note; 1024]`, as run_noted and run_told read them by `what_of` and `get_or`.
+// kept: `acts` and `sent` are numbers and no `[Note; 1024]`, since the definitions read them so (`what_of`, `noted_by`)
 #[derive(Drop)]
 pub struct Notes {
     pub acts: [u16; 3072],

@@ -71,7 +71,7 @@ pub fn written_by<'a>(
     ensures { result ≡ written readings.now given.now places.now d }
 {
     match d {
-        Data::Nothing => None,
+        Data::Nothing | Data::Output(..) => None,
         Data::Cell(cell, x, mark) => {
             if mark == 0 {
                 return Some((cell, None));
@@ -85,7 +85,6 @@ pub fn written_by<'a>(
             }
             Some((cell, Some(readings[i])))
         }
-        Data::Output(_, _, _, _) => None,
     }
 }
 
@@ -95,8 +94,7 @@ pub fn put_host(d: Data, places: &mut [u32; 8], outputs: &mut Outputs)
     ensures { host_with places.new outputs.new ≡ host_put d (host_with places.old outputs.old) }
 {
     match d {
-        Data::Nothing => {}
-        Data::Cell(_, _, _) => {}
+        Data::Nothing | Data::Cell(..) => {}
         Data::Reading(_, p) => {
             places[p] += 1;
         }
