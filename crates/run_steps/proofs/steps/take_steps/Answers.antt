@@ -2,7 +2,6 @@
 use mathlib.Core.Path.{◌≡◌, refl, sym, ap, ◌∙◌}
 use mathlib.Core.Option.{none}
 use mathlib.Core.List.{List}
-use lib.ListN.{length}
 use Prim.Native.Nat.{ℕ, ◌≤◌}
 use lib.IntN.{ℤ}
 use native.Mathlib.Omega.{arith}
@@ -220,8 +219,6 @@ loop-left-preserved c =
       | then-came-ne0 w ↦ w.state-is ∙ w.unset_blocks-state.ensures rows P
       | else-came-ne0 w ↦ w.state-is ∙ ap (λ (n : ℕ). blocks_unset rows (first_rows 2049 n c.change_states.new.came) c.match-w.state) (sym w.if-came-ne0.false)
     ] in
-    let v : length c.if-came-ne0.state.values ≡ 256 = search rules in
-    let w : length c.if-came-ne0.state.marks ≡ 256 = search rules in
     let h = c.put_host.new in
     let k = c.leave_step.new in
     let m = c.note_all-in-loop-left.new in (
@@ -229,5 +226,5 @@ loop-left-preserved c =
       c.show.auto.list ∙ l.invariant.1,
       c.show-in-loop-left.auto.list ∙ l.invariant.2,
       λ z K. turn.stands-further (settling (goal.at.loop-left-preserved c).After-change_states (z, K)) (host_with h.places h.outputs) c.put_host.ensures _ c.written_by-w.ensures _ made _ cleared
-          k.notes (c.leave_step.ensures rows P) v w m.notes (c.note_all-in-loop-left.ensures rows P) _ _ c.show.ensures c.show-in-loop-left.ensures,
+          k.notes (c.leave_step.ensures rows P) m.notes (c.note_all-in-loop-left.ensures rows P) _ _ c.show.ensures c.show-in-loop-left.ensures,
     )
