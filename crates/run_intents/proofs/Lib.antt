@@ -1,3 +1,4 @@
+pub mod HostReads
 pub mod RowFacts
 pub mod Choices
 pub mod Inputs

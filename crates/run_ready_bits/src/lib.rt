@@ -5,6 +5,8 @@ ghost use Rattle.std.specs.Prelude.{◌≡◌, ℕ, ◌%◌, ◌<◌, Bool, slic
 ghost use Rattle.meaning.specs.Basics.{all_below};
 ghost use Rattle.run_ready_bits.specs.Bits.{on, has, turned, raised, lowered, no_rows, without_lowest, BitsCounted, Shown, picked_from, chosen_of};
 
+// Still to do: a struct of the words, their counts and the total in place of the one array, with the definitions of specs/Bits.
+
 // No row.
 pub fn clear() -> [u64; 33]
     ensures { result ≡ no_rows }

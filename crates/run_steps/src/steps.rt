@@ -5,7 +5,6 @@ ghost use Rattle.run_code.specs.Prepared.{Prepared};
 ghost use Rattle.machine.specs.Held.{KeptReadings};
 ghost use Rattle.machine.specs.Lending.{lent_lists, left_lists};
 ghost use Rattle.run_turns.specs.Ending.{is_last};
-ghost use Rattle.run_turns.specs.Turns.{with_put};
 ghost use Rattle.run_steps.specs.Ran.{RunShown};
 
 use crate::outcome::outcome_with;
@@ -16,7 +15,7 @@ use run_ready_bits::{choose, total};
 use run_settling::{begin, change_states};
 use run_starting::kept::Kept;
 use run_turns::{leave_step, note_all, put_host, unset_blocks, written_by};
-use run_values::store::{State, fresh};
+use run_values::store::fresh;
 
 // The choice for a step after n steps; 0 when the list is used up.
 fn choice_at(choices: &[u16], n: u32) -> u16
@@ -40,17 +39,6 @@ fn show(list: &mut [u16], n: u32, x: u16)
     let i = n as usize;
     if i < list.len() {
         list[i] = x;
-    }
-}
-
-// The state with what a change of data puts into its cell, if it writes one.
-fn with_put(state: State, put: Option<(usize, Option<i32>)>) -> State
-    ensures { result ≡ with_put put state }
-{
-    match put {
-        None => state,
-        Some((cell, Some(x))) => state.set(cell, x),
-        Some((cell, None)) => state.unset(cell),
     }
 }
 
@@ -102,7 +90,15 @@ pub fn take_steps<'a>(
         let d = c.written;
         let w = written_by(d, &state.places, readings, given);
         put_host(d, &mut state.places, &mut outputs);
-        state = with_put(state, w);
+        match w {
+            None => {}
+            Some((cell, Some(x))) => {
+                state = state.set(cell, x);
+            }
+            Some((cell, None)) => {
+                state = state.unset(cell);
+            }
+        }
         change_states(code, c.at, c.next, c.sender, &mut kept);
         let blocks = kept.started();
         if !blocks.is_empty() {

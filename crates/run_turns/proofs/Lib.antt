@@ -1,3 +1,4 @@
+pub mod Arrays
 pub mod Choosing
 pub mod Outcomes
 pub mod Ending

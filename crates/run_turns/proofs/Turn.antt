@@ -1,12 +1,12 @@
 -- A turn of a run, in records that grow with it: what the run is given, how it begins, where it stands, how many steps are ready, the row that it picks, the step's change, and the row states after it.
 -- What the laws of `Stands` say of them.
-use mathlib.Core.Path.{◌≡◌, refl, sym, ap, ap₂, ◌∙◌}
+use mathlib.Core.Path.{◌≡◌, refl, sym, ap, ap₂, subst, ◌∙◌}
 use mathlib.Core.Bool.{Bool, true, false}
 use mathlib.Core.Option.{none}
 use mathlib.Core.List.{List}
 use Prim.Native.Nat.{ℕ, ◌+◌, ◌-◌, ◌%◌, ◌<◌, ◌≤◌}
 use native.Mathlib.Omega.{arith}
-use lib.IntN.{ℤ, pos}
+use lib.IntN.{ℤ}
 use lib.ListN.{length, get_or, set, replicate}
 use mir.Syntax.{w16, w32}
 use mir.Val.{Fits}
@@ -25,7 +25,7 @@ use Rattle.agreement.proofs.TableFit.{rows-limit}
 use Rattle.machine.specs.Held.{KeptReadings, put_unset}
 use Rattle.machine.specs.Counts.{kept_of, start_row, change_up_counted, end_up_counted, forgotten}
 use Rattle.machine.specs.Came.{listed_rows, listed_blocks, local_at}
-use Rattle.machine.proofs.HeldLaws.{states-long}
+use Rattle.machine.proofs.HeldLaws.{marks-long, states-long}
 use Rattle.run_ready_bits.specs.Bits.{Shown, no_rows}
 use Rattle.run_code.specs.Prepared.{Prepared}
 use Rattle.run_values.specs.declared.store.State as store
@@ -48,6 +48,7 @@ use Rattle.run_turns.specs.Machine.{machine_of, Stands}
 use Rattle.run_turns.proofs.Ending.{not_last}
 use Rattle.run_turns.proofs.TurnLaws as changes
 use Rattle.run_turns.proofs.Unsetting.{arrays-unset}
+use Rattle.run_turns.proofs.Arrays.{Long, put-long, variables-long, values-long}
 use Rattle.run_turns.proofs.Stands as stands
 use Rattle.run_turns.proofs.Stands.{NoteLaws}
 use Rattle.run_turns.proofs.Laws.{note-laws}
@@ -247,17 +248,20 @@ blocks-below y =
 pub stands-further : (y : Settling) → let x = y.changing in let p = x.picking in let t = p.counting.standing in let g = t.setting in let b = t.arrays in
     (h : Host) → h ≡ host_put x.change.written (host_of b.places b.numbers b.counts b.output_marks) → (w : Option (ℕ × Option ℤ)) → w ≡ written g.readings g.given b.places x.change.written
     → (s : store.State) → s ≡ with_put w (record { values = b.cells; marks = b.marks; places = h.places }) → (z : store.State) → z ≡ blocks_unset g.rows (listed_blocks y.came) s → (l : Notes) → l ≡ leave_step g.rows x.change.owner x.change.sender t.notes
-    → length z.values ≡ 256 → length z.marks ≡ 256 → (m : Notes) → m ≡ note_listed g.rows (state_cells z) z.places h.counts g.lines (listed_rows y.came) l
+    → (m : Notes) → m ≡ note_listed g.rows (state_cells z) z.places h.counts g.lines (listed_rows y.came) l
     → (readied taken : List ℕ) → readied ≡ set t.lists.ready_counts t.n p.counting.count → taken ≡ set t.lists.taken_rows t.n p.row
     → Stands g.rows g.sheet g.choices g.budget g.first (t.n + 1) (lists_lent readied taken) (machine_of (arrays_of z y.states h.numbers h.counts h.output_marks) y.left y.came m)
-stands-further y h host-is w w-is s s-is z z-is l left_is v-is k-is m m-is readied taken readied-is taken_is =
+stands-further y h host-is w w-is s s-is z z-is l left_is m m-is readied taken readied-is taken_is =
     let x = y.changing in
     let p = x.picking in
     let k = p.counting in
     let t = k.standing in
     let g = t.setting in
     let b = t.arrays in
+    let held = t.stands.held.holds in
+    let s-long : Long s = subst Long (sym s-is) (put-long w _ (record { values = values-long _ _ _ held; marks = marks-long _ _ _ held })) in
+    let L : Long z = subst Long (sym z-is) (variables-long (local_at (program g.rows) (listed_blocks y.came)) s s-long) in
     stands.stands-further _ g.accepted _ _ _ _ g.kept g.few (laws g) _ _ _ _ _ _ _ _ _ t.stands _ k.count-is (more p).0 (more p).1 _ _ p.choice-is p.row_is x.change x.change-is _ _ _ y.up
     _ (ap (λ (v : store.State). arrays_of v y.states h.numbers h.counts h.output_marks) z-is
     ∙ arrays-unset y.states h.numbers h.counts h.output_marks (local_at (program g.rows) (listed_blocks y.came)) s ∙ ap (put_unset (local_at (program g.rows) (listed_blocks y.came))) (changes.turned-arrays g.readings g.given (record { values = b.cells; marks = b.marks; places = b.places }) b.states b.numbers b.counts b.output_marks y.states x.change.written h host-is w w-is s s-is))
-    l left_is m (m-is ∙ ap (λ (c : List Message). note_listed g.rows c z.places h.counts g.lines (listed_rows y.came) l) (state-array z v-is k-is)) _ (ap₂ lists_lent readied-is taken_is)
+    l left_is m (m-is ∙ ap (λ (c : List Message). note_listed g.rows c z.places h.counts g.lines (listed_rows y.came) l) (state-array z L.values L.marks)) _ (ap₂ lists_lent readied-is taken_is)

@@ -8,6 +8,7 @@ ghost use Rattle.run_values.specs.Cells.{state_cells, with_cell, with_unset, uns
 use meaning::{Index, Value};
 
 // An unset cell has mark 0 and holds 0; a set one has mark 1. The place of a channel from the host is how many readings it has given.
+// kept: numbers and marks as two arrays, since a run hands them to the C buffers as they are (`run_rows`, `Buffers.encode`).
 #[derive(Drop)]
 pub struct State {
     pub values: [i32; 256],
@@ -63,6 +64,8 @@ impl State {
             Index::Fails(k) => Value::Missing(k),
         }
     }
+
+    // kept: `set`, `unset` and `unset_range` by value, since document 01 names a cell store with methods by value (docs/CHECKLIST.md, 90).
 
     // The state with cell i set to x; past the last cell there is nothing to set.
     pub fn set(mut self, i: usize, x: i32) -> State

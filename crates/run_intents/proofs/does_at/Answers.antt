@@ -19,8 +19,8 @@ eval-requires-in-33-clause-inside c = rw c.place-in-33-2.ensures (first-inside c
 pub returns-in-46 : goal.returns-in-46
 returns-in-46 c =
     λ rows p. elim c.in-46.is [
-      inl e ↦ assigns p c.args.lines (state_cells c.args.state.now) c.args.state.now.places c.args.counts.now c.args.r c.requires.inside c.place.ensures 46 e refl (c.assigned.ensures rows p) c.place-in-46.ensures (c.eval.ensures rows p) c.assignment.ensures
-    | inr e ↦ assigns p c.args.lines (state_cells c.args.state.now) c.args.state.now.places c.args.counts.now c.args.r c.requires.inside c.place.ensures 48 e refl (c.assigned.ensures rows p) c.place-in-46.ensures (c.eval.ensures rows p) c.assignment.ensures
+      | inl e ↦ assigns p c.args.lines (state_cells c.args.state.now) c.args.state.now.places c.args.counts.now c.args.r c.requires.inside c.place.ensures 46 e refl (c.assigned.ensures rows p) c.place-in-46.ensures (c.eval.ensures rows p) c.assignment.ensures
+      | inr e ↦ assigns p c.args.lines (state_cells c.args.state.now) c.args.state.now.places c.args.counts.now c.args.r c.requires.inside c.place.ensures 48 e refl (c.assigned.ensures rows p) c.place-in-46.ensures (c.eval.ensures rows p) c.assignment.ensures
     ]
 
 pub returns-in-47 : goal.returns-in-47

@@ -2,13 +2,14 @@
 use mathlib.Core.Path.{◌≡◌, refl, sym, ap, subst, ◌∙◌}
 use mathlib.Core.Option.{none}
 use mathlib.Core.List.{List}
-use lib.ListN.{length}
 use Prim.Native.Nat.{ℕ, ◌≤◌}
 use lib.IntN.{ℤ}
-use borrow.Author.Rules.{rules}
 use native.Mathlib.Omega.{arith}
 use borrow.Author.Tests.{eqb-true}
 use Rattle.std.proofs.lemmas.List.{nil_from_length}
+use mir.ValLaws.{to_z-of_z}
+use mir.Val.{SFits}
+use mir.Syntax.{w32}
 use Rattle.meaning.specs.Readings.{Sheet}
 use Rattle.meaning.specs.Trace.{TraceLists}
 use Rattle.meaning.specs.Answers.{check}
@@ -20,12 +21,12 @@ use Rattle.run_turns.specs.Fits.{RowsBelow, BlocksBelow}
 use Rattle.run_starting.specs.Kept.{kept_lists}
 use Rattle.run_turns.specs.Showing.{lists_lent}
 use Rattle.run_turns.specs.Results.{arrays_with}
-use Rattle.run_turns.specs.Turns.{host_with, blocks_unset}
+use Rattle.run_turns.specs.Turns.{host_with, with_put, blocks_unset}
 use Rattle.run_turns.proofs.ChangedRows.{root_is, root_below, root-is-process}
 use Rattle.run_turns.proofs.Turn as turn
 use Rattle.run_turns.proofs.Turn.{Setting, Begun, Standing, Counting, Picking, Changing, Settling}
 use Rattle.run_steps.proofs.steps.take_steps.Goals as goal
-use Rattle.run_steps.proofs.steps.take_steps.Goals.{After-begin, After-is_last, After-choose-j, After-change_of-c, After-change_states, then-not-is_empty, else-not-is_empty}
+use Rattle.run_steps.proofs.steps.take_steps.Goals.{After-begin, After-is_last, After-choose-j, After-change_of-c, After-change_states, in-None, in-Some-default-Some, in-Some-default-None, then-not-is_empty, else-not-is_empty}
 
 -- a sheet whose readings are kept
 abbrev Kept : List ℤ → List ℤ → List ℕ → ℕ → Type 0
@@ -207,19 +208,28 @@ loop-notes-preserved c =
     let l = c.loop-notes in
     let rows = c.args.rows.now in
     let P = c.requires.table in
-    let cleared : c.if-not-is_empty.state ≡ blocks_unset rows (listed_blocks (kept_lists c.change_states.new.kept).came) c.with_put-state.result =
+    let made : c.match-w.state ≡ with_put c.written_by-w.result (record { values = l.state.values; marks = l.state.marks; places = c.put_host.new.places }) =
+    elim c.match-w.branch [
+      | in-None w ↦ rw w.in-None.is w.state-is
+      | in-Some-default-Some w ↦
+          let f : SFits w32 w.in-Some-default-Some.x = search rules in
+          let e = rw w.in-Some-default-Some.is at w.in-Some-default-Some.field-0-1-is in
+          rw (w.in-Some-default-Some.is, e) (w.state-is ∙ rw (to_z-of_z w32 w.in-Some-default-Some.x f) at w.set-state.ensures.stored)
+      | in-Some-default-None w ↦
+          let e = rw w.in-Some-default-None.is at w.in-Some-default-None.field-0-1-is in
+          rw (w.in-Some-default-None.is, e) (w.state-is ∙ w.unset-state.ensures.stored)
+    ] in
+    let cleared : c.if-not-is_empty.state ≡ blocks_unset rows (listed_blocks (kept_lists c.change_states.new.kept).came) c.match-w.state =
     elim c.if-not-is_empty.branch [
       | then-not-is_empty w ↦ w.state-is ∙ (rw c.started-blocks.ensures at (w.unset_blocks-state.ensures rows P))
-      | else-not-is_empty w ↦ w.state-is ∙ ap (λ (l : List ℕ). blocks_unset rows l c.with_put-state.result) (sym (nil_from_length _ (eqb-true _ 0 (sym c.is_empty.ensures ∙ w.if-not-is_empty.false))) ∙ c.started-blocks.ensures)
+      | else-not-is_empty w ↦ w.state-is ∙ ap (λ (l : List ℕ). blocks_unset rows l c.match-w.state) (sym (nil_from_length _ (eqb-true _ 0 (sym c.is_empty.ensures ∙ w.if-not-is_empty.false))) ∙ c.started-blocks.ensures)
     ] in
-    let v : length c.if-came-ne0.state.values ≡ 256 = search rules in
-    let w : length c.if-came-ne0.state.marks ≡ 256 = search rules in
     let h = c.put_host.new in
     let k = c.leave_step.new in
     let m = c.note_all-in-loop-notes.new in (
       (turn.budget-left (changing (goal.at.loop-notes-preserved c).After-change_of-c c.requires.kept).picking).0,
       c.show.auto.list ∙ l.invariant.1,
       c.show-in-loop-notes.auto.list ∙ l.invariant.2,
-      λ z K. turn.stands-further (settling (goal.at.loop-notes-preserved c).After-change_states (z, K)) (host_with h.places h.outputs) c.put_host.ensures _ c.written_by-w.ensures _ c.with_put-state.ensures _ cleared
-          k.notes (c.leave_step.ensures rows P) v w m.notes (rw c.working-in-loop-notes.ensures at (c.note_all-in-loop-notes.ensures rows P)) _ _ c.show.ensures c.show-in-loop-notes.ensures,
+      λ z K. turn.stands-further (settling (goal.at.loop-notes-preserved c).After-change_states (z, K)) (host_with h.places h.outputs) c.put_host.ensures _ c.written_by-w.ensures _ made _ cleared
+          k.notes (c.leave_step.ensures rows P) m.notes (rw c.working-in-loop-notes.ensures at (c.note_all-in-loop-notes.ensures rows P)) _ _ c.show.ensures c.show-in-loop-notes.ensures,
     )
