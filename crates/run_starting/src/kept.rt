@@ -64,6 +64,7 @@ impl Kept {
 
     // The rows that have come to work.
     pub fn working(&self) -> &[u16]
+        requires { get_or (kept_lists self.now).came 0 0 ≤ 2048 }
         ensures { result.now ≡ listed_rows (kept_lists self.now).came }
     {
         self.came.rows()
@@ -71,6 +72,7 @@ impl Kept {
 
     // The blocks that have started.
     pub fn started(&self) -> &[u16]
+        requires { get_or (kept_lists self.now).came 2049 0 ≤ 2048 }
         ensures { result.now ≡ listed_blocks (kept_lists self.now).came }
     {
         self.blocks.rows()
