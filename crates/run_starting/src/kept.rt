@@ -10,6 +10,7 @@ use crate::rows::RowList;
 use run_code::place;
 
 // The row states; by row the members left of a running PAR; the rows that come to work; the blocks that start.
+// kept: a state is a number, as the lent buffer of states shows it (C interface)
 #[derive(Drop)]
 pub struct Kept {
     pub states: [u8; 1024],

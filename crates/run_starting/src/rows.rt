@@ -3,6 +3,7 @@ ghost use Rattle.std.specs.Prelude.{◌≡◌, ◌∷◌, ◌<◌, ◌≤◌, re
 ghost use Rattle.machine.specs.Counts.{list_after};
 
 // The first `count` rows are listed, as far as there is room.
+// kept: a count beside an array, for there is no heap; what is read is a slice (`rows`)
 #[derive(Drop)]
 pub struct RowList {
     pub count: u16,
