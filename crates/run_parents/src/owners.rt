@@ -22,6 +22,7 @@ fn note_options(rows: &[i32], first: usize, note: u16, owners: &mut [u16])
     ensures { (j : ℕ) → j < length owners.old → get_or owners.new j 0 ≡ first_note (among j (rows_of_options (content_at rows.now first).options)) note (get_or owners.old j 0) }
 {
     let mut t = first;
+    // kept: the next option's row is read from the row; no index is counted
     while t < rows.len() / 4 {
         if natural(rows, t, 0) != 42 {
             return;
@@ -32,6 +33,7 @@ fn note_options(rows: &[i32], first: usize, note: u16, owners: &mut [u16])
 }
 
 // Notes at every row the ALT whose option it is: one more than its row, or 0.
+// kept: a note is a number of 16 bits, as the prepared list has it (`run_code::Row`, fixed memory)
 pub fn note_owners(rows: &[i32], owners: &mut [u16])
     requires { row_count rows.now ≤ 1024 }
     ensures { owners.new ≡ owner_notes rows.now (length owners.old) }

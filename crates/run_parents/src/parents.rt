@@ -53,6 +53,7 @@ fn note_members(rows: &[i32], m: usize, note: u16, parents: &mut [u16], nexts: &
     ensures numbers { ParentsNumbered (NextOf rows.now) parents.old nexts.old parents.new nexts.new }
 {
     let mut t = m;
+    // kept: the next link is read from the row; no index is counted
     while t < rows.len() / 4 {
         let s = shape_at(rows, t);
         match s {

@@ -15,6 +15,7 @@ pub enum Mode {
 }
 
 // A row's part in settling. A row that it refers to is a higher row, or past the table where there is none.
+// kept: three parts beside Neither; an Option of them gives each match and each definition a level more
 #[derive(Drop)]
 pub enum Shape {
     // a process that ends when it closes: how it starts its members, and the first link to them
@@ -36,6 +37,7 @@ pub fn shape_at(rows: &[i32], r: usize) -> Shape
     let none = rows.len();
     let a = operand(rows, r, 1);
     let b = operand(rows, r, 2);
+    // kept: kinds are the table's own numbers, and the edits name the arms one by one
     match natural(rows, r, 0) {
         20 => Shape::Ending(Mode::ByStep, none),
         21 => Shape::Ending(Mode::InTurn, none),

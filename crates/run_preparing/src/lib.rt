@@ -156,6 +156,7 @@ fn row_at(
             referred(rows, r, 3),
         ),
         22 => assigned_row(rows, r, element_row(code, rows, r), parents[r], nexts[r]),
+        // kept: an arm for each kind, as the edit `variable_of_a_block_not_kept` names that of blocks
         23 => kept_row(
             rows,
             r,

@@ -10,6 +10,7 @@ use crate::rows::RowList;
 use run_code::place;
 
 // The row states; by row the members left of a running PAR; the rows that come to work; the blocks that start.
+// kept: a state is a number, as the lent buffer of states shows it (C interface)
 #[derive(Drop)]
 pub struct Kept {
     pub states: [u8; 1024],
@@ -64,6 +65,7 @@ impl Kept {
 
     // The rows that have come to work.
     pub fn working(&self) -> &[u16]
+        requires { get_or (kept_lists self.now).came 0 0 ≤ 2048 }
         ensures { result.now ≡ listed_rows (kept_lists self.now).came }
     {
         self.came.rows()
@@ -71,6 +73,7 @@ impl Kept {
 
     // The blocks that have started.
     pub fn started(&self) -> &[u16]
+        requires { get_or (kept_lists self.now).came 2049 0 ≤ 2048 }
         ensures { result.now ≡ listed_blocks (kept_lists self.now).came }
     {
         self.blocks.rows()

@@ -20,6 +20,7 @@ pub fn reset(code: &[u16; 6150], r: usize, states: &mut [u8; 1024])
         return;
     }
     states[r] = 0;
+    // kept: an arm for each kind, as the edits name them
     match place(code, r, 0) {
         30 => reset_members(code, place(code, r, 1) as usize, states),
         31 => reset_members(code, place(code, r, 1) as usize, states),

@@ -2,12 +2,12 @@
 ghost use Rattle.std.specs.Prelude.{◌≡◌, ◌∷◌, ◌<◌, ◌≤◌, replicate, take};
 ghost use Rattle.machine.specs.Counts.{list_after};
 
-// The first `count` rows are listed.
+// The first `count` rows are listed, as far as there is room.
+// kept: a count beside an array, for there is no heap; what is read is a slice (`rows`)
 #[derive(Drop)]
 pub struct RowList {
     pub count: u16,
     pub rows: [u16; 2048],
-    ghost within: { count ≤ 2048 },
 }
 
 impl RowList {
@@ -46,6 +46,6 @@ impl RowList {
     pub fn rows(&self) -> &[u16]
         ensures { result.now ≡ take self.now.count self.now.rows }
     {
-        &self.rows[..self.count as usize]
+        &self.rows[..(self.count as usize).min(2048)]
     }
 }

@@ -158,6 +158,13 @@ module _ (rows : List ℤ) (ok : check rows ≡ none) (sheet : Sheet) (readings 
           pub came-below : RowsBelow (listed_rows cames)
           came-below = rows-listed rows ok sheet (λ r. RowOf x r ⊎ (is_live (program rows) sheet r s ≡ false)) (after (program rows) sheet x s) cames listed
 
+          -- there was room for them, and for the blocks that started
+          pub came-room : get_or cames 0 0 ≤ 2048
+          came-room = listed.few
+
+          pub blocks-room : get_or cames 2049 0 ≤ 2048
+          blocks-room = (turned-begins rows ok sheet S.under.labels s S.under.order b left came S.held readings given lines K few m.acts m.sent m.elements T j picked-below x step_is c c-change states lefts cames up).number
+
           -- the blocks that started are rows of blocks
           pub blocks-below : (code : List ℕ) → Prepared rows code → BlocksBelow code (listed_blocks cames)
           blocks-below code p =
@@ -202,6 +209,9 @@ module _ (rows : List ℤ) (ok : check rows ≡ none) (sheet : Sheet) (readings 
 
     pub began-below : RowsBelow (listed_rows came)
     began-below = rows-listed rows ok sheet (λ q. Unit {0}) (start (program rows)) came started
+
+    pub began-room : get_or came 0 0 ≤ 2048
+    began-room = started.few
 
     pub stands-start : (d : Buffers) → d ≡ record { cells = replicate 256 (pos 0); marks = replicate 256 0; states = states; places = replicate 8 0; numbers = replicate 1024 (pos 0); counts = replicate 8 0; output_marks = replicate 1024 0 }
         → (k : Notes) → k ≡ note_listed rows (cells_in d.cells d.marks) d.places d.counts lines (listed_rows came) (lists_of (replicate 3072 0) (replicate 1024 (pos 0)) (replicate 512 0) no_rows)

@@ -131,6 +131,12 @@ began-below b =
     let g = b.setting in
     stands.began-below _ g.accepted _ _ _ _ g.kept g.few (laws g) g.choices g.budget g.first _ b.root_is _ _ _ b.up
 
+-- and there was room for them
+pub began-room : (b : Begun) → get_or b.came 0 0 ≤ 2048
+began-room b =
+    let g = b.setting in
+    stands.began-room _ g.accepted _ _ _ _ g.kept g.few (laws g) g.choices g.budget g.first _ b.root_is _ _ _ b.up
+
 -- once they are noted, the run stands where it starts
 pub stands-first : (b : Begun) → let g = b.setting in (s : store.State) → s ≡ unset_state → (o : Outputs) → o ≡ no_outputs → (l : Notes) → l ≡ no_notes → (m : Notes)
     → m ≡ note_listed g.rows (state_cells s) s.places o.counts g.lines (listed_rows b.came) l
@@ -233,6 +239,25 @@ came-below y =
     let t = k.standing in
     let g = t.setting in
     stands.came-below _ g.accepted _ _ _ _ g.kept g.few (laws g) _ _ _ _ _ _ _ _ _ t.stands _ k.count-is (more p).0 (more p).1 _ _ p.choice-is p.row_is x.change x.change-is _ _ _ y.up
+
+-- there was room for them, and for the blocks that started
+pub came-room : (y : Settling) → get_or y.came 0 0 ≤ 2048
+came-room y =
+    let x = y.changing in
+    let p = x.picking in
+    let k = p.counting in
+    let t = k.standing in
+    let g = t.setting in
+    stands.came-room _ g.accepted _ _ _ _ g.kept g.few (laws g) _ _ _ _ _ _ _ _ _ t.stands _ k.count-is (more p).0 (more p).1 _ _ p.choice-is p.row_is x.change x.change-is _ _ _ y.up
+
+pub blocks-room : (y : Settling) → get_or y.came 2049 0 ≤ 2048
+blocks-room y =
+    let x = y.changing in
+    let p = x.picking in
+    let k = p.counting in
+    let t = k.standing in
+    let g = t.setting in
+    stands.blocks-room _ g.accepted _ _ _ _ g.kept g.few (laws g) _ _ _ _ _ _ _ _ _ t.stands _ k.count-is (more p).0 (more p).1 _ _ p.choice-is p.row_is x.change x.change-is _ _ _ y.up
 
 -- the blocks that started are rows of blocks
 pub blocks-below : (y : Settling) (code : List ℕ) → Prepared y.changing.picking.counting.standing.setting.rows code → BlocksBelow code (listed_blocks y.came)

@@ -3,8 +3,6 @@ use Rattle.run_settling.proofs.GoingUp.{up-not-ended, up-no-parent, up-parent}
 use Rattle.run_settling.proofs.ParentNotes.{parent-process, no-parent-noted, parent-noted, note-below}
 use Rattle.run_starting.specs.Kept.{kept_lists}
 use native.Mathlib.Omega.{arith}
-use borrow.Author.Rules.{rules}
-use Prim.Native.Nat.{ℕ, ◌<◌}
 use Rattle.run_settling.proofs.+settle_up.Goals as goal
 
 pub returns-then-kept-r-ne2 : goal.returns-then-kept-r-ne2

@@ -1,7 +1,6 @@
 -- `begin` meets its contract.
 use Rattle.run_starting.proofs.Starting.{row-starts}
 use Rattle.run_starting.specs.Kept.{kept_lists}
-use borrow.Author.Rules.{rules}
 use Rattle.run_settling.proofs.begin.Goals as goal
 
 pub returns : goal.returns

@@ -1,7 +1,6 @@
 -- `change_up` meets its contract: the change, the start of its members, the way up.
 use Rattle.run_settling.proofs.GoingUp.{change-goes-up}
 use Rattle.run_starting.specs.Kept.{kept_lists}
-use borrow.Author.Rules.{rules}
 use Rattle.run_settling.proofs.change_up.Goals as goal
 
 pub start_if-requires : goal.start_if-requires

@@ -6,7 +6,6 @@ use Rattle.run_code.proofs.Inside.{next-inside}
 use Rattle.run_starting.specs.Kept.{kept_lists}
 use native.Mathlib.Omega.{arith}
 use mathlib.Core.Path.{refl}
-use borrow.Author.Rules.{rules}
 use Rattle.run_settling.proofs.go_on.Goals as goal
 
 pub start_next-requires : goal.start_next-requires

@@ -7,4 +7,4 @@ pub loop-r-preserved : goal.loop-r-preserved
 loop-r-preserved c =
     let args = c.args in
     λ rows ok. one-more-noted rows (state_cells args.state.now) args.state.now.places args.counts.now args.lines args.came.now c.loop-r.r-index c.loop-r-test.true args.notes.now
-        (c.loop-r.invariant rows ok) (c.note_row.ensures rows ok)
+    (c.loop-r.invariant rows ok) (c.note_row.ensures rows ok)

@@ -43,4 +43,4 @@ loop-b-preserved c =
     let b : c.place-in-loop-b.result ≡ size_of code r = c.place-in-loop-b.ensures ∙ ap (λ (q : ℕ). place_at code q 2) v in
     let l = c.loop-b in
     λ rows p. one-more-unset rows code c.args.blocks.now p c.requires.listed l.b-index c.loop-b-test.true c.args.state (l.invariant rows p)
-        (c.unset_range-state.ensures ∙ ap₂ (λ (i n : ℕ). with_unset i n l.state) a b)
+    (c.unset_range-state.ensures ∙ ap₂ (λ (i n : ℕ). with_unset i n l.state) a b)

@@ -2,10 +2,7 @@
 use Rattle.run_starting.proofs.Resetting.{idle-resets, ending-resets, single-resets, itself-resets, none-reset, none-started, link-resets, link-passes, link-stops}
 use Rattle.run_starting.proofs.Standing.{found_in, links-in, no-members, link-in, next-links, seq-shape, par-shape, if-shape, alt-shape, while-shape-in, block-shape-in}
 use native.Mathlib.Omega.{arith}
-use Prim.Native.Nat.{◌-◌}
 use mathlib.Core.Path.{refl}
-use borrow.Author.Rules.{rules}
-use Prim.Native.Nat.{ℕ, ◌<◌}
 use Rattle.run_starting.proofs.reset.+reset_reset_members_reset_started.Goals as goal
 
 pub reset-returns-then-states-r-eq0 : goal.reset-returns-then-states-r-eq0

@@ -1,10 +1,4 @@
-use Rattle.std.proofs.Common.{◌≡◌, List, ◌<◌, ◌≤◌, ℤ, ℕ, ◌+◌, ◌-◌, ◌*◌, length}
-use Rattle.meaning.specs.Tree.{content_at}
-use Rattle.meaning.specs.State.{program, process_at}
-use Rattle.machine.specs.Upward as upward
-use Rattle.machine.specs.Upward.{reset_members, reset_started}
-use Rattle.run_code.specs.Prepared.{Prepared}
-use Rattle.run_starting.specs.Parts.{Links, IsProcess}
+use Rattle.std.proofs.Common.{◌-◌}
 use Rattle.run_starting.proofs.reset.+reset_reset_members_reset_started.Given as goal
 
 abbrev pub decreases-reset : goal.decreases-reset

@@ -132,6 +132,9 @@ pub begin-requires-clause-row : goal.begin-requires-clause-row
 begin-requires-clause-row c =
     root_below _ c.requires.table.accepted _ (root_is _ _ c.declarations-root.ensures)
 
+pub working-requires : goal.working-requires
+working-requires c = turn.began-room (begun (goal.at.working-requires c).After-begin c.requires.kept)
+
 pub note_all-requires-clause-listed : goal.note_all-requires-clause-listed
 note_all-requires-clause-listed c =
     subst RowsBelow (sym c.working.ensures) (turn.began-below (begun (goal.at.note_all-requires-clause-listed c).After-begin c.requires.kept))
@@ -186,6 +189,12 @@ pub change_states-requires-clause-inside : goal.change_states-requires-clause-in
 change_states-requires-clause-inside c =
     let w = turn.change-within (changing (goal.at.change_states-requires-clause-inside c).After-change_of-c c.requires.kept) in
     (w.1, w.2)
+
+pub started-blocks-requires : goal.started-blocks-requires
+started-blocks-requires c = turn.blocks-room (settling (goal.at.started-blocks-requires c).After-change_states c.requires.kept)
+
+pub working-requires-in-loop-notes : goal.working-requires-in-loop-notes
+working-requires-in-loop-notes c = turn.came-room (settling (goal.at.working-requires-in-loop-notes c).After-change_states c.requires.kept)
 
 pub unset_blocks-state-requires-clause-listed : goal.unset_blocks-state-requires-clause-listed
 unset_blocks-state-requires-clause-listed c =

@@ -5,10 +5,7 @@ use Rattle.run_starting.proofs.Standing.{skip-shape, seq-shape, par-shape, block
 use Rattle.meaning.specs.Settle.{local_of}
 use Rattle.run_starting.specs.Kept.{kept_lists}
 use native.Mathlib.Omega.{arith}
-use Prim.Native.Nat.{◌+◌, ◌*◌, ◌-◌}
 use mathlib.Core.Path.{refl, ap}
-use borrow.Author.Rules.{rules}
-use Prim.Native.Nat.{ℕ, ◌<◌}
 use Rattle.run_starting.proofs.kept.Kept.+start_beneath_start_members_start_row.Goals as goal
 
 pub start_beneath-start_members-requires : goal.start_beneath-start_members-requires

@@ -1,4 +1,4 @@
-use Rattle.std.proofs.Common.{ℕ, ◌+◌, ◌-◌, ◌*◌}
+use Rattle.std.proofs.Common.{◌+◌, ◌-◌, ◌*◌}
 use Rattle.run_starting.proofs.kept.Kept.+start_beneath_start_members_start_row.Given as goal
 
 abbrev pub decreases-start_beneath : goal.decreases-start_beneath

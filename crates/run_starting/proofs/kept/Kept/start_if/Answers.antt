@@ -2,7 +2,6 @@
 use Rattle.run_starting.proofs.Starting.{starts-now, starts-not}
 use Rattle.run_starting.specs.Kept.{kept_lists}
 use Rattle.meaning.specs.State.{program, process_at}
-use borrow.Author.Rules.{rules}
 use Rattle.run_starting.proofs.kept.Kept.start_if.Goals as goal
 
 pub returns-then-n-eq1 : goal.returns-then-n-eq1

@@ -10,4 +10,4 @@ pub returns : goal.returns
 returns c =
     let k = c.args.self.now in
     let h : length k.came.rows ≡ 2048 = omega arith in
-    c.rows.ensures ∙ sym (rows-listed k.came.count k.came.rows (numbers_of k.blocks) h k.came.within)
+    c.rows.ensures ∙ sym (rows-listed k.came.count k.came.rows (numbers_of k.blocks) h c.requires)
