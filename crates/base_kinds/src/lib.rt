@@ -141,19 +141,17 @@ pub fn shape_of(table: &[[u64; 3]], k: u32) -> Shape
     ensures numbers { result ≡ table_shape table.now k }
     ensures meaning { meant_shape k result ≡ shape_of k }
 {
-    let at = k as usize;
-    if table.len() <= at {
-        return Shape {
+    match table.get(k as usize) {
+        Some(line) => Shape {
+            a: line[0],
+            b: line[1],
+            c: line[2],
+        },
+        None => Shape {
             a: NO_KIND,
             b: NO_KIND,
             c: NO_KIND,
-        };
-    }
-    let line = table[at];
-    Shape {
-        a: line[0],
-        b: line[1],
-        c: line[2],
+        },
     }
 }
 
@@ -161,10 +159,7 @@ pub fn shape_of(table: &[[u64; 3]], k: u32) -> Shape
 pub fn in_mask(mask: u64, k: u32) -> bool
     ensures { result ≡ among k (numbers_in mask) }
 {
-    if k < 64 {
-        return (mask >> k) % 2 == 1;
-    }
-    false
+    k < 64 && (mask >> k) % 2 == 1
 }
 
 // Whether a kind is one of a process.

@@ -2,11 +2,11 @@
 use mathlib.Core.Path.{◌≡◌, refl, sym, ap, ◌∙◌}
 use mathlib.Core.Bool.{Bool, true, false, ◌||◌, false≢true}
 use mathlib.Core.Option.{none, some}
-use Prim.Native.Nat.{ℕ, zero, suc, ◌+◌, ◌-◌, ◌≤◌, ◌<◌}
+use Prim.Native.Nat.{ℕ, zero, suc, ◌+◌, ◌-◌, ◌<◌}
 use native.Mathlib.Numerals.{add-one}
 use native.Mathlib.Omega.{arith}
 use mathlib.Core.Option as maybe
-use Rattle.std.specs.Prelude.{Option, Some, None, MatchOption}
+use Rattle.std.specs.Prelude.{Option, Some, None}
 use Rattle.std.specs.List.{list_any, range_with_len}
 use Rattle.meaning.specs.Basics.{is_some}
 use Rattle.meaning.specs.Basics.{if_else, lowest_from, lowest}
@@ -36,13 +36,6 @@ module _ (p : ℕ → Bool) where
       let e : i + suc (n - suc i) ≡ n = omega arith in
       let z : 0 + i ≡ i = omega arith in
       (rw (e, z) at (skip i 0 (suc (n - suc i)) (λ j m. h j (omega arith)))) ∙ rw t
-
-  -- what a search for the first number that passes finds
-  pub lowest-found : (n : ℕ) (o : Option ℕ)
-      → MatchOption o ((k : ℕ) → 0 ≤ k → k < n → p k ≡ false) (λ i. (0 ≤ i) × (i < n) × (p i ≡ true) × ((k : ℕ) → 0 ≤ k → k < i → p k ≡ false))
-      → o ≡ place_of (lowest p n)
-  lowest-found n None h = ap place_of (sym (lowest-none n (λ j l. h j (omega arith) l)))
-  lowest-found n (Some i) h = ap place_of (sym (lowest-some n i h.1 (λ j l. h.3 j (omega arith) l) h.2))
 
   -- whether some number below n passes
   any-from : (at n : ℕ) → list_any p (range_with_len at n) ≡ is_some (lowest_from p at n)

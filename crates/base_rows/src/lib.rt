@@ -124,11 +124,7 @@ pub fn host_channels_at(role: u32, rows: &[i32], d: usize, r: usize) -> u32
     requires { d ≡ declarations rows.now }
     ensures { result ≡ host_channels_at role rows.now r }
 {
-    if has_role(role, rows, d, r) {
-        1
-    } else {
-        0
-    }
+    if has_role(role, rows, d, r) { 1 } else { 0 }
 }
 
 pub fn capacity_at(rows: &[i32], d: usize, r: usize) -> u32

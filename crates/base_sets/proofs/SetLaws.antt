@@ -6,7 +6,7 @@ use Prim.Native.Nat.{ℕ, suc, ◌+◌, ◌-◌, ◌*◌, ◌/◌, ◌%◌, ◌^
 use native.Mathlib.Numerals.{add-one}
 use native.Mathlib.Omega.{arith}
 use lib.ListN.{length, get_or, set, take, drop, drop_of_length-le}
-use lib.Seq.{set_out, take_all, take-suc, drop-cons, append_snoc, take-suc-set, drop-set-lt}
+use lib.Seq.{set_out, take_all, drop-cons, append_snoc, take-suc-set, drop-set-lt}
 use lib.Bits.{bit_or}
 use borrow.Author.Tests.{le-ltb, lt-ltb}
 use Rattle.meaning.specs.Usage.{numbers_from}

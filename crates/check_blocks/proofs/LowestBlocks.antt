@@ -1,20 +1,19 @@
 -- The lowest block of each name, as the rows are gone through and as it is noted.
 use mathlib.Core.Path.{◌≡◌, refl, sym, ap, ◌∙◌, subst}
-use mathlib.Core.Bool.{Bool, true, false, not, ◌&&◌}
+use mathlib.Core.Bool.{Bool, true, false, ◌&&◌}
 use mathlib.Core.List.{List}
 use mathlib.Core.Option as maybe
 use mathlib.Core.Option.{none, some}
 use Rattle.std.specs.Prelude.{Option, Some, None, is_none}
-use Prim.Native.Nat.{ℕ, zero, suc, ◌+◌, ◌≤◌, ◌<◌}
+use Prim.Native.Nat.{ℕ, zero, suc, ◌+◌, ◌<◌}
 use native.Mathlib.Omega.{arith}
 use lib.IntN.{ℤ}
 use lib.ListN.{length, get_or, set, replicate, length-set, length-replicate, get_or-replicate}
 use lib.Seq.{get_or-set_same, get_or-set_other}
-use lib.Dec.{eqb}
 use borrow.Author.Tests.{eq-eqb, ne_eqb}
 use Rattle.meaning.specs.Basics.{if_else, lowest_from, lowest, Lowest}
 use Rattle.meaning.specs.Rows.{row_count, natural_at, kind_at}
-use Rattle.meaning.specs.Verdict.{is_block, block_of, some_not}
+use Rattle.meaning.specs.Verdict.{is_block, block_of}
 use Rattle.meaning.proofs.Decides.{Decides, holding, failing, decides_and, decides_eq, lowest-decided}
 use Rattle.base_kinds.proofs.Truth.{and-false}
 use Rattle.base_rows.specs.Places.{place_of}

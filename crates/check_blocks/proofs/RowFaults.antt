@@ -1,20 +1,19 @@
 -- A row at fault by its kind, and the lowest that is; a table without blocks has none.
 use mathlib.Core.Path.{◌≡◌, sym}
 use mathlib.Core.Logic.{inl, inr}
-use mathlib.Core.Bool.{true, false, or-false, false≢true}
+use mathlib.Core.Bool.{true, false, or-false}
 use mathlib.Core.List.{List}
-use mathlib.Core.Option.{Option, none, some}
+use mathlib.Core.Option.{none}
 use Prim.Native.Nat.{ℕ, ◌<◌}
 use lib.IntN.{ℤ}
 use lib.Dec.{eqb}
 use borrow.Author.Tests.{eq-eqb, ne_eqb}
-use Rattle.meaning.specs.Basics.{is_some, among, lowest, Lowest}
+use Rattle.meaning.specs.Basics.{among}
 use Rattle.meaning.specs.Rows.{row_count, natural_at, kind_at}
 use Rattle.meaning.specs.Declarations.{declarations}
 use Rattle.meaning.specs.Verdict.{rows_under, is_block, names_variable, block_of, some_not, block_fault_at, block_fault}
 use Rattle.meaning.specs.Answers.{verdict_of}
 use Rattle.meaning.specs.declared.Verdict.TheVariants.{Accepted, Rejected}
-use Rattle.meaning.proofs.Decides.{decides_eq, lowest-decided}
 use Rattle.base_kinds.proofs.Truth.{and-false}
 use Rattle.base_rows.proofs.LowestFound.{lowest-none, lowest-some, none-passes}
 use Rattle.check_blocks.specs.Blocks.{has_block, NamesVariable, is_block_of}

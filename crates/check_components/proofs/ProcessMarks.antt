@@ -6,7 +6,7 @@ use Prim.Native.Nat.{ℕ, ◌<◌, ◌≤◌}
 use lib.IntN.{ℤ}
 use Rattle.meaning.specs.Rows.{row_count, field_at, natural_at, kind_at}
 use Rattle.meaning.specs.Declarations.{variable_at, source_at, sink_at}
-use Rattle.meaning.specs.Tree.{empty, assign, input, output, Content, content_of, content_at, input_of}
+use Rattle.meaning.specs.Tree.{empty, assign, output, Content, content_of, content_at, input_of}
 use Rattle.meaning.specs.Usage.{stands_in, of_guard, gather, gather_all}
 use Rattle.base_layout.specs.Operands.{operand_at}
 use Rattle.base_layout.proofs.Parts.{part-past, higher_content, part-of-kind}

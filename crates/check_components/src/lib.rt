@@ -102,6 +102,7 @@ fn of_output<'a>(rows: &'a [i32], names: &'a [Name], r: usize, sets: &mut [u64])
 }
 
 // The booleans of the choices from row m on.
+// kept: this walk, that over options and that over members stay apart, since a common one needs a closure that changes the sets and is no shorter.
 fn choices<'a>(rows: &'a [i32], names: &'a [Name], m: usize, sets: &mut [u64])
     requires { WalkFacts rows.now names.now }
     ensures { sets.new ≡ with_all sets.old (mark_choices (content_at rows.now m).tests) }

@@ -1,5 +1,5 @@
 -- The verdict by the first stage that finds a fault, from the places that the stages find.
-use mathlib.Core.Path.{◌≡◌, refl, ap, subst}
+use mathlib.Core.Path.{◌≡◌, ap, subst}
 use mathlib.Core.Bool.{Bool}
 use mathlib.Core.List.{List, [], ◌∷◌}
 use mathlib.Core.Option.{Option, none, some, map}
@@ -18,7 +18,7 @@ use Rattle.meaning.specs.Verdict.{form_fault_at, form_fault, targets_below, tree
 use Rattle.meaning.specs.declared.Verdict.{Verdict}
 use Rattle.meaning.specs.Declarations.{declarations}
 use Rattle.meaning.proofs.LowestLaws.{lowest-is}
-use Rattle.std.specs.Prelude.{Some, None}
+use Rattle.std.specs.Prelude.{Some}
 use Rattle.base_rows.specs.Places.{place_of}
 use Rattle.base_rows.proofs.LowestFound.{place-some}
 use Rattle.base_kinds.proofs.Truth.{and-false}

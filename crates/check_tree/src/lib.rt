@@ -22,7 +22,10 @@ fn followed(rows: &[i32], r: usize, kinds: u64, z: i32) -> Option<usize>
         return None;
     }
     let t = base_rows::natural(z) as usize;
-    if r < t && t < base_rows::row_count(rows) && base_kinds::in_mask(kinds, base_rows::kind(rows, t)) {
+    if r < t
+        && t < base_rows::row_count(rows)
+        && base_kinds::in_mask(kinds, base_rows::kind(rows, t))
+    {
         Some(t)
     } else {
         None

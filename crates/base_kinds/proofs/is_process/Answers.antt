@@ -1,7 +1,6 @@
 -- The mask's kinds are those of processes. Assumes nothing.
 use Rattle.meaning.specs.Basics.{all_below}
 use Rattle.base_kinds.specs.Table.{numbers_in}
-use borrow.Author.Rules.{rules}
 use Rattle.base_kinds.proofs.is_process.Goals as goal
 
 pub returns : goal.returns

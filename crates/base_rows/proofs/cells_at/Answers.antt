@@ -2,7 +2,6 @@
 use mathlib.Core.Path.{◌≡◌, sym, ◌∙◌}
 use mathlib.Core.Bool.{true, false}
 use Rattle.meaning.specs.Declarations.{is_variable, cells_at}
-use borrow.Author.Rules.{rules}
 use Rattle.base_rows.proofs.cells_at.Goals as goal
 
 pub returns-then-is_variable : goal.returns-then-is_variable

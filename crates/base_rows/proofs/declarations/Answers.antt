@@ -1,5 +1,5 @@
 -- The first row that declares nothing, or the count of rows, is how many declarations lead. Assumes nothing.
-use Rattle.std.proofs.Common.{◌≡◌, true, false, arith, rules, tests}
+use Rattle.std.proofs.Common.{◌≡◌, true, false, rules, tests}
 use Rattle.std.proofs.lemmas.Iterator.{first_from_Range}
 use Rattle.meaning.specs.Declarations.{declares}
 use Rattle.base_rows.proofs.Leading.{leading-found}

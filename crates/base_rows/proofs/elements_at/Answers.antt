@@ -2,7 +2,6 @@
 use mathlib.Core.Path.{◌≡◌, sym, ◌∙◌}
 use mathlib.Core.Bool.{true, false}
 use Rattle.meaning.specs.Declarations.{is_channel, elements_at}
-use borrow.Author.Rules.{rules}
 use Rattle.base_rows.proofs.elements_at.Goals as goal
 
 pub returns-then-is_channel : goal.returns-then-is_channel

@@ -2,7 +2,6 @@
 use mathlib.Core.Path.{◌≡◌, sym, ◌∙◌}
 use mathlib.Core.Bool.{true, false}
 use Rattle.meaning.specs.Declarations.{has_role, host_channels_at}
-use borrow.Author.Rules.{rules}
 use Rattle.base_rows.proofs.host_channels_at.Goals as goal
 
 pub returns-then-has_role : goal.returns-then-has_role

@@ -1,11 +1,6 @@
 -- `join` meets its contract. The loop has joined the words before i; the measure is what is left of them.
-use mathlib.Core.Path.{◌≡◌, refl, sym, ◌∙◌}
-use mathlib.Core.List.{◌++◌}
-use Prim.Native.Nat.{◌-◌}
-use native.Mathlib.Omega.{arith}
-use lib.ListN.{length, take, drop, length-set}
+use mathlib.Core.Path.{sym, ◌∙◌}
 use borrow.Author.Rules.{rules}
-use Rattle.base_sets.specs.Sets.{set_union}
 use Rattle.base_sets.proofs.SetLaws.{join-start, join_step, join-done}
 use Rattle.base_sets.proofs.join.Goals as goal
 

@@ -1,11 +1,7 @@
-use mathlib.Core.Path.{◌≡◌, refl, sym, ◌∙◌}
+use mathlib.Core.Path.{◌≡◌}
 use mathlib.Core.List.{◌++◌}
-use Prim.Native.Nat.{◌-◌}
-use native.Mathlib.Omega.{arith}
-use lib.ListN.{length, take, drop, length-set}
-use borrow.Author.Rules.{rules}
+use lib.ListN.{take, drop}
 use Rattle.base_sets.specs.Sets.{set_union}
-use Rattle.base_sets.proofs.SetLaws.{join-start, join_step, join-done}
 use Rattle.base_sets.proofs.join.Given as goal
 
 abbrev pub invariant-loop-i : goal.invariant-loop-i

@@ -1,5 +1,4 @@
 -- `put` meets its contract: a number is set in its word, and one past the words or past 255 changes nothing.
-use borrow.Author.Rules.{rules}
 use Rattle.base_sets.proofs.SetLaws.{put-large, put_in, put-past}
 use Rattle.base_sets.proofs.put.Goals as goal
 

@@ -1,11 +1,7 @@
-use mathlib.Core.Path.{◌≡◌, refl, sym, ap, ◌∙◌}
-use mathlib.Core.List.{List}
-use Prim.Native.Nat.{ℕ, ◌+◌, ◌-◌, ◌≤◌}
-use lib.ListN.{length}
-use borrow.Author.Rules.{rules}
+use mathlib.Core.Path.{◌≡◌}
+use Prim.Native.Nat.{◌+◌, ◌-◌}
 use Rattle.meaning.specs.Usage.{numbers_from}
 use Rattle.base_sets.specs.Sets.{with_all, in_sort}
-use Rattle.base_sets.proofs.SetLaws.{range-start, with_none, with-next, range-next, range_none}
 use Rattle.base_sets.proofs.put_range.Given as goal
 
 abbrev pub invariant-loop-k : goal.invariant-loop-k

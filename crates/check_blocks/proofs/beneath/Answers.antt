@@ -3,7 +3,6 @@ use native.Mathlib.Omega.{arith}
 use Rattle.std.proofs.Common.{◌∙◌, get_or}
 use borrow.Author.Tests.{le-ltb}
 use Rattle.check_blocks.proofs.NumbersInside.{after-it, not_after}
-use borrow.Author.Rules.{rules}
 use Rattle.check_blocks.proofs.beneath.Goals as goal
 
 pub returns-then-first-number : goal.returns-then-first-number

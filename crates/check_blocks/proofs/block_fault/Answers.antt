@@ -2,7 +2,6 @@
 use mathlib.Core.Path.{sym, ap, ◌∙◌}
 use Rattle.meaning.specs.Answers.{verdict_of}
 use Rattle.check_blocks.proofs.RowFaults.{no-block-fault}
-use borrow.Author.Rules.{rules}
 use Rattle.check_blocks.proofs.block_fault.Goals as goal
 
 pub returns-else-has_block : goal.returns-else-has_block

@@ -1,6 +1,5 @@
 -- The lists are filled in turn. Assumes nothing.
 use Rattle.check_blocks.proofs.LowestBlocks.{none-noted}
-use borrow.Author.Rules.{rules}
 use Rattle.check_blocks.proofs.fault_of_blocks.Goals as goal
 
 pub note_blocks-requires : goal.note_blocks-requires

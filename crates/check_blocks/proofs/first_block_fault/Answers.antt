@@ -1,12 +1,8 @@
 -- No row so far is at fault. Assumes nothing.
-use mathlib.Core.Path.{◌≡◌, sym, ap, ◌∙◌}
-use mathlib.Core.Bool.{false}
-use Prim.Native.Nat.{ℕ, ◌≤◌, ◌<◌, ◌-◌}
+use mathlib.Core.Path.{sym, ap, ◌∙◌}
+use Prim.Native.Nat.{ℕ}
 use native.Mathlib.Omega.{arith}
-use borrow.Author.Rules.{rules}
 use borrow.Author.Count.{below_more}
-use Rattle.meaning.specs.Rows.{row_count}
-use Rattle.meaning.specs.Declarations.{declarations}
 use Rattle.meaning.specs.Verdict.{block_fault_at}
 use Rattle.check_blocks.proofs.RowFaults.{fault-at, no-fault}
 use Rattle.check_blocks.proofs.first_block_fault.Goals as goal

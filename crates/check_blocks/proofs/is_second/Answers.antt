@@ -1,5 +1,5 @@
 -- The row noted for the name of a block is the lowest. Assumes nothing.
-use Rattle.std.proofs.Common.{rules, arith, ◌<◌, sym}
+use Rattle.std.proofs.Common.{arith, ◌<◌, sym}
 use Rattle.check_blocks.proofs.NamedRows.{block-below}
 use Rattle.check_blocks.proofs.LowestBlocks.{no_block, its-block}
 use Rattle.check_blocks.proofs.is_second.Goals as goal

@@ -1,8 +1,7 @@
 -- The invariant: the blocks of the rows so far are noted. Assumes nothing.
 use mathlib.Core.Path.{◌≡◌, subst}
-use Prim.Native.Nat.{ℕ, ◌≤◌, ◌-◌}
+use Prim.Native.Nat.{ℕ}
 use native.Mathlib.Omega.{arith}
-use borrow.Author.Rules.{rules}
 use native.Mathlib.Numerals.{add-one}
 use Rattle.meaning.specs.Rows.{row_count}
 use Rattle.check_blocks.specs.Blocks.{BlocksNoted}

@@ -1,8 +1,5 @@
 -- The row noted for the name is its lowest block, or there is none. Assumes nothing.
-use Rattle.std.proofs.Common.{rules, arith, ◌≡◌, ◌<◌, not, sym, ap}
-use mathlib.Core.Option.{some}
-use Rattle.meaning.specs.Verdict.{block_of}
-use Rattle.check_blocks.specs.Blocks.{FromRoot}
+use Rattle.std.proofs.Common.{arith, ◌<◌, not, sym, ap}
 use Rattle.check_blocks.proofs.NamedRows.{name_below, name-from-root}
 use Rattle.check_blocks.proofs.LowestBlocks.{no_block, its-block}
 use Rattle.check_blocks.proofs.outside.Goals as goal

@@ -1,9 +1,6 @@
 -- `choices`, which calls itself on the next choice, meets its contract. The measure is the rows left to the table's end.
 use mathlib.Core.Path.{sym, ◌∙◌}
-use Prim.Native.Nat.{◌/◌, ◌-◌, ℕ, ◌<◌}
 use native.Mathlib.Omega.{arith}
-use lib.ListN.{length}
-use borrow.Author.Rules.{rules}
 use Rattle.base_layout.proofs.Parts.{operand-higher}
 use Rattle.base_sets.proofs.SetLaws.{no_call, two-calls}
 use Rattle.check_components.proofs.ProcessMarks.{past-choices, choice-marks, no-choices}
@@ -21,6 +18,6 @@ returns-then-natural-eq41 t c =
 pub returns-else-m-rows : goal.returns-else-m-rows
 returns-else-m-rows t c =
     elim c.else-m-rows.branch [
-      else-m-rows-via-then-m-rows+else-natural-eq41 w ↦ no_call _ (no-choices c.args.rows.now c.args.m w.if-m-rows.true (λ q. w.if-natural-eq41.false (w.natural.ensures ∙ q)))
-    | else-m-rows-via-else-m-rows w ↦ no_call _ (past-choices c.args.rows.now c.args.m w.if-m-rows.false)
+      | else-m-rows-via-then-m-rows+else-natural-eq41 w ↦ no_call _ (no-choices c.args.rows.now c.args.m w.if-m-rows.true (λ q. w.if-natural-eq41.false (w.natural.ensures ∙ q)))
+      | else-m-rows-via-else-m-rows w ↦ no_call _ (past-choices c.args.rows.now c.args.m w.if-m-rows.false)
     ]

@@ -1,9 +1,6 @@
 -- `expression`, which calls itself on operands, meets its contract. The measure is the rows left to the table's end.
 use mathlib.Core.Path.{sym, ◌∙◌}
-use Prim.Native.Nat.{◌/◌, ◌-◌, ℕ, ◌<◌}
 use native.Mathlib.Omega.{arith}
-use lib.ListN.{length}
-use borrow.Author.Rules.{rules}
 use Rattle.base_layout.proofs.Parts.{operand-higher}
 use Rattle.base_sets.proofs.SetLaws.{no_call, one-call, two-calls}
 use Rattle.check_components.proofs.ExprMarks.{past-expr, element-marks, monadic-marks, dyadic-marks, no-expr-marks}

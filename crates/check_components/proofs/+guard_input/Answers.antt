@@ -1,9 +1,6 @@
 -- `guard_input`, which calls itself on the row that a guard refers to, meets its contract. The measure is the rows left to the table's end.
 use mathlib.Core.Path.{sym, ◌∙◌}
-use Prim.Native.Nat.{◌/◌, ◌-◌, ℕ, ◌<◌}
 use native.Mathlib.Omega.{arith}
-use lib.ListN.{length}
-use borrow.Author.Rules.{rules}
 use Rattle.base_layout.proofs.Parts.{operand-higher}
 use Rattle.base_sets.proofs.SetLaws.{no_call, one-call}
 use Rattle.check_components.proofs.ProcessMarks.{past-input, input-marks, guard-marks, no-input}

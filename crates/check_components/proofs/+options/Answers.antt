@@ -1,9 +1,6 @@
 -- `options`, which calls itself on the next option, meets its contract. The measure is the rows left to the table's end.
 use mathlib.Core.Path.{sym, ◌∙◌}
-use Prim.Native.Nat.{◌/◌, ◌-◌, ℕ, ◌<◌}
 use native.Mathlib.Omega.{arith}
-use lib.ListN.{length}
-use borrow.Author.Rules.{rules}
 use Rattle.base_layout.proofs.Parts.{operand-higher}
 use Rattle.base_sets.proofs.SetLaws.{no_call, three-calls}
 use Rattle.check_components.proofs.ProcessMarks.{past-options, option-marks, no-options}
@@ -21,6 +18,6 @@ returns-then-natural-eq42 t c =
 pub returns-else-m-rows : goal.returns-else-m-rows
 returns-else-m-rows t c =
     elim c.else-m-rows.branch [
-      else-m-rows-via-then-m-rows+else-natural-eq42 w ↦ no_call _ (no-options c.args.rows.now c.args.m w.if-m-rows.true (λ q. w.if-natural-eq42.false (w.natural.ensures ∙ q)))
-    | else-m-rows-via-else-m-rows w ↦ no_call _ (past-options c.args.rows.now c.args.m w.if-m-rows.false)
+      | else-m-rows-via-then-m-rows+else-natural-eq42 w ↦ no_call _ (no-options c.args.rows.now c.args.m w.if-m-rows.true (λ q. w.if-natural-eq42.false (w.natural.ensures ∙ q)))
+      | else-m-rows-via-else-m-rows w ↦ no_call _ (past-options c.args.rows.now c.args.m w.if-m-rows.false)
     ]

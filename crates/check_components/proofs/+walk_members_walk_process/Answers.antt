@@ -1,9 +1,7 @@
 -- The walk over processes and the walk over member lists, each of which calls the other, meet their contracts. The measure of both is the rows left to the table's end.
 use mathlib.Core.Path.{sym, ◌∙◌, subst}
 use mathlib.Core.Logic.{inl, inr}
-use Prim.Native.Nat.{◌/◌, ◌-◌, ℕ, ◌<◌}
 use native.Mathlib.Omega.{arith}
-use lib.ListN.{length}
 use borrow.Author.Rules.{rules}
 use Rattle.meaning.specs.Rows.{kind_at}
 use Rattle.base_layout.proofs.Parts.{operand-higher}

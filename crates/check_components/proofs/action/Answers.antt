@@ -1,6 +1,5 @@
 -- `action` meets its contract: by the row's kind.
 use mathlib.Core.Path.{sym, ◌∙◌}
-use borrow.Author.Rules.{rules}
 use Rattle.base_sets.proofs.SetLaws.{one-call}
 use Rattle.check_components.proofs.ProcessMarks.{own-choices, own-loop, own-options}
 use Rattle.check_components.proofs.action.Goals as goal

@@ -1,6 +1,5 @@
 -- `cells` meets its contract: the layout gives the variable that the row names.
 use mathlib.Core.Path.{ap}
-use borrow.Author.Rules.{rules}
 use Rattle.base_sets.specs.Sets.{in_sort}
 use Rattle.base_sets.proofs.SetLaws.{one-call}
 use Rattle.check_components.proofs.ExprMarks.{cells_are}

@@ -1,9 +1,6 @@
 -- The loop has gathered the sets of the PARs from row r on. The measure is what is left of the rows. Assumes nothing.
 use mathlib.Core.Path.{◌≡◌, sym, ◌∙◌, subst}
-use Prim.Native.Nat.{◌-◌, ◌*◌, ◌≤◌}
-use lib.ListN.{length}
 use borrow.Author.Rules.{rules}
-use Rattle.meaning.specs.Rows.{row_count}
 use Rattle.check_components.specs.RowSets.{SetsFrom}
 use Rattle.check_components.proofs.Gathering.{none_yet, next-higher, no-par-there}
 use Rattle.check_components.proofs.gather_all.Goals as goal

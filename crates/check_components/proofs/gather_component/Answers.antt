@@ -2,7 +2,6 @@
 use Rattle.meaning.specs.Tree.{content_at}
 use Rattle.check_components.specs.Marks.{all_marks}
 use Rattle.check_components.proofs.Gathering.{component-joined, component-stored, component-past}
-use borrow.Author.Rules.{rules}
 use Rattle.check_components.proofs.gather_component.Goals as goal
 
 pub returns-then-p-rows : goal.returns-then-p-rows

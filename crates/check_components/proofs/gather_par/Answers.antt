@@ -1,12 +1,10 @@
 -- The loop has gathered the components before the link at `at`. The measure is the rows left to the table's end. Assumes nothing.
 use mathlib.Core.Path.{refl, sym, ◌∙◌}
-use Prim.Native.Nat.{◌-◌}
 use native.Mathlib.Omega.{arith}
 use borrow.Author.Rules.{rules}
-use Rattle.meaning.specs.Rows.{row_count}
 use Rattle.base_layout.proofs.Parts.{operand-higher}
 use Rattle.check_components.proofs.Links.{link-below}
-use Rattle.check_components.proofs.Gathering.{Gathering, gathering-starts, gathering-pars, gathering-goes, gathering-ends, row_within}
+use Rattle.check_components.proofs.Gathering.{gathering-starts, gathering-pars, gathering-goes, gathering-ends, row_within}
 use Rattle.check_components.proofs.gather_par.Goals as goal
 
 pub loop-all-init : goal.loop-all-init

@@ -1,11 +1,6 @@
-use mathlib.Core.Path.{refl, sym, ◌∙◌}
 use Prim.Native.Nat.{◌-◌}
-use native.Mathlib.Omega.{arith}
-use borrow.Author.Rules.{rules}
 use Rattle.meaning.specs.Rows.{row_count}
-use Rattle.base_layout.proofs.Parts.{operand-higher}
-use Rattle.check_components.proofs.Links.{link-below}
-use Rattle.check_components.proofs.Gathering.{Gathering, gathering-starts, gathering-pars, gathering-goes, gathering-ends, row_within}
+use Rattle.check_components.proofs.Gathering.{Gathering}
 use Rattle.check_components.proofs.gather_par.Given as goal
 
 abbrev pub invariant-loop-all : goal.invariant-loop-all

@@ -1,8 +1,7 @@
 -- `is_link` meets its contract.
 use mathlib.Core.Path.{refl}
 use Rattle.std.proofs.Common.{tests}
-use mathlib.Core.Path.{sym}
-use borrow.Author.Tests.{le-ltb, lt-ltb, le-leb, lt-leb}
+use borrow.Author.Tests.{le-ltb, lt-ltb}
 use borrow.Author.Rules.{rules}
 use Rattle.check_components.specs.Fields.{is_link}
 use Rattle.check_components.proofs.is_link.Goals as goal

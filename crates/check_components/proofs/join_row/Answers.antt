@@ -1,6 +1,5 @@
 -- The sets of a row are sixteen words. Assumes nothing.
 use mathlib.Core.Path.{ap, ◌∙◌}
-use borrow.Author.Rules.{rules}
 use Rattle.base_sets.specs.Sets.{set_union}
 use Rattle.check_components.proofs.RowSets.{sets-part}
 use Rattle.check_components.proofs.join_row.Goals as goal

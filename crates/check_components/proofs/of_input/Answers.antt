@@ -1,5 +1,4 @@
 -- `of_input` meets its contract: the layout gives the channel that the input names.
-use borrow.Author.Rules.{rules}
 use Rattle.base_sets.proofs.SetLaws.{three-calls}
 use Rattle.check_components.proofs.ExprMarks.{of-input-marks}
 use Rattle.check_components.proofs.NamedLaws.{source-named}

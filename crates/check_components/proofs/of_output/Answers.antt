@@ -1,5 +1,4 @@
 -- `of_output` meets its contract: the layout gives the channel that the output names.
-use borrow.Author.Rules.{rules}
 use Rattle.base_sets.proofs.SetLaws.{three-calls}
 use Rattle.check_components.proofs.ExprMarks.{of-output-marks}
 use Rattle.check_components.proofs.NamedLaws.{sink-named}

@@ -1,6 +1,5 @@
 -- `step` meets its contract: by the row's kind.
 use mathlib.Core.Path.{sym, ◌∙◌}
-use borrow.Author.Rules.{rules}
 use Rattle.base_sets.proofs.SetLaws.{no_call, one-call, two-calls}
 use Rattle.check_components.proofs.ProcessMarks.{assign-marks, own-input, own-output, own-none}
 use Rattle.check_components.proofs.step.Goals as goal

@@ -1,5 +1,4 @@
 -- `target` meets its contract: its cells are changed and used, and its subscript stands in it.
-use borrow.Author.Rules.{rules}
 use Rattle.base_sets.proofs.SetLaws.{three-calls}
 use Rattle.check_components.proofs.ExprMarks.{target-marks}
 use Rattle.check_components.proofs.target.Goals as goal

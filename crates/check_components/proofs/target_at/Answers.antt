@@ -1,6 +1,5 @@
 -- `target_at` meets its contract: only an element is a target.
 use mathlib.Core.Path.{sym, ap, ◌∙◌}
-use borrow.Author.Rules.{rules}
 use Rattle.check_components.specs.Marks.{mark_target}
 use Rattle.base_sets.proofs.SetLaws.{no_call, one-call}
 use Rattle.check_components.proofs.ExprMarks.{past-target, target_is, no-target-marks}
@@ -14,6 +13,6 @@ returns-then-natural-eq11 c =
 pub returns-else-c-rows : goal.returns-else-c-rows
 returns-else-c-rows c =
     elim c.else-c-rows.branch [
-      else-c-rows-via-then-c-rows+else-natural-eq11 w ↦ no_call _ (no-target-marks c.args.rows.now c.args.c w.if-c-rows.true (λ q. w.if-natural-eq11.false (w.natural.ensures ∙ q)))
-    | else-c-rows-via-else-c-rows w ↦ no_call _ (past-target c.args.rows.now c.args.c w.if-c-rows.false)
+      | else-c-rows-via-then-c-rows+else-natural-eq11 w ↦ no_call _ (no-target-marks c.args.rows.now c.args.c w.if-c-rows.true (λ q. w.if-natural-eq11.false (w.natural.ensures ∙ q)))
+      | else-c-rows-via-else-c-rows w ↦ no_call _ (past-target c.args.rows.now c.args.c w.if-c-rows.false)
     ]

@@ -12,7 +12,6 @@ use Rattle.base_rows.specs.Places.{place_of}
 use Rattle.base_rows.proofs.Leading.{declarations-at-most}
 use Rattle.base_rows.proofs.LowestFound.{place-some, place_none}
 use Rattle.check_form.proofs.VerdictLaws.{place-below, too_many, not-four, numbers-right, form-found, tree-found, limit-found, first-of-four}
-use borrow.Author.Rules.{rules}
 use native.Mathlib.Omega.{arith}
 use Rattle.check_form.proofs.check_form.Goals as goal
 

@@ -1,5 +1,4 @@
 -- As its callee ensures, of the declarations that it counts. Assumes nothing.
-use borrow.Author.Rules.{rules}
 use Rattle.check_form.proofs.form_fault.Goals as goal
 
 pub returns : goal.returns

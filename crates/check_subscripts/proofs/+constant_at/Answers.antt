@@ -1,9 +1,6 @@
 -- `constant_at`, which calls itself on operands, meets its contract: by what the row is. The measure is the rows left to the table's end.
 use mathlib.Core.Path.{sym, ◌∙◌}
-use Prim.Native.Nat.{◌/◌, ◌-◌, ℕ, ◌<◌}
 use native.Mathlib.Omega.{arith}
-use lib.ListN.{length}
-use borrow.Author.Rules.{rules}
 use mir.Syntax.{w32}
 use mir.ValLaws.{to_z-of_z}
 use Rattle.base_layout.proofs.Parts.{operand-higher}

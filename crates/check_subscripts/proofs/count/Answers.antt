@@ -1,6 +1,5 @@
 -- `count` meets its contract: by the subscript's expression as a constant.
 use mathlib.Core.Path.{ap}
-use borrow.Author.Rules.{rules}
 use Rattle.meaning.specs.Tree.{content_at}
 use Rattle.base_sets.specs.Sets.{in_sort}
 use Rattle.base_sets.proofs.SetLaws.{one-call}

@@ -1,6 +1,5 @@
 -- `count_value` meets its contract: by the number of the array that the value means, or that it means none.
 use mathlib.Core.Path.{sym, ap, ◌∙◌}
-use borrow.Author.Rules.{rules}
 use Rattle.meaning.specs.Usage.{numbers_from}
 use Rattle.base_sets.specs.Sets.{in_sort}
 use Rattle.base_sets.proofs.SetLaws.{one-call, one_more}

@@ -1,7 +1,7 @@
 -- No place so far is at fault. Assumes nothing.
 use mathlib.Core.Path.{◌≡◌, sym, ap, ◌∙◌}
 use mathlib.Core.Bool.{false}
-use Prim.Native.Nat.{ℕ, suc, ◌≤◌, ◌<◌, ◌-◌}
+use Prim.Native.Nat.{suc, ◌≤◌}
 use borrow.Author.Count.{below_more}
 use Rattle.meaning.specs.Rows.{row_count}
 use Rattle.meaning.specs.Verdict.{targets_below, tree_fault_at}
@@ -10,7 +10,6 @@ use Rattle.base_rows.specs.Places.{place_of}
 use Rattle.base_rows.proofs.Leading.{declarations-at-most}
 use Rattle.base_rows.proofs.LowestFound.{lowest-none, lowest-some}
 use Rattle.check_tree.proofs.TreeLaws.{before_root, after-root, no-root, past-rows}
-use borrow.Author.Rules.{rules}
 use native.Mathlib.Omega.{arith}
 use Rattle.check_tree.proofs.first_row_fault_at.Goals as goal
 

@@ -1,5 +1,5 @@
 -- By the sort of the entry. Assumes nothing.
-use Rattle.std.proofs.Common.{rules, ◌≡◌, true, false, sym, ◌∙◌}
+use Rattle.std.proofs.Common.{◌≡◌, true, false, sym, ◌∙◌}
 use lib.IntN.{negsuc}
 use mir.Syntax.{w32}
 use mir.ValLaws.{to_z-of_z}

@@ -18,8 +18,8 @@ returns-else-t-counts c =
     let t = c.in-Some.t in
     rw c.in-Some.is
     (elim c.else-t-counts.branch [
-      else-t-counts-via-then-t-counts+else-counts-t-lt2 w ↦ simp (lt-ltb t (length counts) w.if-t-counts.true, le-ltb (get_or counts t 0) 2 w.if-counts-t-lt2.false)
-    | else-t-counts-via-else-t-counts w ↦ simp (le-ltb t (length counts) w.if-t-counts.false)
+      | else-t-counts-via-then-t-counts+else-counts-t-lt2 w ↦ simp (lt-ltb t (length counts) w.if-t-counts.true, le-ltb (get_or counts t 0) 2 w.if-counts-t-lt2.false)
+      | else-t-counts-via-else-t-counts w ↦ simp (le-ltb t (length counts) w.if-t-counts.false)
     ])
 
 pub returns-in_default : goal.returns-in_default

@@ -10,7 +10,6 @@ use Rattle.meaning.specs.Verdict.{target}
 use Rattle.check_tree.specs.Counts.{one_more_for}
 use Rattle.base_kinds.specs.Table.{field_meant, meant_shape}
 use Rattle.check_tree.proofs.NotedCounts.{noted-three}
-use borrow.Author.Rules.{rules}
 use Rattle.check_tree.proofs.note_by.Goals as goal
 
 pub returns-then-s-ne-NO_KIND : goal.returns-then-s-ne-NO_KIND

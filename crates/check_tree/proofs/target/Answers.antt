@@ -1,5 +1,4 @@
 -- By the sort of the entry. Assumes nothing.
-use Rattle.std.proofs.Common.{rules, sym, ◌∙◌}
 use mir.Syntax.{w32}
 use mir.ValLaws.{to_z-of_z}
 use Rattle.meaning.specs.Verdict.{target}

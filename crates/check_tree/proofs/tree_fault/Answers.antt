@@ -1,6 +1,5 @@
 -- The counts are those of the definition, for 1,024 rows at most. Assumes nothing.
 use Rattle.check_tree.proofs.NotedCounts.{counted}
-use borrow.Author.Rules.{rules}
 use Rattle.check_tree.proofs.tree_fault.Goals as goal
 
 pub first_row_fault_at-requires : goal.first_row_fault_at-requires

@@ -3,7 +3,6 @@ use native.Mathlib.Omega.{arith}
 use Rattle.meaning.proofs.LentLaws.{defaults-at}
 use Rattle.base_layout.specs.Names.{no_name}
 use Rattle.check_usage.proofs.FirstClash.{no-clash}
-use borrow.Author.Tests.{not-true}
 use Rattle.check_usage.proofs.first_clash.Goals as goal
 
 pub has_par-requires : goal.has_par-requires

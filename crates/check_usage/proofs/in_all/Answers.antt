@@ -1,13 +1,7 @@
 -- `in_all` meets its contract. The PARs before row r have been searched and have no clash; the measure is what is left of the rows.
-use mathlib.Core.Path.{◌≡◌, refl, sym, ◌∙◌}
-use Prim.Native.Nat.{◌+◌, ◌*◌, ◌-◌, ◌≤◌}
+use mathlib.Core.Path.{sym, ◌∙◌}
 use native.Mathlib.Omega.{arith}
-use lib.ListN.{length}
-use Rattle.meaning.specs.Rows.{row_count}
-use Rattle.meaning.specs.Tree.{contents}
-use Rattle.meaning.specs.Usage.{comparisons_of}
-use Rattle.check_usage.specs.Search.{verdict_on}
-use Rattle.check_usage.proofs.FirstClash.{from_row, row-clashes, row-passes, rows_end}
+use Rattle.check_usage.proofs.FirstClash.{row-clashes, row-passes, rows_end}
 use Rattle.check_usage.proofs.in_all.Goals as goal
 
 pub returns-in-Err : goal.returns-in-Err

@@ -2,7 +2,6 @@
 use mathlib.Core.Path.{refl, sym, ◌∙◌}
 use native.Mathlib.Omega.{arith}
 use lib.Seq.{length-take-le}
-use borrow.Author.Rules.{rules}
 use Rattle.read_table.proofs.RowsRead.{RowsRead, refused-read, rows-read, never-full}
 use Rattle.check_verdict.proofs.Verdicts.{bytes-refused, rows-judged}
 use Rattle.check_verdict.proofs.check_in.Goals as goal

@@ -1,7 +1,6 @@
 -- The refusal of the stages 3 to 6, or that of blocks, or that of usage. Assumes nothing.
 use mathlib.Core.Path.{◌≡◌, sym, ◌∙◌}
 use mathlib.Core.Option.{none}
-use borrow.Author.Rules.{rules}
 use Rattle.meaning.specs.Refusals.{first_fault}
 use Rattle.meaning.specs.Verdict.{block_fault}
 use Rattle.meaning.proofs.AnswerLaws.{accepted-none, rejected-some}

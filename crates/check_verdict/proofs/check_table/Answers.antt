@@ -1,6 +1,5 @@
 -- The verdict of the check that counts. Assumes nothing.
 use mathlib.Core.Path.{ap, ◌∙◌}
-use borrow.Author.Rules.{rules}
 use Rattle.meaning.specs.declared.Checked.{Checked}
 use Rattle.meaning.proofs.AnswerLaws.{counted-bytes}
 use Rattle.check_verdict.proofs.check_table.Goals as goal

@@ -1,7 +1,5 @@
 -- No declaration so far passes a limit. Assumes nothing.
 use mathlib.Core.Path.{◌≡◌, refl, sym, ap, ◌∙◌}
-use mathlib.Core.Bool.{false}
-use Prim.Native.Nat.{ℕ, ◌≤◌, ◌<◌, ◌-◌}
 use native.Mathlib.Numerals.{add-one}
 use borrow.Author.Count.{below_none, below_more}
 use Rattle.meaning.specs.Declarations.{declarations, sum_below}
@@ -9,7 +7,6 @@ use Rattle.meaning.specs.Verdict.{over_limit}
 use Rattle.base_rows.specs.Places.{place_of}
 use Rattle.base_rows.specs.Sums.{limit_sums, sums_over}
 use Rattle.base_rows.proofs.LowestFound.{lowest-none, lowest-some}
-use borrow.Author.Rules.{rules}
 use native.Mathlib.Omega.{arith}
 use Rattle.base_rows.proofs.limits.limit_fault.Goals as goal
 

@@ -2,7 +2,6 @@
 use Prim.Native.Nat.{◌+◌}
 use Rattle.meaning.specs.Declarations.{sum_below}
 use Rattle.base_rows.proofs.LimitLaws.{small}
-use borrow.Author.Rules.{rules}
 use native.Mathlib.Omega.{arith}
 use Rattle.base_rows.proofs.limits.with_row.Goals as goal
 

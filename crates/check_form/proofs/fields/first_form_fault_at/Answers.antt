@@ -1,13 +1,10 @@
 -- No row so far is at fault. Assumes nothing.
-use mathlib.Core.Path.{◌≡◌, sym, ap, ◌∙◌}
-use mathlib.Core.Bool.{false}
-use Prim.Native.Nat.{ℕ, ◌≤◌, ◌<◌, ◌-◌}
+use mathlib.Core.Path.{sym, ap, ◌∙◌}
 use borrow.Author.Count.{below_none, below_more}
 use Rattle.meaning.specs.Rows.{row_count}
 use Rattle.meaning.specs.Verdict.{form_fault_at}
 use Rattle.base_rows.specs.Places.{place_of}
 use Rattle.base_rows.proofs.LowestFound.{lowest-none, lowest-some}
-use borrow.Author.Rules.{rules}
 use native.Mathlib.Omega.{arith}
 use Rattle.check_form.proofs.fields.first_form_fault_at.Goals as goal
 

@@ -3,12 +3,10 @@ use mathlib.Core.Path.{◌∙◌}
 use Prim.Native.Nat.{◌/◌, ◌%◌}
 use mir.Syntax.{w32}
 use mir.ValLaws.{to_z-of_z, to_z_pos}
-use Rattle.meaning.specs.Basics.{inside}
 use Rattle.meaning.specs.Verdict.{may_hold}
 use Rattle.base_kinds.specs.Table.{field_meant}
 use Rattle.base_kinds.proofs.Sorts.{other-sort}
 use Rattle.base_rows.proofs.Signs.{no-bits}
-use borrow.Author.Rules.{rules}
 use native.Mathlib.Omega.{arith}
 use Rattle.check_form.proofs.FieldLaws.{value-inside}
 use Rattle.check_form.proofs.fields.holds.Goals as goal

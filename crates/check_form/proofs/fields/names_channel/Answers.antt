@@ -8,7 +8,6 @@ use Rattle.meaning.specs.Basics.{any_passes, among}
 use Rattle.meaning.specs.Declarations.{is_channel, has_role}
 use Rattle.base_kinds.specs.Table.{numbers_in}
 use Rattle.base_kinds.proofs.Masks.{one-of-roles}
-use borrow.Author.Rules.{rules}
 use Rattle.check_form.proofs.fields.names_channel.Goals as goal
 
 pub returns-then-is_channel : goal.returns-then-is_channel

@@ -1,13 +1,11 @@
 -- `members::members_of` meets its contract. The first `count` of `members` are the rows listed before the link at `at`; links go to higher rows.
 use mathlib.Core.Path.{refl, sym, ◌∙◌}
-use Prim.Native.Nat.{◌-◌}
 use native.Mathlib.Omega.{arith}
 use borrow.Author.Rules.{rules}
-use Rattle.meaning.specs.Rows.{row_count}
 use Rattle.base_layout.proofs.Parts.{operand-higher}
 use Rattle.check_components.proofs.Links.{link-below}
 use Rattle.check_components.proofs.ListedProcesses.{process-below}
-use Rattle.check_usage.proofs.MemberSteps.{Put, put_one, put-none, put_all}
+use Rattle.check_usage.proofs.MemberSteps.{put_one, put-none, put_all}
 use Rattle.check_usage.proofs.members.members_of.Goals as goal
 use Rattle.check_usage.proofs.members.members_of.Goals.{then-is_process, else-is_process}
 

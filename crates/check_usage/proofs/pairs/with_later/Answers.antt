@@ -1,10 +1,8 @@
 -- `pairs::with_later` meets its contract. The members before j have been tested, and no test held; the measure is what is left of them.
-use mathlib.Core.Path.{◌≡◌, refl, sym, ◌∙◌}
-use mathlib.Core.List.{map}
-use Prim.Native.Nat.{◌+◌, ◌-◌, ◌≤◌}
+use mathlib.Core.Path.{refl, sym, ◌∙◌}
 use native.Mathlib.Omega.{arith}
-use lib.ListN.{length, get_or, drop}
-use Rattle.check_usage.specs.Search.{meet_by, searched}
+use lib.ListN.{get_or}
+use Rattle.check_usage.specs.Search.{meet_by}
 use Rattle.check_usage.proofs.SearchLaws.{next-fails, next-holds, none_left}
 use Rattle.check_usage.proofs.pairs.with_later.Goals as goal
 
