@@ -1,15 +1,12 @@
 -- The parts and the rules, test by test.
-use mathlib.Core.Path.{◌≡◌, refl, sym, ap, ap₂, ◌∙◌}
-use mathlib.Core.Bool.{Bool, true, false, not, ◌&&◌}
-use mathlib.Core.List.{List, [], ◌∷◌}
-use Prim.Native.Nat.{ℕ, suc}
-use native.Mathlib.Omega.{arith}
-use lib.ListN.{length, get_or}
-use lib.Dec.{eqb}
-use borrow.Author.Tests.{ne_eqb, not-true, not-false}
+use mathlib.Core.Path.{◌≡◌, sym, ap, ap₂, ◌∙◌}
+use mathlib.Core.Bool.{Bool, true, false, ◌&&◌}
+use mathlib.Core.List.{List}
+use Prim.Native.Nat.{ℕ}
+use borrow.Author.Tests.{ne_eqb}
 use Rattle.meaning.specs.Basics.{if_else}
 use Rattle.read_tokens.specs.Sorts as sorts
-use Rattle.read_classes.specs.Rules.{is_empty, alone_in, exchange_in, event_by_mark, Rule, part_is, rules, rule_at, class_by_rule, class_by_mark}
+use Rattle.read_classes.specs.Rules.{alone_in, exchange_in, event_by_mark, Rule, part_is, rules, rule_at, class_by_rule, class_by_mark}
 
 module _ (s : ℕ) (bs cs : List ℕ) where
   -- SKIP

@@ -1,7 +1,7 @@
 // How many rows the lines of a text make, told from their kinds and the sorts of their tokens.
 #![tactic(auto)]
 
-ghost use Rattle.std.specs.Prelude.{◌≡◌, ◌-◌, ◌≤◌, length};
+ghost use Rattle.std.specs.Prelude.{◌≡◌, ◌≤◌, length};
 ghost use Rattle.std.proofs.lemmas.List.Edits.{sets};
 ghost use Rattle.read_counts.specs.TokenRows.{sort_rows, sort_less, rows_by_sorts, listed_at, block_at, declaration_rows, rows_by_kind};
 ghost use Rattle.read_counts.specs.ListedRows.{Spans, rows_listed, owns_listed};

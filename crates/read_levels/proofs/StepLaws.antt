@@ -13,7 +13,7 @@ use lib.Seq.{get_or-set_same, get_or-set_other}
 use lib.Dec.{ltb, eqb}
 use borrow.Author.Tests.{ltb-true, ltb-false, eq-eqb, ne_eqb}
 use Rattle.meaning.specs.Basics.{if_else}
-use Rattle.grammar.specs.Outline.{OutlineLine, Expect, Levels, placed, place, accept, accept_line, expected_beneath, expected_after}
+use Rattle.grammar.specs.Outline.{OutlineLine, Expect, Levels, place, accept, accept_line, expected_beneath, expected_after}
 use Rattle.grammar.specs.Classes.{class_of}
 use Rattle.grammar.specs.LineBytes.{at_level}
 use Rattle.grammar.specs.Places.{take_line}

@@ -1,7 +1,7 @@
 // The lines of a text, one after the other, their tokens listed.
 #![tactic(auto)]
 
-ghost use Rattle.std.specs.Prelude.{◌≡◌, true, false, ◌≤◌, ◌<◌, length, drop};
+ghost use Rattle.std.specs.Prelude.{◌≡◌, true, ◌≤◌, ◌<◌, length, drop};
 ghost use Rattle.read_lines.specs.LineParts.{indent_of, misplaced, held_value, ended_at};
 ghost use Rattle.read_lines.specs.LineRead.{LineRead};
 

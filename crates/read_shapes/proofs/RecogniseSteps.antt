@@ -13,6 +13,7 @@ use Rattle.grammar.specs.Shapes.{OperandShape, shape_complete}
 use Rattle.read_shapes.specs.Phrases.{move_by_sort, shape_over, phrase_from}
 use Rattle.read_shapes.specs.Numbers.{openings_at, shape_at, complete_at}
 use Rattle.read_shapes.specs.Turns.{shape_by_sort, turn_of}
+use Rattle.read_shapes.specs.declared.Mode.{Mode}
 use Rattle.read_shapes.specs.declared.Turn.{Turn}
 use Rattle.read_shapes.proofs.TurnMeans.{after, Small, Does, turn-does, complete-means}
 
@@ -23,10 +24,10 @@ failed-stays [] = refl
 failed-stays (s ∷ ss) = failed-stays ss
 
 -- the answer of a state, for the sorts from a place on
-abbrev pub answer_at : List ℕ → List ℕ → ℕ → ℕ → ℕ → ℕ → Bool
+abbrev pub answer_at : List ℕ → List ℕ → Mode → ℕ → ℕ → ℕ → Bool
 answer_at sorts stack m k d at = phrase_from (some (shape_at m k (openings_at stack d))) (drop at sorts)
 
-module _ (sorts stack : List ℕ) (m k d at : ℕ) where
+module _ (sorts stack : List ℕ) (m : Mode) (k d at : ℕ) where
   -- nothing is left
   pub answer-at-end : length sorts ≤ at → complete_at m d ≡ answer_at sorts stack m k d at
   unfolding shape_over

@@ -15,8 +15,10 @@ use borrow.Author.Tests.{ne_eqb, eqb-true, lt-ltb, le-ltb}
 use Rattle.meaning.specs.Basics.{if_else}
 use Rattle.grammar.specs.Grammar.{Link, both, either}
 use Rattle.grammar.specs.Shapes.{initial, final, element, chain, Opening, round-in, square-in, OperandShape, wants, has, unless_element, if_initial, chain_on, round_off, square_off, square_on, shape_complete}
-use Rattle.read_shapes.specs.Numbers.{wanting, having, having_name, kind_at, opening_at, top_first, openings_at, shape_at, complete_at}
+use Rattle.read_shapes.specs.Numbers.{is_bare, kind_at, opening_at, top_first, openings_at, shape_at, complete_at}
 use Rattle.read_shapes.specs.Turns.{by_wanted, by_had, shape_by_sort, kept, opened, closed, unless_element_turn, if_initial_turn, chain_turn, round_off_turn, square_off_turn, square_on_turn, turn_wanting, turn_having, turn_of}
+use Rattle.read_shapes.specs.declared.Mode.{Mode}
+use Rattle.read_shapes.specs.declared.Mode.TheVariants.{Wants, Has, HasName}
 use Rattle.read_shapes.specs.declared.Turn.{Turn}
 
 -- Kinds by number ---------------------------------------------------------------------------------------------------------------
@@ -116,7 +118,7 @@ module _ (stack : List ℕ) where
   stop-does : (d : ℕ) → Does stack d None none
   stop-does d = (refl, tt)
 
-  keep-does : (m k d : ℕ) → k < 8 → Does stack d (Some (kept m k d)) (some (shape_at m k (openings_at stack d)))
+  keep-does : (m : Mode) (k d : ℕ) → k < 8 → Does stack d (Some (kept m k d)) (some (shape_at m k (openings_at stack d)))
   keep-does m k d l = (rw (stack_above stack d (d + 1) 0 (omega arith)) refl, (l, omega arith))
 
   open-does : (b d : ℕ) → suc d < length stack → Does stack d (Some (opened b d)) (some (wants initial (opening_at b ∷ openings_at stack d)))
@@ -147,12 +149,12 @@ module _ (stack : List ℕ) where
   unfolding kind_at
   chain-does l k d = subst (Does stack d (chain_turn (chain_number l) k d)) (sym (chain-number l k (openings_at stack d))) (go l (eqb k 0) (eqb k (chain_number l)))
     where
-      linked : (l : Link) → Does stack d (Some (kept wanting (chain_number l) d)) (some (wants (chain l) (openings_at stack d)))
-      linked both = keep-does wanting 3 d (omega arith)
-      linked either = keep-does wanting 4 d (omega arith)
+      linked : (l : Link) → Does stack d (Some (kept Wants (chain_number l) d)) (some (wants (chain l) (openings_at stack d)))
+      linked both = keep-does Wants 3 d (omega arith)
+      linked either = keep-does Wants 4 d (omega arith)
 
       go : (l : Link) (a b : Bool)
-          → Does stack d (if_else a (Some (kept wanting (chain_number l) d)) (if_else b (Some (kept wanting (chain_number l) d)) None)) (if_else a (some (wants (chain l) (openings_at stack d))) (if_else b (some (wants (chain l) (openings_at stack d))) none))
+          → Does stack d (if_else a (Some (kept Wants (chain_number l) d)) (if_else b (Some (kept Wants (chain_number l) d)) None)) (if_else a (some (wants (chain l) (openings_at stack d))) (if_else b (some (wants (chain l) (openings_at stack d))) none))
       go l true b = linked l
       go l false true = linked l
       go l false false = stop-does d
@@ -189,9 +191,9 @@ module _ (stack : List ℕ) where
   bracket-does : (k d : ℕ) → suc d < length stack → k < 8 → Does stack d (Some (opened k d)) (some (wants initial (round-in (kind_at k) ∷ openings_at stack d)))
   bracket-does k d r h = subst (λ (o : Opening). Does stack d (Some (opened k d)) (some (wants initial (o ∷ openings_at stack d)))) (round_number k h) (open-does k d r)
 
-  subscript-does : (m k d : ℕ) → suc d < length stack → k < 8 → Does stack d (square_on_turn m k d) (square_on (kind_at k) (openings_at stack d) (eqb m having_name))
+  subscript-does : (m : Mode) (k d : ℕ) → suc d < length stack → k < 8 → Does stack d (square_on_turn m k d) (square_on (kind_at k) (openings_at stack d) (is_bare m))
   unfolding square_on
-  subscript-does m k d r h = go (eqb m having_name)
+  subscript-does m k d r h = go (is_bare m)
     where
       go : (b : Bool) → Does stack d (if_else b (Some (opened (k + 8) d)) None) (square_on (kind_at k) (openings_at stack d) b)
       go true = subst (λ (o : Opening). Does stack d (Some (opened (k + 8) d)) (some (wants initial (o ∷ openings_at stack d)))) (square-number k h) (open-does (k + 8) d r)
@@ -227,46 +229,42 @@ module _ {A B : Type 0} (R : A → B → Type 0) (s : ℕ) where
       go false false false false false false false = m
 
 -- what a token does by number is what its sort does to the state
-pub turn-does : (stack : List ℕ) (m k d s : ℕ) → suc d < length stack → k < 8
+pub turn-does : (stack : List ℕ) (m : Mode) (k d s : ℕ) → suc d < length stack → k < 8
     → Does stack d (turn_of m k d (get_or stack d 0) s) (shape_by_sort (shape_at m k (openings_at stack d)) s)
 unfolding turn_of turn_wanting turn_having shape_by_sort kind_at
-turn-does stack m k d s r h = go (eqb m wanting)
-  where
-    os : List Opening
-    os = openings_at stack d
-
-    go : (b : Bool) → Does stack d (if_else b (turn_wanting k d s) (turn_having m k d (get_or stack d 0) s)) (shape_by_sort (if_else b (wants (kind_at k) os) (has (kind_at k) os (eqb m having_name))) s)
-    go true =
-        by-wanted (Does stack d) s
-        (keep-does stack having_name k d h)
-        (unless-does stack k d (kept having k d) (has (kind_at k) os false) (keep-does stack having k d h))
-        (initial-does stack k d (kept wanting 1 d) (wants final os) (keep-does stack wanting 1 d (omega arith)))
-        (initial-does stack k d (kept wanting 2 d) (wants element os) (keep-does stack wanting 2 d (omega arith)))
-        (unless-does stack k d (opened k d) (wants initial (round-in (kind_at k) ∷ os)) (bracket-does stack k d r h))
-        (stop-does stack d)
-    go false =
-        by-had (Does stack d) s
-        (initial-does stack k d (kept wanting 1 d) (wants final os) (keep-does stack wanting 1 d (omega arith)))
-        (chain-does stack both k d)
-        (chain-does stack either k d)
-        (round-does stack d)
-        (subscript-does stack m k d r h)
-        (square-does stack d)
-        (stop-does stack d)
+turn-does stack Wants k d s r h =
+    let os = openings_at stack d in
+    by-wanted (Does stack d) s
+    (keep-does stack HasName k d h)
+    (unless-does stack k d (kept Has k d) (has (kind_at k) os false) (keep-does stack Has k d h))
+    (initial-does stack k d (kept Wants 1 d) (wants final os) (keep-does stack Wants 1 d (omega arith)))
+    (initial-does stack k d (kept Wants 2 d) (wants element os) (keep-does stack Wants 2 d (omega arith)))
+    (unless-does stack k d (opened k d) (wants initial (round-in (kind_at k) ∷ os)) (bracket-does stack k d r h))
+    (stop-does stack d)
+turn-does stack Has k d s r h =
+    by-had (Does stack d) s
+    (initial-does stack k d (kept Wants 1 d) (wants final (openings_at stack d)) (keep-does stack Wants 1 d (omega arith)))
+    (chain-does stack both k d)
+    (chain-does stack either k d)
+    (round-does stack d)
+    (subscript-does stack Has k d r h)
+    (square-does stack d)
+    (stop-does stack d)
+turn-does stack HasName k d s r h =
+    by-had (Does stack d) s
+    (initial-does stack k d (kept Wants 1 d) (wants final (openings_at stack d)) (keep-does stack Wants 1 d (omega arith)))
+    (chain-does stack both k d)
+    (chain-does stack either k d)
+    (round-does stack d)
+    (subscript-does stack HasName k d r h)
+    (square-does stack d)
+    (stop-does stack d)
 
 -- an operand has been read and no bracket is open
-pub complete-means : (stack : List ℕ) (m k d : ℕ) → complete_at m d ≡ shape_complete (some (shape_at m k (openings_at stack d)))
+pub complete-means : (stack : List ℕ) (m : Mode) (k d : ℕ) → complete_at m d ≡ shape_complete (some (shape_at m k (openings_at stack d)))
 unfolding shape_complete top_first
-complete-means stack m k zero = go (eqb m wanting)
-  where
-    go : (b : Bool) → if_else b false true ≡ shape_complete (some (if_else b (wants (kind_at k) []) (has (kind_at k) [] (eqb m having_name))))
-    go true = refl
-    go false = refl
-complete-means stack m k (suc d) = rw (ne_eqb (suc d) 0 (λ e. omega (arith, e))) (go (eqb m wanting))
-  where
-    os : List Opening
-    os = opening_at (get_or stack (suc d) 0) ∷ openings_at stack d
-
-    go : (b : Bool) → if_else b false false ≡ shape_complete (some (if_else b (wants (kind_at k) os) (has (kind_at k) os (eqb m having_name))))
-    go true = refl
-    go false = refl
+complete-means stack Wants k d = refl
+complete-means stack Has k zero = refl
+complete-means stack Has k (suc d) = ne_eqb (suc d) 0 (λ e. omega (arith, e))
+complete-means stack HasName k zero = refl
+complete-means stack HasName k (suc d) = ne_eqb (suc d) 0 (λ e. omega (arith, e))

@@ -1,20 +1,10 @@
--- The states of the recogniser by number: modes, kinds and open brackets.
-use Rattle.std.specs.Prelude.{Bool, false, List, [], ◌∷◌, map, ℕ, zero, suc, ◌%◌, get_or, eqb, ltb}
+-- The states of the recogniser: modes, and kinds and open brackets by number.
+use Rattle.std.specs.Prelude.{Bool, true, false, List, [], ◌∷◌, map, ℕ, zero, suc, ◌%◌, get_or, eqb, ltb}
+use Rattle.read_shapes.specs.declared.Mode.{Mode}
+use Rattle.read_shapes.specs.declared.Mode.TheVariants.{Wants, Has, HasName}
 use Rattle.meaning.specs.Basics.{if_else}
 use Rattle.grammar.specs.Grammar.{both, either}
 use Rattle.grammar.specs.Shapes.{Kind, initial, final, element, chain, Opening, round-in, square-in, OperandShape, wants, has}
-
--- an operand is wanted
-abbrev pub wanting : ℕ
-wanting = 0
-
--- an operand has been read
-abbrev pub having : ℕ
-having = 1
-
--- a bare name has been read so far
-abbrev pub having_name : ℕ
-having_name = 2
 
 -- the kind of an operand's place
 unfoldable pub kind_at : ℕ → Kind
@@ -33,10 +23,20 @@ top_first stack (suc d) = get_or stack (suc d) 0 ∷ top_first stack d
 abbrev pub openings_at : List ℕ → ℕ → List Opening
 openings_at stack d = map opening_at (top_first stack d)
 
+-- whether a bare name has been read so far
+abbrev pub is_bare : Mode → Bool
+is_bare Wants = false
+is_bare Has = false
+is_bare HasName = true
+
 -- a mode and a kind with open brackets
-abbrev pub shape_at : ℕ → ℕ → List Opening → OperandShape
-shape_at m k os = if_else (eqb m wanting) (wants (kind_at k) os) (has (kind_at k) os (eqb m having_name))
+abbrev pub shape_at : Mode → ℕ → List Opening → OperandShape
+shape_at Wants k os = wants (kind_at k) os
+shape_at Has k os = has (kind_at k) os false
+shape_at HasName k os = has (kind_at k) os true
 
 -- whether an operand has been read and no bracket is open
-abbrev pub complete_at : ℕ → ℕ → Bool
-complete_at m d = if_else (eqb m wanting) false (eqb d 0)
+abbrev pub complete_at : Mode → ℕ → Bool
+complete_at Wants d = false
+complete_at Has d = eqb d 0
+complete_at HasName d = eqb d 0

@@ -6,25 +6,33 @@ ghost use Rattle.grammar.specs.Shapes.{initial, element};
 ghost use Rattle.read_shapes.specs.Phrases.{phrase_in};
 ghost use Rattle.read_shapes.specs.Numbers.{kind_at, complete_at};
 
-mod numbers; // numbers.rt: states and kinds by number
+mod numbers; // numbers.rt: kinds by number
 mod turns; // turns.rt: what a token does to the state
 
 use numbers::*;
 
+// Whether an operand is wanted, has been read, or is a bare name so far.
+#[derive(Clone, Copy, PartialEq, Eq)]
+enum Mode {
+    Wants,
+    Has,
+    HasName,
+}
+
 // What a token does: the mode and kind after it, how many brackets are then open, and what is pushed.
 #[derive(Clone, Copy)]
 struct Turn {
-    mode: u8,
+    mode: Mode,
     kind: u8,
     depth: usize,
     pushed: u8,
 }
 
 // Whether an operand has been read and no bracket is open.
-fn complete(mode: u8, depth: usize) -> bool
+fn complete(mode: Mode, depth: usize) -> bool
     ensures { result ≡ complete_at mode depth }
 {
-    mode != WANTS && depth == 0
+    mode != Mode::Wants && depth == 0
 }
 
 // Whether tokens of some sorts go from an operand's place to its end. The stack has a byte more than there are tokens: the lowest is unused.
@@ -32,8 +40,8 @@ fn recognise(first: u8, sorts: &[u8], stack: &mut [u8]) -> bool
     requires { (first < 8) × (length sorts.now ≤ 32768) × (length sorts.now < length stack.old) }
     ensures { result ≡ phrase_in (kind_at first) sorts.now }
 {
-    let mut mode: u8 = WANTS;
-    let mut kind: u8 = first;
+    let mut mode = Mode::Wants;
+    let mut kind = first;
     let mut depth: usize = 0;
     for sort in sorts {
         let Some(turn) = turns::turn(mode, kind, depth, stack[depth], *sort) else {

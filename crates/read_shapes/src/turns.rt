@@ -2,12 +2,12 @@
 ghost use Rattle.std.specs.Prelude.{◌≡◌, ◌<◌};
 ghost use Rattle.read_shapes.specs.Turns as turns;
 
-use crate::Turn;
 use crate::numbers::*;
+use crate::{Mode, Turn};
 use read_tokens::sorts;
 
 // Another mode and kind.
-fn keep(mode: u8, kind: u8, depth: usize) -> Turn
+fn keep(mode: Mode, kind: u8, depth: usize) -> Turn
     ensures { result ≡ turns.kept mode kind depth }
 {
     Turn {
@@ -24,7 +24,7 @@ fn open(byte: u8, depth: usize) -> Turn
     ensures { result ≡ turns.opened byte depth }
 {
     Turn {
-        mode: WANTS,
+        mode: Mode::Wants,
         kind: INITIAL,
         depth: depth + 1,
         pushed: byte,
@@ -37,7 +37,7 @@ fn close(top: u8, depth: usize) -> Turn
     ensures { result ≡ turns.closed top depth }
 {
     Turn {
-        mode: HAS,
+        mode: Mode::Has,
         kind: top % 8,
         depth: depth - 1,
         pushed: 0,
@@ -62,7 +62,7 @@ fn if_initial(kind: u8, then: Turn) -> Option<Turn>
 fn chain_on(chain: u8, kind: u8, depth: usize) -> Option<Turn>
     ensures { result ≡ turns.chain_turn chain kind depth }
 {
-    (kind == INITIAL || kind == chain).then_some(keep(WANTS, chain, depth))
+    (kind == INITIAL || kind == chain).then_some(keep(Mode::Wants, chain, depth))
 }
 
 // The end of a phrase in round brackets.
@@ -88,11 +88,11 @@ fn square_off(top: u8, depth: usize) -> Option<Turn>
 }
 
 // The beginning of a subscript.
-fn square_on(mode: u8, kind: u8, depth: usize) -> Option<Turn>
+fn square_on(mode: Mode, kind: u8, depth: usize) -> Option<Turn>
     requires { (kind < 8) × (depth < 32768) }
     ensures { result ≡ turns.square_on_turn mode kind depth }
 {
-    if mode == HAS_NAME {
+    if mode == Mode::HasName {
         Some(open(kind + 8, depth))
     } else {
         None
@@ -106,11 +106,11 @@ fn turn_wanting(kind: u8, depth: usize, sort: u8) -> Option<Turn>
     ensures { result ≡ turns.turn_wanting kind depth sort }
 {
     match sort {
-        sorts::NAME => Some(keep(HAS_NAME, kind, depth)),
-        sorts::NUMBER => unless_element(kind, keep(HAS, kind, depth)),
-        sorts::MINUS => if_initial(kind, keep(WANTS, FINAL, depth)),
-        sorts::NOT => if_initial(kind, keep(WANTS, FINAL, depth)),
-        sorts::GIVEN => if_initial(kind, keep(WANTS, ELEMENT, depth)),
+        sorts::NAME => Some(keep(Mode::HasName, kind, depth)),
+        sorts::NUMBER => unless_element(kind, keep(Mode::Has, kind, depth)),
+        sorts::MINUS => if_initial(kind, keep(Mode::Wants, FINAL, depth)),
+        sorts::NOT => if_initial(kind, keep(Mode::Wants, FINAL, depth)),
+        sorts::GIVEN => if_initial(kind, keep(Mode::Wants, ELEMENT, depth)),
         sorts::ROUND_OPEN => unless_element(kind, open(kind, depth)),
         _ => None,
     }
@@ -118,13 +118,13 @@ fn turn_wanting(kind: u8, depth: usize, sort: u8) -> Option<Turn>
 
 // A token after an operand.
 #[tactic(auto, unfolding(crate::specs::Turns::turn_having))]
-fn turn_having(mode: u8, kind: u8, depth: usize, top: u8, sort: u8) -> Option<Turn>
+fn turn_having(mode: Mode, kind: u8, depth: usize, top: u8, sort: u8) -> Option<Turn>
     requires { (kind < 8) × (depth < 32768) }
     ensures { result ≡ turns.turn_having mode kind depth top sort }
 {
     match sort {
-        sorts::MINUS => if_initial(kind, keep(WANTS, FINAL, depth)),
-        sorts::ARITH => if_initial(kind, keep(WANTS, FINAL, depth)),
+        sorts::MINUS => if_initial(kind, keep(Mode::Wants, FINAL, depth)),
+        sorts::ARITH => if_initial(kind, keep(Mode::Wants, FINAL, depth)),
         sorts::AND => chain_on(AND_CHAIN, kind, depth),
         sorts::OR => chain_on(OR_CHAIN, kind, depth),
         sorts::ROUND_CLOSE => round_off(top, depth),
@@ -136,11 +136,11 @@ fn turn_having(mode: u8, kind: u8, depth: usize, top: u8, sort: u8) -> Option<Tu
 
 // What a token does.
 #[tactic(auto, unfolding(crate::specs::Turns::turn_of))]
-pub fn turn(mode: u8, kind: u8, depth: usize, top: u8, sort: u8) -> Option<Turn>
+pub fn turn(mode: Mode, kind: u8, depth: usize, top: u8, sort: u8) -> Option<Turn>
     requires { (kind < 8) × (depth < 32768) }
     ensures { result ≡ turns.turn_of mode kind depth top sort }
 {
-    if mode == WANTS {
+    if mode == Mode::Wants {
         turn_wanting(kind, depth, sort)
     } else {
         turn_having(mode, kind, depth, top, sort)

@@ -18,10 +18,10 @@ unfolding rules
 returns-else-is_part c =
     let a = c.args in
     elim c.else-is_part.branch [
-      else-is_part-via-then-is_part+else-is_part-2 w ↦
-        refused-after a.sort a.before.now a.after.now c.rule_at-asked_before.result (c.rule_at-asked_before.ensures ∙ ap (λ (n : ℕ). rule_at rules n) c.from.ensures)
-        (sym w.if-is_part.ensures) (sym w.if-is_part-2.ensures)
-    | else-is_part-via-else-is_part w ↦
-        refused-before a.sort a.before.now a.after.now c.rule_at-asked_before.result (c.rule_at-asked_before.ensures ∙ ap (λ (n : ℕ). rule_at rules n) c.from.ensures)
-        (sym w.if-is_part.ensures)
+      | else-is_part-via-then-is_part+else-is_part-2 w ↦
+          refused-after a.sort a.before.now a.after.now c.rule_at-asked_before.result (c.rule_at-asked_before.ensures ∙ ap (λ (n : ℕ). rule_at rules n) c.from.ensures)
+          (sym w.if-is_part.ensures) (sym w.if-is_part-2.ensures)
+      | else-is_part-via-else-is_part w ↦
+          refused-before a.sort a.before.now a.after.now c.rule_at-asked_before.result (c.rule_at-asked_before.ensures ∙ ap (λ (n : ℕ). rule_at rules n) c.from.ensures)
+          (sym w.if-is_part.ensures)
     ]

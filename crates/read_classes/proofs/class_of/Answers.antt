@@ -1,8 +1,5 @@
 -- The class by the first mark, or by no mark. Assumes nothing.
-use mathlib.Core.Path.{sym, ◌∙◌}
-use native.Mathlib.Omega.{arith}
-use lib.Seq.{length-take-le}
-use borrow.Author.Rules.{rules}
+use mathlib.Core.Path.{◌∙◌}
 use Rattle.read_classes.specs.Rules.{class_by_mark}
 use Rattle.read_classes.specs.LineClasses.{class_by_sorts}
 use Rattle.read_classes.proofs.MarkSteps.{parts-short, marked, unmarked}

@@ -1,9 +1,8 @@
 -- The loop keeps the rows of the lines before the line. Assumes nothing.
-use Prim.Native.Nat.{◌-◌}
 use native.Mathlib.Omega.{arith}
 use borrow.Author.Rules.{rules}
 use lib.ListN.{get_or}
-use Rattle.read_counts.proofs.CountSteps.{sorts-length, the-line, Summed, summed-nothing, summed-all, summed-next}
+use Rattle.read_counts.proofs.CountSteps.{sorts-length, the-line, summed-nothing, summed-all, summed-next}
 use Rattle.read_counts.proofs.count_rows.Goals as goal
 
 pub loop-line-init : goal.loop-line-init

@@ -2,7 +2,6 @@
 use mathlib.Core.Path.{ap₂, ◌∙◌}
 use Prim.Native.Nat.{ℕ, ◌+◌, ◌/◌}
 use native.Mathlib.Omega.{arith}
-use borrow.Author.Rules.{rules}
 use Rattle.read_counts.proofs.TokenSteps.{rows_few}
 use Rattle.read_counts.proofs.KindRows.{by-block, by-tokens, listed-few}
 use Rattle.read_counts.proofs.line_rows.Goals as goal

@@ -1,10 +1,9 @@
 -- The loop keeps that the rows of each line before the line are noted. Assumes nothing.
-use Prim.Native.Nat.{◌-◌}
 use native.Mathlib.Omega.{arith}
 use borrow.Author.Rules.{rules}
 use lib.ListN.{get_or}
 use Rattle.read_tokens.specs.Held.{part}
-use Rattle.read_counts.proofs.CountSteps.{sorts-length, the-line, Noted, noted_nothing, noted-all, noted-next}
+use Rattle.read_counts.proofs.CountSteps.{sorts-length, the-line, noted_nothing, noted-all, noted-next}
 use Rattle.read_counts.proofs.KindRows.{line-few}
 use Rattle.read_counts.proofs.own_rows.Goals as goal
 

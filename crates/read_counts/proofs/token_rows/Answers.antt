@@ -1,10 +1,7 @@
 -- The loop keeps the rows that the tokens before the place add and take away. Assumes nothing.
 use mathlib.Core.Path.{◌∙◌}
-use Prim.Native.Nat.{◌-◌}
 use native.Mathlib.Omega.{arith}
-use borrow.Author.Rules.{rules}
-use lib.ListN.{length}
-use Rattle.read_counts.proofs.TokenSteps.{rows_few, less-few, Counted, counted-nothing, counted-all, counted_next}
+use Rattle.read_counts.proofs.TokenSteps.{rows_few, less-few, counted-nothing, counted-all, counted_next}
 use Rattle.read_counts.proofs.token_rows.Goals as goal
 
 pub loop-sort-init : goal.loop-sort-init

@@ -1,6 +1,5 @@
 -- The entry of the table. Assumes nothing.
 use mathlib.Core.Path.{refl}
-use borrow.Author.Rules.{rules}
 use Rattle.read_levels.specs.Steps.{after_table}
 use Rattle.read_levels.proofs.after.Goals as goal
 

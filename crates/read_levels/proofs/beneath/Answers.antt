@@ -1,6 +1,5 @@
 -- The entry of the table. Assumes nothing.
 use mathlib.Core.Path.{refl}
-use borrow.Author.Rules.{rules}
 use Rattle.read_levels.specs.Steps.{beneath_table}
 use Rattle.read_levels.proofs.beneath.Goals as goal
 

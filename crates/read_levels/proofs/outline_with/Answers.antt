@@ -1,14 +1,12 @@
 -- The loop keeps what `Outlining` says: the levels that the lines so far leave open, and the lines as they are listed. Assumes nothing.
 use mathlib.Core.Path.{◌≡◌, sym, ◌∙◌}
 use mathlib.Core.List.{List}
-use Prim.Native.Nat.{ℕ, ◌+◌, ◌-◌, ◌≤◌, ◌<◌}
+use Prim.Native.Nat.{ℕ, ◌+◌, ◌≤◌}
 use native.Mathlib.Omega.{arith}
-use lib.ListN.{length, get_or, set, drop, length-set, length-take, length-drop}
-use Rattle.std.specs.Prelude.{Option, Some, None, Result, Ok, Err, ok_or}
+use lib.ListN.{length, set, length-set}
+use Rattle.std.specs.Prelude.{Option, Some, Result, Ok, ok_or}
 use Rattle.std.proofs.lemmas.Result.{err_from_is_err_and}
-use Rattle.read_lines.specs.declared.Listed.{Listed}
-use Rattle.read_levels.specs.Listing.{listing}
-use Rattle.read_levels.proofs.Outlining.{Outlining, short, outlining-starts, outlining-ends, outlining-unended, outlining-unspelt, levels-ready, count_fits, bounded, outlining-refused, outlining-goes-on, ok_some, ok_none}
+use Rattle.read_levels.proofs.Outlining.{outlining-starts, outlining-ends, outlining-unended, outlining-unspelt, levels-ready, bounded, outlining-refused, outlining-goes-on, ok_some, ok_none}
 use Rattle.read_levels.proofs.outline_with.Goals as goal
 
 -- the stack is wide enough

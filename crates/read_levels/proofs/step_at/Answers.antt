@@ -1,5 +1,4 @@
 -- The tests in turn, and then the tables. Assumes nothing.
-use native.Mathlib.Omega.{arith}
 use Rattle.read_levels.proofs.StepSteps.{step-too-deep, step-unended, step-untold, step-told}
 use Rattle.read_levels.proofs.step_at.Goals as goal
 use Rattle.read_levels.proofs.step_at.Goals.{then-depth-level-via-then-depth-level, then-depth-level-via-else-depth-level+then-not-ended_to}
@@ -8,9 +7,9 @@ pub returns-then-depth-level : goal.returns-then-depth-level
 returns-then-depth-level c =
     let a = c.args in
     elim c.then-depth-level.branch [
-      then-depth-level-via-then-depth-level w ↦ step-too-deep a.stack.now a.depth a.level a.class w.if-depth-level.true
-    | then-depth-level-via-else-depth-level+then-not-ended_to w ↦
-        step-unended a.stack.now a.depth a.level a.class w.if-depth-level.false w.ended_to.result w.ended_to.ensures w.if-not-ended_to.true
+      | then-depth-level-via-then-depth-level w ↦ step-too-deep a.stack.now a.depth a.level a.class w.if-depth-level.true
+      | then-depth-level-via-else-depth-level+then-not-ended_to w ↦
+          step-unended a.stack.now a.depth a.level a.class w.if-depth-level.false w.ended_to.result w.ended_to.ensures w.if-not-ended_to.true
     ]
 
 pub returns-then-beneath-eq-NONE : goal.returns-then-beneath-eq-NONE

@@ -1,13 +1,11 @@
 -- The loop keeps that the names passed are not the name, and goes along the chain of its key. Assumes nothing.
 use mathlib.Core.Path.{refl, sym, ap, ◌∙◌}
-use Prim.Native.Nat.{◌-◌, ◌<◌}
+use Prim.Native.Nat.{◌-◌}
 use native.Mathlib.Omega.{arith}
-use borrow.Author.Rules.{rules}
-use lib.ListN.{length}
 use Rattle.meaning.specs.Lines.{same}
 use Rattle.read_names.specs.Listed.{names_at}
 use Rattle.read_names.proofs.KeySteps.{names-counted, name-listed, key-small}
-use Rattle.read_names.proofs.FindSteps.{Finding, AtName, chain_left, finding-start, finding-end, finding-name, found, finding-next, chain-less}
+use Rattle.read_names.proofs.FindSteps.{AtName, finding-start, finding-end, finding-name, found, finding-next, chain-less}
 use Rattle.read_names.proofs.find.Goals as goal
 
 pub offset_bounds-heads-key_of : goal.offset_bounds-heads-key_of

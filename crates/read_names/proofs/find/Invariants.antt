@@ -1,12 +1,7 @@
-use mathlib.Core.Path.{refl, sym, ap, ◌∙◌}
-use Prim.Native.Nat.{◌-◌, ◌<◌}
-use native.Mathlib.Omega.{arith}
-use borrow.Author.Rules.{rules}
+use Prim.Native.Nat.{◌<◌}
 use lib.ListN.{length}
-use Rattle.meaning.specs.Lines.{same}
 use Rattle.read_names.specs.Listed.{names_at}
-use Rattle.read_names.proofs.KeySteps.{names-counted, name-listed, key-small}
-use Rattle.read_names.proofs.FindSteps.{Finding, AtName, chain_left, finding-start, finding-end, finding-name, found, finding-next, chain-less}
+use Rattle.read_names.proofs.FindSteps.{Finding, chain_left}
 use Rattle.read_names.proofs.find.Given as goal
 
 abbrev pub invariant-loop-at : goal.invariant-loop-at

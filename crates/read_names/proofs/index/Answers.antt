@@ -1,9 +1,9 @@
 -- The loop keeps that the names from a place on are chained. Assumes nothing.
 use mathlib.Core.Path.{◌≡◌, ap, subst, ◌∙◌}
-use Prim.Native.Nat.{ℕ, ◌-◌}
+use Prim.Native.Nat.{ℕ}
 use native.Mathlib.Omega.{arith}
-use lib.ListN.{length, get_or}
-use Rattle.read_names.specs.Listed.{name_at, names_at}
+use lib.ListN.{length}
+use Rattle.read_names.specs.Listed.{names_at}
 use Rattle.read_names.specs.Keys.{key_of, IndexedFrom}
 use Rattle.read_names.proofs.KeySteps.{names-counted, key-small, index-start, index_listed}
 use Rattle.read_names.proofs.index.Goals as goal

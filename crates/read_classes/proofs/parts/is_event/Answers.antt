@@ -3,7 +3,6 @@ use mathlib.Core.Path.{sym, ◌∙◌}
 use lib.Seq.{length-take-le}
 use native.Mathlib.Omega.{arith}
 use lib.ListN.{get_or}
-use borrow.Author.Rules.{rules}
 use Rattle.read_classes.specs.Rules.{event_by_mark}
 use Rattle.read_classes.proofs.MarkSteps.{sorts_before, sorts_after, parts-short, marked, unmarked}
 use Rattle.read_classes.proofs.RuleSteps.{event-skips, event-asks, event-other}

@@ -1,7 +1,6 @@
 -- The loop keeps what `MarkLoop` says. Assumes nothing.
-use mathlib.Core.Path.{◌∙◌}
 use native.Mathlib.Omega.{arith}
-use Rattle.read_marks.proofs.MarkLoop.{MarkLoop, mark-begin, all-marked, start-before, bracket-open, mark-again}
+use Rattle.read_marks.proofs.MarkLoop.{mark-begin, all-marked, start-before, bracket-open, mark-again}
 use Rattle.read_marks.proofs.marks.mark.Goals as goal
 
 pub loop-k-init : goal.loop-k-init

@@ -1,8 +1,6 @@
 -- By whether an operand has been read, and by the token. Assumes nothing.
 use mathlib.Core.Path.{refl, sym, ◌∙◌}
 use native.Mathlib.Omega.{arith}
-use borrow.Author.Rules.{rules}
-use borrow.Author.Tests.{not-true, not-false}
 use lib.ListN.{length-set}
 use Rattle.read_marks.specs.Marks.{starts_after, marks_after}
 use Rattle.read_marks.proofs.marks.note.Goals as goal
