@@ -6,7 +6,6 @@ use Rattle.read_tokens.specs.Held.{tokens_resolved}
 use Rattle.read_rows.specs.LinesLaid.{expect_of}
 use Rattle.read_rows.proofs.StandSteps.{stands_at}
 use Rattle.read_rows.proofs.ListCases.{choice-room, choice-fits, choice-laid}
-use borrow.Author.Rules.{rules}
 use Rattle.read_rows.proofs.lists.write_choice.Goals as goal
 
 pub write_listed-requires : goal.write_listed-requires

@@ -6,7 +6,6 @@ use Rattle.read_rows.specs.LinesLaid.{expect_of}
 use Rattle.read_rows.proofs.StandSteps.{stands_at}
 use Rattle.read_rows.proofs.LineCases.{head-declares, head-process}
 use Rattle.read_rows.proofs.LineTold.{sorts-held}
-use borrow.Author.Rules.{rules}
 use Rattle.read_rows.proofs.lists.write_head.Goals as goal
 
 pub returns-then-kind-le-OTHER_DECLARATION : goal.returns-then-kind-le-OTHER_DECLARATION

@@ -7,7 +7,6 @@ use Rattle.read_rows.specs.LinesLaid.{expect_of}
 use Rattle.read_rows.proofs.StandSteps.{stands_at}
 use Rattle.read_rows.proofs.ListCases.{option-room, option-fits, option-laid}
 use Rattle.read_rows.proofs.LineTold.{sorts-held}
-use borrow.Author.Rules.{rules}
 use Rattle.read_rows.proofs.lists.write_option.Goals as goal
 
 pub write_listed-requires : goal.write_listed-requires

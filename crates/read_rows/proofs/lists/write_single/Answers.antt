@@ -3,7 +3,6 @@ use mathlib.Core.Path.{refl}
 use Rattle.read_tokens.specs.Held.{tokens_resolved}
 use Rattle.read_rows.proofs.LineCases.{single-case}
 use Rattle.read_rows.proofs.LineTold.{sorts-held}
-use borrow.Author.Rules.{rules}
 use Rattle.read_rows.proofs.lists.write_single.Goals as goal
 
 pub write_block-requires : goal.write_block-requires
