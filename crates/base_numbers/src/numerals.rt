@@ -52,6 +52,7 @@ pub fn decimal(n: u32) -> Text
 }
 
 // A minus sign and a number's digits.
+// kept beside `decimal`: with the sign as a parameter, one function would need a contract that says both
 fn with_minus(n: u32) -> Text
     ensures { result ≡ text_of (hyphen ∷ numerals.decimal n) }
 {

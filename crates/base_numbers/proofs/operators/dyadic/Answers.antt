@@ -113,10 +113,10 @@ unfolding operate operators
 returns-after-is_true c =
     let x = c.args.x in
     let y = c.args.y in
-    let first : c.is_true.result ≡ is_true x = rw (to_z-of_z w32 _ c.ranges.x) at c.is_true.ensures in
+    let first : c.is_true.result ≡ is_true x = c.is_true.ensures ∙ ap is_true (to_z-of_z w32 _ c.ranges.x) in
     let told : c.if-is_true.truth ≡ (is_true x && is_true y) =
     elim c.if-is_true.branch [
-      | then-is_true w ↦ w.truth-is ∙ (rw (to_z-of_z w32 _ c.ranges.y) at w.is_true-then-is_true.ensures) ∙ ap (λ (t : Bool). t && is_true y) (sym (sym first ∙ w.if-is_true.true))
+      | then-is_true w ↦ w.truth-is ∙ (w.is_true-then-is_true.ensures ∙ ap is_true (to_z-of_z w32 _ c.ranges.y)) ∙ ap (λ (t : Bool). t && is_true y) (sym (sym first ∙ w.if-is_true.true))
       | else-is_true w ↦ w.truth-is ∙ w.if-is_true.false ∙ ap (λ (t : Bool). t && is_true y) (sym (sym first ∙ w.if-is_true.false))
     ]
     in
@@ -127,11 +127,11 @@ unfolding operate operators
 returns-after-is_true-2 c =
     let x = c.args.x in
     let y = c.args.y in
-    let first : c.is_true-in-15.result ≡ is_true x = rw (to_z-of_z w32 _ c.ranges.x) at c.is_true-in-15.ensures in
+    let first : c.is_true-in-15.result ≡ is_true x = c.is_true-in-15.ensures ∙ ap is_true (to_z-of_z w32 _ c.ranges.x) in
     let told : c.if-is_true-2.truth ≡ (is_true x || is_true y) =
     elim c.if-is_true-2.branch [
       | then-is_true-2 w ↦ w.truth-is ∙ w.if-is_true-2.true ∙ ap (λ (t : Bool). t || is_true y) (sym (sym first ∙ w.if-is_true-2.true))
-      | else-is_true-2 w ↦ w.truth-is ∙ (rw (to_z-of_z w32 _ c.ranges.y) at w.is_true-else-is_true-2.ensures) ∙ ap (λ (t : Bool). t || is_true y) (sym (sym first ∙ w.if-is_true-2.false))
+      | else-is_true-2 w ↦ w.truth-is ∙ (w.is_true-else-is_true-2.ensures ∙ ap is_true (to_z-of_z w32 _ c.ranges.y)) ∙ ap (λ (t : Bool). t || is_true y) (sym (sym first ∙ w.if-is_true-2.false))
     ]
     in
     c.truth-in-15.ensures ∙ ap truth told ∙ known c.args.op _ x y c.in-15.is
