@@ -40,7 +40,7 @@ returns-in-Err-Refused c =
     let bytes = a.table.now in
     let f = refused-read _ _ _ _ c.read_table.ensures c.in-Err-Refused.number c.in-Err-Refused.place (cc) in
     let e = bytes-refused bytes a.sheet.now [] max_budget c.in-Err-Refused.number c.in-Err-Refused.place f in
-    let p = c.refusal_printed_text.ensures in
+    let p = rw (c.in-Err-Refused.number-is, c.in-Err-Refused.place-is) at c.refusal_printed_text.ensures in
     record { written = p.written ∙ ap (λ (q : Result). printed_in (printed_result (rows_of bytes) q) a.out.now) (sym e); fits = rw e p.fits }
 
 pub returns-in-Ok : goal.returns-in-Ok

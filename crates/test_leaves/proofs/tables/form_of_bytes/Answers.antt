@@ -25,7 +25,8 @@ slice_bounds-check_form-end c =
 pub returns-in-Err-Refused : goal.returns-in-Err-Refused
 returns-in-Err-Refused c =
     let bytes = c.args.bytes.now in
-    bytes-refused bytes c.in-Err-Refused.number c.in-Err-Refused.place (refused-read bytes _ _ _ c.read_table.ensures c.in-Err-Refused.number c.in-Err-Refused.place (cc))
+    rw (c.in-Err-Refused.number-is, c.in-Err-Refused.place-is)
+    (bytes-refused bytes c.in-Err-Refused.number c.in-Err-Refused.place (refused-read bytes _ _ _ c.read_table.ensures c.in-Err-Refused.number c.in-Err-Refused.place (cc)))
 
 pub returns-in-Ok : goal.returns-in-Ok
 returns-in-Ok c =
