@@ -7,7 +7,9 @@ use native.Mathlib.Omega.{arith}
 use lib.IntN.{ℤ, pos, negsuc, ◌+ℤ◌, ◌-ℤ◌, ◌*ℤ◌, neg_ℤ, nat_abs, sub_ℕ}
 use lib.Signed.{lt_z, quot_z, rem_z, mag, nat_abs-le, mag_rem}
 use lib.Dec.{ltb}
-use borrow.Author.Tests.{ltb-false}
+use borrow.Author.Tests.{ltb-false, le-ltb}
+use Rattle.meaning.specs.declared.Value.TheVariants.{Number, Missing}
+use Rattle.meaning.specs.Values.{fitted}
 use mir.Syntax.{w32, w64}
 use mir.Val.{SFits, to_z, of_z}
 use mir.ValLaws.{to_z-of_z}
@@ -16,6 +18,21 @@ use mir.ValLaws.{to_z-of_z}
 pub in-range : (z : ℤ) → lt_z z (negsuc 2147483647) ≡ false → lt_z (pos 2147483647) z ≡ false → SFits w32 z
 in-range (pos n) l h = record { sfits = omega (arith, ltb-false 2147483647 n h) }
 in-range (negsuc n) l h = record { sfits = omega (arith, ltb-false 2147483647 n l) }
+
+-- the tests of `fitted` are whether 32 bits hold a number
+pub fitted-fits : (z : ℤ) → SFits w32 z → fitted z ≡ Number z
+unfolding fitted
+fitted-fits (pos n) f = simp (le-ltb 2147483647 n (let b = f.sfits in omega (arith, b)))
+fitted-fits (negsuc n) f = simp (le-ltb 2147483647 n (let b = f.sfits in omega (arith, b)))
+
+pub fitted-unfit : (z : ℤ) → (SFits w32 z → ⊥) → fitted z ≡ Missing 3
+unfolding fitted
+fitted-unfit z h = go (lt_z z (negsuc 2147483647)) refl (lt_z (pos 2147483647) z) refl
+  where
+    go : (s : Bool) → lt_z z (negsuc 2147483647) ≡ s → (t : Bool) → lt_z (pos 2147483647) z ≡ t → fitted z ≡ Missing 3
+    go true i t j = rw i
+    go false i true j = rw (i, j)
+    go false i false j = absurd (h (in-range z i j))
 
 pub wider : {z : ℤ} → SFits w32 z → SFits w64 z
 wider f = record { sfits = omega arith }

@@ -4,7 +4,7 @@ use mathlib.Core.Bool.{true, false, false≢true}
 use mathlib.Core.List.{List, ◌∷◌, ◌++◌}
 use Prim.Native.Nat.{ℕ, zero, suc, ◌+◌, ◌-◌, ◌≤◌, ◌<◌}
 use native.Mathlib.Omega.{arith}
-use lib.IntN.{ℤ, pos, negsuc, neg_ℤ, nat_abs}
+use lib.IntN.{ℤ, pos, negsuc, nat_abs}
 use lib.ListN.{length, take, drop, replicate}
 use lib.Seq.{take-append_seam}
 use lib.Signed.{lt_z, mag}
@@ -42,7 +42,7 @@ module _ (l b : List ℕ) (k : ℕ) where
       ap₂ text (p ∙ rw one (ap (λ (bs : List ℕ). hyphen ∷ (l ++ bs)) (rw next (drop-zeros (length l) 10 ∙ ap zeros rest)))) next
 
 -- a number by its sign
-pub printed-negative : (x : ℤ) → lt_z x (pos 0) ≡ true → hyphen ∷ decimal (nat_abs (neg_ℤ x)) ≡ printed x
+pub printed-negative : (x : ℤ) → lt_z x (pos 0) ≡ true → hyphen ∷ decimal (nat_abs x) ≡ printed x
 unfolding printed
 printed-negative (pos n) t = absurd (let h = ltb-true n 0 t in omega arith)
 printed-negative (negsuc n) t = refl

@@ -1,6 +1,6 @@
 -- What reading gives, as the code's `Option`.
 use Rattle.std.proofs.Math.Option as math
-use Rattle.std.specs.Prelude.{Option, Some, None, ℕ, ℤ, pos, neg_ℤ, leb}
+use Rattle.std.specs.Prelude.{Option, Some, None, ℕ, ℤ, leb}
 use Rattle.meaning.specs.Basics.{if_else}
 use Rattle.meaning.specs.Numerals as numerals
 

@@ -15,6 +15,7 @@ pub use reading::read_number;
 pub use subscripts::subscript;
 
 // A printed number: its bytes, then zeros, and how many bytes it has.
+// kept: no heap; `Printing.text_of` holds both fields, and `write_bytes` and `write_lines` build and read them
 #[derive(Drop)]
 pub struct Text {
     pub bytes: [u8; 11],

@@ -6,6 +6,7 @@ use crate::operators;
 use meaning::Value;
 
 // The value of a monadic operator on an operand.
+// kept: a method with a closure in place of the two arms of each match would need a clause by the closure's `post`, and a proof at each call
 pub fn monadic_of(op: u32, v: Value) -> Value
     ensures { result ≡ when_number v (monadic_of op) }
 {

@@ -1,5 +1,5 @@
 // The values of operators.
-ghost use Rattle.std.specs.Prelude.{◌≡◌, ◌&&◌, ◌||◌};
+ghost use Rattle.std.specs.Prelude.{◌≡◌};
 ghost use Rattle.meaning.specs.Values.{is_true, truth, decides, monadic_of, operate};
 
 use crate::wide;
@@ -27,25 +27,7 @@ pub fn decides(op: u32, x: i32) -> bool
 pub fn truth(t: bool) -> Value
     ensures { result ≡ truth t }
 {
-    if t {
-        Value::Number(1)
-    } else {
-        Value::Number(0)
-    }
-}
-
-// Whether both numbers count as true.
-fn both(x: i32, y: i32) -> bool
-    ensures { result ≡ (is_true x && is_true y) }
-{
-    if x == 0 { false } else { y != 0 }
-}
-
-// Whether one of the numbers counts as true.
-fn either(x: i32, y: i32) -> bool
-    ensures { result ≡ (is_true x || is_true y) }
-{
-    if x == 0 { y != 0 } else { true }
+    Value::Number(i32::from(t))
 }
 
 // The value of a monadic operator, by its number.
@@ -60,6 +42,7 @@ pub fn monadic(op: u32, x: i32) -> Value
 }
 
 // The value of a dyadic operator, by its number.
+// kept: an operator's number is what a row holds, and `Values.operators` is listed by it
 pub fn dyadic(op: u32, x: i32, y: i32) -> Value
     ensures { result ≡ operate op x y }
 {
@@ -78,8 +61,8 @@ pub fn dyadic(op: u32, x: i32, y: i32) -> Value
         11 => truth(x <= y),
         12 => truth(y < x),
         13 => truth(y <= x),
-        14 => truth(both(x, y)),
-        15 => truth(either(x, y)),
+        14 => truth(is_true(x) && is_true(y)),
+        15 => truth(is_true(x) || is_true(y)),
         _ => Value::Missing(0),
     }
 }

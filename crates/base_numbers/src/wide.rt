@@ -10,41 +10,39 @@ use meaning::Value;
 pub fn sum(x: i32, y: i32) -> i64
     ensures { result ≡ x +ℤ y }
 {
-    (x as i64) + (y as i64)
+    i64::from(x) + i64::from(y)
 }
 
 pub fn difference(x: i32, y: i32) -> i64
     ensures { result ≡ x -ℤ y }
 {
-    (x as i64) - (y as i64)
+    i64::from(x) - i64::from(y)
 }
 
 pub fn product(x: i32, y: i32) -> i64
     ensures { result ≡ x *ℤ y }
 {
-    (x as i64) * (y as i64)
+    i64::from(x) * i64::from(y)
 }
 
 pub fn opposite(x: i32) -> i64
     ensures { result ≡ neg_ℤ x }
 {
-    0 - (x as i64)
+    -i64::from(x)
 }
 
 // z where 32 bits hold it, else reason 3.
 pub fn fit(z: i64) -> Value
     ensures { result ≡ values.fitted z }
 {
-    if z < -2147483648 {
-        return Value::Missing(3);
+    match i32::try_from(z) {
+        Ok(x) => Value::Number(x),
+        Err(_) => Value::Missing(3),
     }
-    if 2147483647 < z {
-        return Value::Missing(3);
-    }
-    Value::Number(z as i32)
 }
 
 // The number of 32 bits that differs from r by 0 or 2 ^ 32.
+// kept: the library's `wrapping_` methods are told by their bits; that those are `Values.wrapped` would be proved by what stands here
 fn turn(r: i64) -> i32
     requires { mag r < 4294967296 }
     ensures { result ≡ values.signed32 r }
@@ -72,7 +70,7 @@ pub fn quotient(x: i32, y: i32) -> Value
     if y == 0 {
         return Value::Missing(4); // before reason 3
     }
-    fit((x as i64) / (y as i64))
+    fit(i64::from(x) / i64::from(y))
 }
 
 // With the sign of the first operand; reason 4 where the divisor is zero.
@@ -82,5 +80,5 @@ pub fn remainder(x: i32, y: i32) -> Value
     if y == 0 {
         return Value::Missing(4);
     }
-    fit((x as i64) % (y as i64))
+    fit(i64::from(x) % i64::from(y))
 }

@@ -14,7 +14,6 @@ ghost use Rattle.occam_table.specs.RowsLent.{rows_lent, read_lent};
 
 mod packing; // packing.rt: answers as one number
 
-use read_table::TableError;
 use write_buffers::copying;
 
 // The public entries of Rattle callers: the verdict, alone or with its count, the run, untraced and traced, the same of a text and its rows, the strip of a host channel and its marks.
@@ -128,13 +127,12 @@ pub fn occam_read_rows(table: &[u8], rows: &mut [i32]) -> u64
     }
     let mut held = [0i32; 4096];
     match read_table::read_table(table, &mut held) {
-        Err(TableError::Refused(_, _)) => 0,
         Ok(count) => {
             let n = 4 * count;
             copying::copy_over(&held[..n], rows);
             n as u64
         }
-        Err(TableError::Full) => 0,
+        Err(_) => 0,
     }
 }
 

@@ -27,7 +27,7 @@ use Rattle.read_table.specs.declared.TableError.TheVariants.{Full, Refused}
 use Rattle.read_table.specs.TableRead.{rows_to_read, rows_unless_refused, past, table_read}
 use Rattle.read_table.proofs.LineRow.{row-numbers, row-none}
 use Rattle.meaning.proofs.RowLaws.{row-form}
-use Rattle.read_table.proofs.RowStored.{row-stored}
+use Rattle.read_table.proofs.RowStored.{row-pasted}
 use borrow.Rule.Slice.PartMut.{put_mid}
 
 -- the lines from a place of the bytes on
@@ -284,7 +284,7 @@ module _ (bytes : List ℕ) (lent held : List ℤ) (n at : ℕ) (r : Reading byt
             let fits = r.fits in
             record {
               numbers = r.numbers ++ row;
-              held-is = ap (λ (l : List ℤ). put_mid (4 * n) (4 * n + 4 - 4 * n) l row) r.held-is ∙ row-stored r.numbers lent row (4 * n) (4 * n + 4 - 4 * n) (sym four) (omega (arith, four-there));
+              held-is = ap (λ (l : List ℤ). put_mid (4 * n) (4 * n + 4 - 4 * n) l row) r.held-is ∙ row-pasted r.numbers lent row (4 * n) (4 * n + 4 - 4 * n) (sym four) (omega (arith, four-there));
               four-each = simp length-append (omega (arith, four-there));
               few = omega arith;
               fits = omega arith;

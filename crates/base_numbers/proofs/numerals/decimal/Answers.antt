@@ -1,5 +1,4 @@
 -- `decimal` meets its contract: the digits are written at the front of eleven zeros.
-use borrow.Author.Rules.{rules}
 use native.Mathlib.Omega.{arith}
 use Rattle.meaning.specs.Numerals as numerals
 use Rattle.base_numbers.proofs.Decimals.{ten-digits}

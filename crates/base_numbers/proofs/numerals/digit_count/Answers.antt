@@ -1,9 +1,6 @@
 -- `digit_count` meets its contract. The loop's invariant: the digits counted, and those of what is left, are all and one more.
-use mathlib.Core.Path.{◌≡◌, refl}
-use Prim.Native.Nat.{◌+◌}
+use mathlib.Core.Path.{refl}
 use native.Mathlib.Omega.{arith}
-use lib.ListN.{length}
-use Rattle.meaning.specs.Numerals.{decimal}
 use Rattle.base_numbers.proofs.Decimals.{one-digit-count, last-digit-count, ten-digits}
 use Rattle.base_numbers.proofs.numerals.digit_count.Goals as goal
 

@@ -1,9 +1,7 @@
-use mathlib.Core.Path.{◌≡◌, refl}
+use mathlib.Core.Path.{◌≡◌}
 use Prim.Native.Nat.{◌+◌}
-use native.Mathlib.Omega.{arith}
 use lib.ListN.{length}
 use Rattle.meaning.specs.Numerals.{decimal}
-use Rattle.base_numbers.proofs.Decimals.{one-digit-count, last-digit-count, ten-digits}
 use Rattle.base_numbers.proofs.numerals.digit_count.Given as goal
 
 -- The measure is the number that is left. Assumes nothing.

@@ -4,7 +4,7 @@ use Prim.Native.Nat.{◌≤◌}
 use borrow.Author.Rules.{rules}
 use native.Mathlib.Omega.{arith}
 use lib.ListN.{length}
-use Rattle.base_numbers.proofs.Written.{Written, nothing_written, digit-before, one_written, all-written}
+use Rattle.base_numbers.proofs.Written.{nothing_written, digit-before, one_written, all-written}
 use Rattle.base_numbers.proofs.numerals.put_digits.Goals as goal
 
 pub loop-rest-init : goal.loop-rest-init

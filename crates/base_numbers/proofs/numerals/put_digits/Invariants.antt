@@ -1,9 +1,4 @@
-use mathlib.Core.Path.{◌≡◌}
-use Prim.Native.Nat.{◌≤◌}
-use borrow.Author.Rules.{rules}
-use native.Mathlib.Omega.{arith}
-use lib.ListN.{length}
-use Rattle.base_numbers.proofs.Written.{Written, nothing_written, digit-before, one_written, all-written}
+use Rattle.base_numbers.proofs.Written.{Written}
 use Rattle.base_numbers.proofs.numerals.put_digits.Given as goal
 
 -- The measure is the number that is left. Assumes nothing.

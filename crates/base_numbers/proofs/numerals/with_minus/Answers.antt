@@ -1,5 +1,4 @@
 -- `with_minus` meets its contract: the digits are written behind a minus sign and in front of zeros, eleven bytes in all.
-use borrow.Author.Rules.{rules}
 use native.Mathlib.Omega.{arith}
 use mathlib.Core.Path.{ap}
 use Prim.Native.Nat.{ℕ, ◌+◌}

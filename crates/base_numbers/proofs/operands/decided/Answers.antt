@@ -1,5 +1,4 @@
 -- `decided` meets its contract, from what the two functions that it calls ensure.
-use borrow.Author.Rules.{rules}
 use mathlib.Core.Path.{ap, ◌∙◌}
 use mir.Syntax.{w32}
 use mir.ValLaws.{to_z-of_z}

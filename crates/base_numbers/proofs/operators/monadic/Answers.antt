@@ -1,7 +1,6 @@
 -- `monadic` meets its contract: each arm of its `match` is the operator of that number, and there is no other.
 use mathlib.Core.Path.{sym, ap, ◌∙◌}
 use lib.IntN.{neg_ℤ}
-use borrow.Author.Rules.{rules}
 use borrow.Author.Tests.{ne_eqb}
 use mir.Syntax.{w32, w64}
 use mir.ValLaws.{to_z-of_z}

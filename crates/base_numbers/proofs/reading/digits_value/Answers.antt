@@ -1,5 +1,5 @@
 -- `digits_value` meets its contract.
-use mathlib.Core.Path.{◌≡◌, sym, ap, ◌∙◌}
+use mathlib.Core.Path.{sym, ap, ◌∙◌}
 use Rattle.base_numbers.specs.Reading.{whole_of}
 use Rattle.base_numbers.proofs.Digits.{too_large, no_more, no_digit, one_more}
 use Rattle.base_numbers.proofs.reading.digits_value.Goals as goal

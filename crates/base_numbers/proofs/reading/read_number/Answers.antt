@@ -2,7 +2,7 @@
 use mathlib.Core.Path.{sym, ap, ◌∙◌}
 use lib.ListN.{drop}
 use Rattle.meaning.specs.Numerals.{natural, unsigned, negative}
-use Rattle.base_numbers.specs.Reading.{option_of, whole_of}
+use Rattle.base_numbers.specs.Reading.{option_of}
 use Rattle.base_numbers.proofs.Naturals.{minus-first, no-minus-first, whole_some, whole_none}
 use Rattle.base_numbers.proofs.reading.read_number.Goals as goal
 

@@ -1,25 +1,18 @@
 -- `quotient` meets its contract: a quotient of two 32-bit numbers fits in 64 bits.
-use borrow.Author.Rules.{rules}
 use mathlib.Core.Path.{◌∙◌, ap}
 use lib.Signed.{quot_z}
 use Rattle.meaning.specs.Values.{fitted, quotient}
 use Rattle.base_numbers.proofs.Bits.{zero-bits-equal, other-than-zero}
-use Rattle.base_numbers.proofs.Ranges.{cast_fits, operation-fits, operation-gives, quotient_fits, divisor-positive}
+use Rattle.base_numbers.proofs.Ranges.{operation-gives, quotient_fits}
 use Rattle.base_numbers.proofs.wide.quotient.Goals as goal
 
 pub returns-then-y-eq0 : goal.returns-then-y-eq0
 unfolding quotient
 returns-then-y-eq0 c = simp (zero-bits-equal _ c.ranges.y c.if-y-eq0.true)
 
-pub overflow_cast-x : goal.overflow_cast-x
-overflow_cast-x c = cast_fits c.ranges.x
-
-pub overflow_cast-y : goal.overflow_cast-y
-overflow_cast-y c = cast_fits c.ranges.y
-
 pub returns : goal.returns
 unfolding quotient
 returns c =
     let f = c.ranges in
     rw (other-than-zero _ f.y c.if-y-eq0.false)
-    (c.fit.ensures ∙ ap fitted (operation-gives f.x f.y quot_z (quotient_fits f.x f.y)))
+    (c.fit.ensures ∙ ap fitted (rw (c.from.ensures, c.from-2.ensures) (operation-gives f.x f.y quot_z (quotient_fits f.x f.y))))

@@ -1,11 +1,10 @@
 -- `wrap` meets its contract: the remainder by 2 ^ 32 is what `turn` takes.
 use mathlib.Core.Path.{◌∙◌, ap}
-use native.Mathlib.Omega.{arith}
 use mir.Syntax.{w32, w64}
 use mir.ValLaws.{to_z-of_z}
 use Rattle.meaning.specs.declared.Value.TheVariants.{Number}
 use Rattle.meaning.specs.Values.{wrapped}
-use Rattle.base_numbers.proofs.Turning.{remainder-small, remainder-fits, quotient_fits}
+use Rattle.base_numbers.proofs.Turning.{remainder-small, remainder-fits}
 use Rattle.base_numbers.proofs.wide.wrap.Goals as goal
 
 pub turn-requires : goal.turn-requires

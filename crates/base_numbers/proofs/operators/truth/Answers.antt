@@ -1,8 +1,0 @@
--- `truth` meets its contract, by its one test.
-use Rattle.base_numbers.proofs.operators.truth.Goals as goal
-
-pub returns-then-t : goal.returns-then-t
-returns-then-t c = rw c.if-t.true
-
-pub returns-else-t : goal.returns-else-t
-returns-else-t c = rw c.if-t.false
