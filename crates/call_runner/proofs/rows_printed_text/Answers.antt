@@ -16,6 +16,6 @@ pub returns-in-Ok : goal.returns-in-Ok
 returns-in-Ok c =
     let a = c.args in
     let done = ap reply_in (sym c.in-Ok.is) ∙ c.task_done.ensures in
-    let states = c.row_states in
-    let p = run-done a.rows.now a.sheet.now _ done a.out.now _ _ _ refl _ states.ensures.same states.ensures.bytes _ c.run_printed_text.ensures in
+    let text = c.run_printed_text.ensures in
+    let p = run-done a.rows.now a.sheet.now _ done a.out.now _ _ _ refl _ refl text.bytes _ text.written in
     record { written = p.0; fits = p.1 }
