@@ -41,9 +41,9 @@ fn value_in<'a>(rows: &'a [i32], values: &'a [i32], marks: &'a [u8], r: usize) -
     let mut code = [0u16; 6150];
     run_preparing::prepare(rows, &mut code);
     let mut cells = [0i32; 256];
-    lending::put_numbers(values, &mut cells);
+    lending::put_list(values, &mut cells);
     let mut given = [0u8; 256];
-    lending::put_marks(marks, &mut given);
+    lending::put_list(marks, &mut given);
     run_values::eval(&code, &cells, &given, r)
 }
 

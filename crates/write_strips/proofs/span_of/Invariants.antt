@@ -8,6 +8,3 @@ use Rattle.write_strips.proofs.span_of.Given as goal
 
 abbrev pub invariant-loop-r : goal.invariant-loop-r
 invariant-loop-r l = (l.d ≡ declarations l.rows) × Passed l.rows l.channel l.limit l.r l.port l.start
-
-abbrev pub decreases-loop-r : goal.decreases-loop-r
-decreases-loop-r l = l.d - l.r
