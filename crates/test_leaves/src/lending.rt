@@ -8,7 +8,7 @@ use meaning::{Value, Verdict};
 pub fn put_place(place: u32, out: &mut [u32])
     ensures { out.new ≡ set out.old 0 place }
 {
-    if !out.is_empty() {
+    if 0 < out.len() {
         out[0] = place;
     }
 }
@@ -19,7 +19,7 @@ pub fn put_value(v: Value, out: &mut [i32]) -> u32
 {
     match v {
         Value::Number(x) => {
-            if !out.is_empty() {
+            if 0 < out.len() {
                 out[0] = x;
             }
             0

@@ -21,7 +21,7 @@ pub extern "C" fn leaf_number(field: &[u8], out: &mut [i32]) -> u32
     match read {
         Parsed::Malformed => 0,
         Parsed::Number(z) => {
-            if out.is_empty() {
+            if out.len() == 0 {
                 return 0;
             }
             out[0] = z;

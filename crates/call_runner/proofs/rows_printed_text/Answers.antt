@@ -2,7 +2,6 @@
 use mathlib.Core.Path.{refl, sym, ap, ◌∙◌}
 use Rattle.write_buffers.specs.Replies.{reply_in}
 use Rattle.call_runner.proofs.Stages.{refusal-done, run-done}
-use borrow.Author.Rules.{rules}
 use Rattle.call_runner.proofs.rows_printed_text.Goals as goal
 
 pub returns-in-Err : goal.returns-in-Err

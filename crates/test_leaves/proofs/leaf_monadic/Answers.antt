@@ -1,7 +1,6 @@
 -- The value that the operator gives is put. Assumes nothing.
 use mir.Syntax.{w32}
 use mir.ValLaws.{to_z-of_z}
-use borrow.Author.Rules.{rules}
 use Rattle.test_leaves.proofs.leaf_monadic.Goals as goal
 
 pub returns : goal.returns

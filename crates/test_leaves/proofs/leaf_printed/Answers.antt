@@ -6,7 +6,6 @@ use lib.ListN.{length, replicate, length-append}
 use mir.Syntax.{w32}
 use mir.ValLaws.{to_z-of_z}
 use borrow.Author.Tests.{le-leb, lt-leb}
-use borrow.Author.Rules.{rules}
 use Rattle.meaning.specs.Numerals.{printed}
 use Rattle.base_numbers.specs.Printing.{text_of}
 use Rattle.base_numbers.proofs.Texts.{text-bytes, printed-short}

@@ -1,10 +1,9 @@
 -- One pass over the declarations: the output channels passed, and where the next strip begins. Assumes nothing.
 use mathlib.Core.Path.{◌≡◌, sym, ap, ◌∙◌}
-use Prim.Native.Nat.{ℕ, ◌-◌, min}
+use Prim.Native.Nat.{ℕ, min}
 use native.Mathlib.Omega.{arith}
-use borrow.Author.Rules.{rules}
-use Rattle.meaning.specs.Declarations.{declarations, capacity_at}
-use Rattle.write_strips.proofs.Spans.{one-port, Passed, none_passed, one-passed, here_found, all-passed}
+use Rattle.meaning.specs.Declarations.{capacity_at}
+use Rattle.write_strips.proofs.Spans.{one-port, none_passed, one-passed, here_found, all-passed}
 use Rattle.write_strips.proofs.span_of.Goals as goal
 
 pub loop-r-init : goal.loop-r-init

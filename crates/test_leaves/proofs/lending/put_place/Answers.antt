@@ -1,5 +1,4 @@
 -- A place is put where there is room. Assumes nothing.
-use borrow.Author.Rules.{rules}
 use Rattle.test_leaves.proofs.Copies.{set-nothing}
 use Rattle.test_leaves.proofs.lending.put_place.Goals as goal
 

@@ -1,5 +1,4 @@
 -- A refusal tells its number and its place. Assumes nothing.
-use borrow.Author.Rules.{rules}
 use Rattle.test_leaves.proofs.lending.put_verdict.Goals as goal
 
 pub returns-in-Accepted : goal.returns-in-Accepted

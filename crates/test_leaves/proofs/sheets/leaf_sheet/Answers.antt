@@ -4,7 +4,6 @@ use mathlib.Core.List.{List}
 use Prim.Native.Nat.{ℕ}
 use native.Mathlib.Omega.{arith}
 use lib.IntN.{ℤ}
-use borrow.Author.Rules.{rules}
 use Rattle.read_sheet.specs.declared.SheetRead.{SheetRead}
 use Rattle.read_sheet.proofs.KeptReadings.{few-lines}
 use Rattle.test_leaves.specs.Leaves.{sheet_answer, sheet_lent}

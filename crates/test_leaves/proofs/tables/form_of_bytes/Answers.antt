@@ -2,7 +2,6 @@
 use mathlib.Core.Path.{sym, ◌∙◌}
 use native.Mathlib.Omega.{arith}
 use lib.Seq.{length-take-le}
-use borrow.Author.Rules.{rules}
 use Rattle.read_table.proofs.RowsRead.{RowsRead, refused-read, rows-read, never-full}
 use Rattle.test_leaves.proofs.Verdicts.{bytes-refused, rows-judged}
 use Rattle.test_leaves.proofs.tables.form_of_bytes.Goals as goal

@@ -1,5 +1,4 @@
 -- The verdict by the stages 2 to 6 is told. Assumes nothing.
-use borrow.Author.Rules.{rules}
 use Rattle.test_leaves.proofs.tables.leaf_check.Goals as goal
 
 pub returns : goal.returns

@@ -1,5 +1,4 @@
 -- The value of the row is put. Assumes nothing.
-use borrow.Author.Rules.{rules}
 use Rattle.test_leaves.proofs.tables.leaf_value.Goals as goal
 
 pub returns : goal.returns

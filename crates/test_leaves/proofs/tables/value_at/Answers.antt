@@ -1,7 +1,6 @@
 -- The value of a row of an accepted table, none of any other. Assumes nothing.
 use mathlib.Core.Path.{◌≡◌, sym, ◌∙◌}
 use mathlib.Core.Option.{none}
-use borrow.Author.Rules.{rules}
 use Rattle.meaning.specs.Answers.{check}
 use Rattle.meaning.proofs.AnswerLaws.{accepted-none, rejected-some}
 use Rattle.test_leaves.proofs.Values.{past-rows, refused-rows, value_found}

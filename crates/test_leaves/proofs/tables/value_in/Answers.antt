@@ -2,7 +2,6 @@
 use mathlib.Core.Path.{ap, ◌∙◌}
 use mathlib.Core.List.{List}
 use native.Mathlib.Omega.{arith}
-use borrow.Author.Rules.{rules}
 use Rattle.meaning.specs.Tree.{content_at}
 use Rattle.meaning.specs.Values.{Message, value}
 use Rattle.agreement.proofs.TableFit.{rows-limit}
@@ -19,4 +18,4 @@ pub returns : goal.returns
 returns c =
     let a = c.args in
     c.eval.ensures a.rows.now c.prepare.ensures
-    ∙ ap (λ (cells : List Message). value cells (content_at a.rows.now a.r).expr) (cells-copied a.values.now a.marks.now _ _ c.put_numbers.ensures c.put_marks.ensures)
+    ∙ ap (λ (cells : List Message). value cells (content_at a.rows.now a.r).expr) (cells-copied a.values.now a.marks.now _ _ c.put_list.ensures c.put_list-2.ensures)

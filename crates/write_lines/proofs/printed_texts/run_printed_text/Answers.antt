@@ -9,7 +9,6 @@ use Rattle.meaning.specs.Buffers.{decoded, capacities}
 use Rattle.meaning.specs.Printing.{outcome_line, cell_lines, out_lines, stop_lines}
 use Rattle.write_lines.specs.Decoding.{outputs_in}
 use Rattle.write_lines.proofs.PrintedTextLaws.{take_short, printed-text-made, run-made}
-use borrow.Author.Rules.{rules}
 use Rattle.write_lines.proofs.printed_texts.run_printed_text.Goals as goal
 
 pub put_variables-place-requires : goal.put_variables-place-requires
