@@ -1,7 +1,7 @@
 // The sheet runner ("A run on paper"): from the bytes of standard input to the bytes that are printed.
 #![tactic(auto)]
 
-ghost use Rattle.std.specs.Prelude.{◌≡◌, [], ℕ, ◌<◌, ◌≤◌, length, get_or};
+ghost use Rattle.std.specs.Prelude.{◌≡◌, [], ◌≤◌, length};
 ghost use Rattle.meaning.specs.Limits.{max_budget};
 ghost use Rattle.meaning.specs.TableBytes.{rows_of};
 ghost use Rattle.meaning.specs.Answers.{reply_of, result as result_of_task, result_of_bytes};
@@ -16,7 +16,6 @@ ghost use Rattle.call_runner.specs.PrintedTexts.{task_of, max_printed_text, prin
 use read_table::TableError;
 use run_steps::result::Run;
 use write_buffers::Refusal;
-use write_bytes::slices;
 
 // What is printed: its bytes at the start of a buffer that holds every printed text, zeros after them, and how many they are.
 #[derive(Drop)]
@@ -31,14 +30,6 @@ fn refusal_printed_text(number: u8, place: u32, out: &mut [u8]) -> usize
     ensures fits { length (line_bytes (refused_line (number, place))) ≤ max_printed_text }
 {
     write_lines::refusal_line(number, place, out)
-}
-
-// The row states that a run leaves: bytes.
-fn row_states(states: &[u8]) -> &[u8]
-    ensures same { result.now ≡ states.now }
-    ensures bytes { (i : ℕ) → get_or states.now i 0 < 256 }
-{
-    slices::part(states, 0, states.len())
 }
 
 // What the task of rows and a sheet comes to: no choices, budget 65,536, and no trace is kept.
@@ -58,18 +49,7 @@ fn rows_printed_text(rows: &[i32], sheet: &[u8], out: &mut [u8]) -> usize
 {
     match task_done(rows, sheet) {
         Err(refusal) => refusal_printed_text(refusal.number, refusal.place, out),
-        Ok(run) => write_lines::run_printed_text(
-            rows,
-            run.outcome,
-            run.steps,
-            &run.state.values,
-            &run.state.marks,
-            row_states(&run.states),
-            &run.outputs.numbers,
-            &run.outputs.counts,
-            &run.outputs.marks,
-            out,
-        ),
+        Ok(run) => write_lines::run_printed_text(rows, &run, out),
     }
 }
 

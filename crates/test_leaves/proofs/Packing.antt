@@ -8,7 +8,7 @@ use native.Mathlib.Omega.{arith}
 use lib.IntN.{ℤ}
 use lib.ListN.{length, set}
 use lib.Dec.{eqb}
-use borrow.Author.Tests.{eq-eqb, ne_eqb, eqb-true}
+use borrow.Author.Tests.{eqb-true}
 use Rattle.meaning.specs.Basics.{if_else}
 use Rattle.test_leaves.specs.Lent.{number_lent, reason_of, copied}
 
@@ -25,12 +25,6 @@ reason-given zero h = absurd (h refl)
 reason-given (suc k) h = refl
 
 module _ {A : Type 0} where
-  pub copied-whole : (list out : List A) → length out ≡ length list → copied list out ≡ list
-  copied-whole list out e = simp (eq-eqb (length out) (length list) e)
-
-  pub copied-not : (list out : List A) → ¬ (length out ≡ length list) → copied list out ≡ out
-  copied-not list out h = simp (ne_eqb (length out) (length list) h)
-
   -- a buffer keeps its length
   pub copied-length : (list out : List A) → length (copied list out) ≡ length out
   copied-length list out = go (eqb (length out) (length list)) refl

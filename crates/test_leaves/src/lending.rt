@@ -51,32 +51,14 @@ pub fn put_bytes(text: &[u8], n: usize, out: &mut [u8])
     requires { (n ≤ length text.now) × (n ≤ length out.old) }
     ensures { out.new ≡ take n text.now ++ drop n out.old }
 {
-    let mut i: usize = 0;
-    while i < n {
-        out[i] = text[i];
-        i += 1;
-    }
+    out[..n].copy_from_slice(&text[..n]);
 }
 
-// The marks in a buffer of their length.
-pub fn put_marks(marks: &[u8], out: &mut [u8])
-    ensures { out.new ≡ copied marks.now out.old }
+// A list in a buffer of its length.
+pub fn put_list<T: Copy>(list: &[T], out: &mut [T])
+    ensures { out.new ≡ copied list.now out.old }
 {
-    if out.len() == marks.len() {
-        put_bytes(marks, marks.len(), out);
-    }
-}
-
-// The numbers in a buffer of their length.
-pub fn put_numbers(numbers: &[i32], out: &mut [i32])
-    ensures { out.new ≡ copied numbers.now out.old }
-{
-    if out.len() != numbers.len() {
-        return;
-    }
-    let mut i: usize = 0;
-    while i < numbers.len() {
-        out[i] = numbers[i];
-        i += 1;
+    if out.len() == list.len() {
+        out.copy_from_slice(list);
     }
 }

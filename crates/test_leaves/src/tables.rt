@@ -41,8 +41,8 @@ fn value_in<'a>(rows: &'a [i32], values: &'a [i32], marks: &'a [u8], r: usize) -
     let mut code = [0u16; 6150];
     run_preparing::prepare(rows, &mut code);
     let mut state = run_values::store::fresh();
-    lending::put_numbers(values, &mut state.values);
-    lending::put_marks(marks, &mut state.marks);
+    lending::put_list(values, &mut state.values);
+    lending::put_list(marks, &mut state.marks);
     run_values::eval(&code, &state, r)
 }
 

@@ -13,32 +13,19 @@ pub struct Span {
     pub size: usize,
 }
 
-// The lower of a number and a limit.
-fn at_most(n: usize, limit: usize) -> usize
-    ensures { result ≡ min n limit }
-{
-    if n < limit { n } else { limit }
-}
-
 // The sum of two numbers of which the first is within a limit, no more than the limit.
 fn sum_at_most(start: usize, size: usize, limit: usize) -> usize
     requires { start ≤ limit }
     ensures { result ≡ min (start + size) limit }
 {
-    if limit - start < size {
-        return limit;
-    }
-    start + size
+    start + size.min(limit - start)
 }
 
 // Whether a row with so many output channels has the one that is looked for.
 fn found_here(here: u32, port: usize, channel: usize) -> bool
     ensures { result ≡ (eqb here 1 && eqb port channel) }
 {
-    if here == 1 {
-        return port == channel;
-    }
-    false
+    here == 1 && port == channel
 }
 
 // The strip of an output channel in row order, from its declaration on: its begin and its capacity, no more than a limit.
@@ -48,16 +35,14 @@ pub fn span_of(rows: &[i32], channel: usize, limit: usize) -> Span
     let d = base_rows::declarations(rows);
     let mut start: usize = 0;
     let mut port: usize = 0;
-    let mut r: usize = 0;
-    while r < d {
+    for r in 0..d {
         let here = base_rows::host_channels_at(2, rows, d, r);
-        let size = at_most(base_rows::capacity_at(rows, d, r) as usize, limit);
+        let size = (base_rows::capacity_at(rows, d, r) as usize).min(limit);
         if found_here(here, port, channel) {
             return Span { start, size };
         }
         start = sum_at_most(start, size, limit);
         port += here as usize;
-        r += 1;
     }
     Span { start, size: 0 }
 }
@@ -75,24 +60,27 @@ fn held_span(rows: &[i32], channel: usize, limit: usize) -> Span
     }
 }
 
+// The strip of an output channel, as a part of a list of the lent output numbers' length: as much of it as the list holds.
+fn strip_of<'a, T>(rows: &'a [i32], list: &'a [T], channel: usize) -> &'a [T]
+    ensures { result.now ≡ take (get_or (capacities rows.now) channel 0) (drop (strip_start rows.now channel) list.now) }
+{
+    let limit = list.len();
+    let held = held_span(rows, channel, limit);
+    let start = held.start;
+    let end = start + held.size;
+    &list[start..end]
+}
+
 // The strip of an output channel, as a part of the lent output numbers: as much of it as they hold.
 pub fn strip<'a>(rows: &'a [i32], numbers: &'a [i32], channel: usize) -> &'a [i32]
     ensures { result.now ≡ take (get_or (capacities rows.now) channel 0) (drop (strip_start rows.now channel) numbers.now) }
 {
-    let limit = numbers.len();
-    let held = held_span(rows, channel, limit);
-    let start = held.start;
-    let end = start + held.size;
-    &numbers[start..end]
+    strip_of(rows, numbers, channel)
 }
 
 // The marks of that strip, as a part of the lent output marks.
 pub fn strip_marks<'a>(rows: &'a [i32], output_marks: &'a [u8], channel: usize) -> &'a [u8]
     ensures { result.now ≡ take (get_or (capacities rows.now) channel 0) (drop (strip_start rows.now channel) output_marks.now) }
 {
-    let limit = output_marks.len();
-    let held = held_span(rows, channel, limit);
-    let start = held.start;
-    let end = start + held.size;
-    &output_marks[start..end]
+    strip_of(rows, output_marks, channel)
 }

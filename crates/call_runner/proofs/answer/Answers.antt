@@ -3,7 +3,6 @@ use Prim.Native.Nat.{ℕ}
 use lib.ListN.{replicate}
 use Rattle.meaning.specs.Runner.{runner}
 use Rattle.call_runner.proofs.Whole.{printed-inside, printed-whole}
-use borrow.Author.Rules.{rules}
 use Rattle.call_runner.proofs.answer.Goals as goal
 
 pub returns : goal.returns

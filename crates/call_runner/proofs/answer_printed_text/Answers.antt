@@ -4,7 +4,6 @@ use mathlib.Core.List.{List}
 use Prim.Native.Nat.{ℕ, ◌≤◌}
 use lib.ListN.{length}
 use lib.Seq.{length-take-le}
-use borrow.Author.Rules.{rules}
 use Rattle.write_bytes.specs.Writing.{printed_in}
 use Rattle.call_runner.specs.PrintedTexts.{max_printed_text}
 use Rattle.call_runner.proofs.Stages.{parts-printed}

@@ -1,6 +1,5 @@
 -- A refusal's number has 8 bits and its place 32. Assumes nothing.
 use Rattle.call_runner.proofs.PrintedTextSize.{refusal-short}
-use borrow.Author.Rules.{rules}
 use Rattle.call_runner.proofs.refusal_printed_text.Goals as goal
 
 pub returns : goal.returns

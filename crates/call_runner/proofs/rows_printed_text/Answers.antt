@@ -2,7 +2,6 @@
 use mathlib.Core.Path.{refl, sym, ap, ◌∙◌}
 use Rattle.write_buffers.specs.Replies.{reply_in}
 use Rattle.call_runner.proofs.Stages.{refusal-done, run-done}
-use borrow.Author.Rules.{rules}
 use Rattle.call_runner.proofs.rows_printed_text.Goals as goal
 
 pub returns-in-Err : goal.returns-in-Err
@@ -16,6 +15,6 @@ pub returns-in-Ok : goal.returns-in-Ok
 returns-in-Ok c =
     let a = c.args in
     let done = ap reply_in (sym c.in-Ok.is) ∙ c.task_done.ensures in
-    let states = c.row_states in
-    let p = run-done a.rows.now a.sheet.now _ done a.out.now _ _ _ refl _ states.ensures.same states.ensures.bytes _ c.run_printed_text.ensures in
+    let text = c.run_printed_text.ensures in
+    let p = run-done a.rows.now a.sheet.now _ done a.out.now _ _ _ refl _ refl text.bytes _ text.written in
     record { written = p.0; fits = p.1 }

@@ -6,7 +6,6 @@ use native.Mathlib.Omega.{arith}
 use lib.IntN.{ℤ}
 use lib.ListN.{length}
 use lib.Seq.{length-take-le}
-use borrow.Author.Rules.{rules}
 use Rattle.meaning.specs.Limits.{max_budget}
 use Rattle.meaning.specs.TableBytes.{rows_of}
 use Rattle.meaning.specs.Answers.{Result, result}

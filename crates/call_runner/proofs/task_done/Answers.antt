@@ -1,6 +1,5 @@
 -- What the rows' task comes to, without the two lists. Assumes nothing.
 use mathlib.Core.Path.{ap}
-use borrow.Author.Rules.{rules}
 use Rattle.meaning.specs.Trace.{TracedReply}
 use Rattle.call_runner.proofs.task_done.Goals as goal
 

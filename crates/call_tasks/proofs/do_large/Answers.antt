@@ -2,7 +2,6 @@
 use mathlib.Core.Path.{refl, sym, ◌∙◌}
 use native.Mathlib.Omega.{arith}
 use lib.Seq.{length-take-le}
-use borrow.Author.Rules.{rules}
 use Rattle.run_turns.specs.Showing.{lists_lent}
 use Rattle.read_table.proofs.RowsRead.{RowsRead, refused-read, rows-read, never-full}
 use Rattle.call_tasks.proofs.Stages.{table-done-refused, table-done-rows}

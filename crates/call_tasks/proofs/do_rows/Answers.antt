@@ -1,6 +1,5 @@
 -- The table's refusal, or what its sheet comes to. Assumes nothing.
 use mathlib.Core.Path.{refl, sym, ◌∙◌}
-use borrow.Author.Rules.{rules}
 use Rattle.meaning.specs.Answers.{check}
 use Rattle.meaning.proofs.AnswerLaws.{accepted-none, rejected-some}
 use Rattle.call_tasks.proofs.Stages.{task, table-refused, task-refused}

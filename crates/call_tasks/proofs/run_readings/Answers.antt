@@ -2,7 +2,6 @@
 use mathlib.Core.Path.{refl, ap₂, ◌∙◌}
 use mathlib.Core.List.{List}
 use Prim.Native.Nat.{ℕ}
-use borrow.Author.Rules.{rules}
 use Rattle.meaning.specs.Sheet.{readings}
 use Rattle.meaning.specs.Run.{run}
 use Rattle.meaning.specs.Trace.{trace}

@@ -2,7 +2,6 @@
 use mathlib.Core.Path.{refl}
 use lib.IntN.{pos}
 use lib.ListN.{replicate}
-use borrow.Author.Rules.{rules}
 use Rattle.meaning.specs.Sheet.{readings}
 use Rattle.call_tasks.proofs.Stages.{task, sheet-refused, task-refused}
 use Rattle.call_tasks.proofs.SheetStage.{sheet-fault, sheet-accepted, lines-few, sheet-kept}

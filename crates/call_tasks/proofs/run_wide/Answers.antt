@@ -3,7 +3,6 @@ use mathlib.Core.Path.{refl}
 use Prim.Native.Nat.{ℕ}
 use lib.IntN.{ℤ, pos}
 use lib.ListN.{replicate, length-replicate}
-use borrow.Author.Rules.{rules}
 use Rattle.meaning.specs.Sheet.{readings}
 use Rattle.call_tasks.proofs.Stages.{task, sheet-refused, task-refused}
 use Rattle.call_tasks.proofs.SheetStage.{sheet-fault, not_full, sheet-accepted, lines-few, sheet-kept}

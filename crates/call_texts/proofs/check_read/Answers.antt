@@ -5,7 +5,6 @@ use native.Mathlib.Omega.{arith}
 use lib.IntN.{ℤ}
 use Rattle.meaning.specs.Answers.{verdict_of, check}
 use Rattle.call_texts.proofs.TextReads.{fault-told, is-fine, within, room, part-long, rows-there, verdict-refused, verdict-on-rows}
-use borrow.Author.Rules.{rules}
 use Rattle.call_texts.proofs.check_read.Goals as goal
 
 pub overflow_mul-count : goal.overflow_mul-count

@@ -1,9 +1,6 @@
-use mathlib.Core.Path.{◌≡◌, refl, sym, ap, ◌∙◌}
-use Prim.Native.Nat.{◌+◌, ◌-◌, ◌≤◌}
-use borrow.Author.Rules.{rules}
+use mathlib.Core.Path.{◌≡◌}
 use lib.ListN.{length, drop}
-use Rattle.write_bytes.specs.Writing.{Writer, put_all}
-use Rattle.write_bytes.proofs.Writers.{length-put, put_all-next, put_all-done}
+use Rattle.write_bytes.specs.Writing.{put_all}
 use Rattle.write_bytes.proofs.put_bytes.Given as goal
 
 abbrev pub invariant-loop-b : goal.invariant-loop-b

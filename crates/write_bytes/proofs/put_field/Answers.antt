@@ -1,7 +1,6 @@
 -- A comma, then the bytes of the text. Assumes nothing.
 use mathlib.Core.Path.{ap₂, ◌∙◌}
 use Rattle.write_bytes.specs.Writing.{put_all}
-use borrow.Author.Rules.{rules}
 use Rattle.write_bytes.proofs.put_field.Goals as goal
 
 pub returns : goal.returns

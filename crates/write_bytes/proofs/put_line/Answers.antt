@@ -1,7 +1,6 @@
 -- The word, three fields and a line feed, one after another. Assumes nothing.
 use Rattle.write_bytes.specs.Writing.{shown}
 use Rattle.write_bytes.proofs.Writers.{line_made}
-use borrow.Author.Rules.{rules}
 use Rattle.write_bytes.proofs.put_line.Goals as goal
 
 pub returns : goal.returns

@@ -2,7 +2,6 @@
 use mathlib.Core.Path.{◌≡◌, ap}
 use Prim.Native.Nat.{◌+◌, ◌≤◌, min}
 use native.Mathlib.Omega.{arith}
-use borrow.Author.Rules.{rules}
 use Rattle.write_strips.specs.Spans.{span_of}
 use Rattle.write_strips.proofs.Spans.{held-within}
 use Rattle.write_strips.proofs.held_span.Goals as goal

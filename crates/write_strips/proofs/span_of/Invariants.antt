@@ -1,13 +1,7 @@
-use mathlib.Core.Path.{◌≡◌, sym, ap, ◌∙◌}
-use Prim.Native.Nat.{ℕ, ◌-◌, min}
-use native.Mathlib.Omega.{arith}
-use borrow.Author.Rules.{rules}
-use Rattle.meaning.specs.Declarations.{declarations, capacity_at}
-use Rattle.write_strips.proofs.Spans.{one-port, Passed, none_passed, one-passed, here_found, all-passed}
+use mathlib.Core.Path.{◌≡◌}
+use Rattle.meaning.specs.Declarations.{declarations}
+use Rattle.write_strips.proofs.Spans.{Passed}
 use Rattle.write_strips.proofs.span_of.Given as goal
 
 abbrev pub invariant-loop-r : goal.invariant-loop-r
 invariant-loop-r l = (l.d ≡ declarations l.rows) × Passed l.rows l.channel l.limit l.r l.port l.start
-
-abbrev pub decreases-loop-r : goal.decreases-loop-r
-decreases-loop-r l = l.d - l.r

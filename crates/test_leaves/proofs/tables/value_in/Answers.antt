@@ -22,6 +22,6 @@ pub returns : goal.returns
 returns c =
     let a = c.args in
     let new = c.fresh-state.ensures.stored in
-    let v = c.put_numbers.ensures ∙ ap (λ (s : State). copied a.values.now s.values) new in
-    let m = c.put_marks.ensures ∙ ap (λ (s : State). copied a.marks.now s.marks) new in
+    let v = c.put_list.ensures ∙ ap (λ (s : State). copied a.values.now s.values) new in
+    let m = c.put_list-2.ensures ∙ ap (λ (s : State). copied a.marks.now s.marks) new in
     c.eval.ensures a.rows.now c.prepare.ensures ∙ ap₂ (λ (xs : List ℤ) (ms : List ℕ). value (decoded xs ms) (content_at a.rows.now a.r).expr) v m

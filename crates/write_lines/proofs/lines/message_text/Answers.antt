@@ -8,7 +8,6 @@ use Rattle.meaning.specs.Numerals.{printed}
 use Rattle.meaning.specs.Printing.{value_bytes}
 use Rattle.base_numbers.specs.Printing.{text_of}
 use Rattle.write_lines.proofs.LineSteps.{cell-unset, cell_set}
-use borrow.Author.Rules.{rules}
 use Rattle.write_lines.proofs.lines.message_text.Goals as goal
 
 pub returns-then-mark-eq0 : goal.returns-then-mark-eq0

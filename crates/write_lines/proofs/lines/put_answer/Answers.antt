@@ -9,7 +9,6 @@ use Rattle.meaning.specs.Numerals.{printed}
 use Rattle.meaning.specs.Printing.{outcome_word, word_bytes, outcome_line}
 use Rattle.write_bytes.specs.Writing.{put_lines}
 use Rattle.write_lines.proofs.LineSteps.{one_line}
-use borrow.Author.Rules.{rules}
 use Rattle.write_lines.proofs.lines.put_answer.Goals as goal
 
 pub returns-in-Ended : goal.returns-in-Ended

@@ -1,19 +1,8 @@
-use mathlib.Core.Path.{◌≡◌, refl, sym, ap, ◌∙◌}
-use mathlib.Core.List.{List}
-use Prim.Native.Nat.{ℕ, ◌+◌, ◌-◌, ◌≤◌}
-use native.Mathlib.Omega.{arith}
-use borrow.Author.Rules.{rules}
-use lib.IntN.{ℤ, pos}
-use mir.Syntax.{w32}
-use mir.ValLaws.{to_z-of_z}
-use lib.ListN.{length, get_or, drop}
-use Rattle.base_numbers.specs.Printing.{text_of}
-use Rattle.meaning.specs.Printing.{value_bytes}
-use Rattle.meaning.specs.Buffers.{cell_of, decoded}
-use Rattle.write_bytes.specs.Writing.{Writer, put_all, line_of}
-use Rattle.write_bytes.proofs.Writers.{shown-text, length-put_all}
+use mathlib.Core.Path.{◌≡◌}
+use lib.ListN.{length, drop}
+use Rattle.meaning.specs.Buffers.{decoded}
+use Rattle.write_bytes.specs.Writing.{put_all}
 use Rattle.write_lines.specs.Decoding.{message_bytes}
-use Rattle.write_lines.proofs.LineSteps.{message-next, messages-done, cells-next, cells-done, cells_out}
 use Rattle.write_lines.proofs.lines.put_messages.Given as goal
 
 abbrev pub invariant-loop-i : goal.invariant-loop-i

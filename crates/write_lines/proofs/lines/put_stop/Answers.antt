@@ -9,7 +9,6 @@ use Rattle.meaning.specs.Printing.{Line, stop_word, word_bytes}
 use Rattle.write_bytes.specs.Writing.{put_lines}
 use Rattle.write_bytes.proofs.Writers.{put_lines-none}
 use Rattle.write_lines.proofs.LineSteps.{one_line, stop-none, stop-one}
-use borrow.Author.Rules.{rules}
 use Rattle.write_lines.proofs.lines.put_stop.Goals as goal
 
 pub returns-then-state-lt10 : goal.returns-then-state-lt10

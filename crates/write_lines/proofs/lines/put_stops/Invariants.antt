@@ -1,13 +1,7 @@
-use mathlib.Core.Path.{◌≡◌, refl, sym, ap, ◌∙◌}
-use Prim.Native.Nat.{◌+◌, ◌-◌, ◌≤◌}
-use native.Mathlib.Omega.{arith}
-use borrow.Author.Rules.{rules}
-use mathlib.Core.List.{[], ◌∷◌}
-use lib.ListN.{length, get_or, drop}
+use mathlib.Core.Path.{◌≡◌}
+use lib.ListN.{length, drop}
 use Rattle.meaning.specs.Printing.{stop_lines}
-use Rattle.write_bytes.specs.Writing.{Writer, put_lines}
-use Rattle.write_bytes.proofs.Writers.{length-put_lines}
-use Rattle.write_lines.proofs.LineSteps.{stops-next, stops-done}
+use Rattle.write_bytes.specs.Writing.{put_lines}
 use Rattle.write_lines.proofs.lines.put_stops.Given as goal
 
 abbrev pub invariant-loop-i : goal.invariant-loop-i

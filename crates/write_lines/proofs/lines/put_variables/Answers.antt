@@ -1,11 +1,10 @@
 -- The lines of the rows so far have been written. Assumes nothing.
 use mathlib.Core.Path.{◌≡◌, sym, ap, ◌∙◌}
 use mathlib.Core.List.{List}
-use Prim.Native.Nat.{ℕ, ◌-◌, ◌*◌, ◌≤◌}
+use Prim.Native.Nat.{ℕ}
 use native.Mathlib.Omega.{arith}
-use borrow.Author.Rules.{rules}
 use lib.ListN.{length}
-use Rattle.meaning.specs.Declarations.{declarations, sum_below, cells_at}
+use Rattle.meaning.specs.Declarations.{declarations, cells_at}
 use Rattle.meaning.specs.Printing.{Line, word_bytes}
 use Rattle.meaning.specs.Buffers.{decoded}
 use Rattle.write_bytes.specs.Writing.{Writer, put_lines}

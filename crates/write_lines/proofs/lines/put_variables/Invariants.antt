@@ -1,15 +1,9 @@
-use mathlib.Core.Path.{◌≡◌, sym, ap, ◌∙◌}
-use mathlib.Core.List.{List}
-use Prim.Native.Nat.{ℕ, ◌-◌, ◌*◌, ◌≤◌}
-use native.Mathlib.Omega.{arith}
-use borrow.Author.Rules.{rules}
-use lib.ListN.{length}
-use Rattle.meaning.specs.Declarations.{declarations, sum_below, cells_at}
-use Rattle.meaning.specs.Printing.{Line, word_bytes}
+use mathlib.Core.Path.{◌≡◌}
+use Prim.Native.Nat.{◌*◌, ◌≤◌}
+use Rattle.meaning.specs.Declarations.{sum_below, cells_at}
 use Rattle.meaning.specs.Buffers.{decoded}
-use Rattle.write_bytes.specs.Writing.{Writer, put_lines}
-use Rattle.write_bytes.proofs.Writers.{put_lines-none, length-put_lines}
-use Rattle.write_lines.proofs.RowLines.{cells_below, cells-below-none, cells-below-all, few-declarations, part-short, cells-step, sum-none, sum_more}
+use Rattle.write_bytes.specs.Writing.{put_lines}
+use Rattle.write_lines.proofs.RowLines.{cells_below}
 use Rattle.write_lines.proofs.lines.put_variables.Given as goal
 
 abbrev pub invariant-loop-r : goal.invariant-loop-r

@@ -4,7 +4,6 @@ use mathlib.Core.Bool.{Bool}
 use native.Mathlib.Omega.{arith}
 use lib.ListN.{get_or, get_or-eq_default}
 use Rattle.meaning.specs.Basics.{if_else}
-use borrow.Author.Rules.{rules}
 use Rattle.write_lines.proofs.lines.strip_count.Goals as goal
 
 pub overflow_cast-result : goal.overflow_cast-result

@@ -6,7 +6,6 @@ use Rattle.meaning.specs.Numerals.{printed}
 use Rattle.meaning.specs.Printing.{refused_word, word_bytes, refused_line, line_bytes}
 use Rattle.write_bytes.proofs.Writers.{put_lines-one, put_all-first}
 use Rattle.write_lines.proofs.LineSteps.{one_line}
-use borrow.Author.Rules.{rules}
 use Rattle.write_lines.proofs.printed_texts.refusal_line.Goals as goal
 
 pub returns : goal.returns

@@ -1,10 +1,7 @@
 -- Line by line, no line so far is the line `=`. Assumes nothing.
 use mathlib.Core.Path.{sym, ◌∙◌}
-use Prim.Native.Nat.{◌-◌}
 use native.Mathlib.Omega.{arith}
-use borrow.Author.Rules.{rules}
-use lib.ListN.{length}
-use Rattle.write_lines.proofs.Splits.{Passed, passed_none, passed-more, line-inside, splits-at, splits-nowhere, split-is}
+use Rattle.write_lines.proofs.Splits.{passed_none, passed-more, line-inside, splits-at, splits-nowhere, split-is}
 use Rattle.write_lines.proofs.splitting.split.Goals as goal
 
 pub loop-at-init : goal.loop-at-init

@@ -1,9 +1,6 @@
-use mathlib.Core.Path.{sym, ◌∙◌}
 use Prim.Native.Nat.{◌-◌}
-use native.Mathlib.Omega.{arith}
-use borrow.Author.Rules.{rules}
 use lib.ListN.{length}
-use Rattle.write_lines.proofs.Splits.{Passed, passed_none, passed-more, line-inside, splits-at, splits-nowhere, split-is}
+use Rattle.write_lines.proofs.Splits.{Passed}
 use Rattle.write_lines.proofs.splitting.split.Given as goal
 
 abbrev pub invariant-loop-at : goal.invariant-loop-at
