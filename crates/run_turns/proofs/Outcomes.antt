@@ -1,14 +1,10 @@
 -- The outcome at rest, from the array of row states.
-use mathlib.Core.Path.{◌≡◌, refl, sym, ap, ap₂, ◌∙◌}
-use mathlib.Core.Bool.{Bool, true, false, ◌||◌}
+use mathlib.Core.Path.{◌≡◌, sym, ap, ap₂, ◌∙◌}
 use mathlib.Core.Option.{none}
-use mathlib.Core.List.{List, [], ◌∷◌, ◌++◌}
-use Prim.Native.Nat.{ℕ, zero, suc, ◌+◌, ◌<◌, ◌≤◌}
-use native.Mathlib.Numerals.{add-one}
-use native.Mathlib.Omega.{arith}
+use mathlib.Core.List.{List}
+use Prim.Native.Nat.{ℕ}
 use lib.IntN.{ℤ}
-use lib.ListN.{length, get_or, take, replicate}
-use lib.Seq.{take-suc}
+use lib.ListN.{take, replicate}
 use lib.Dec.{eqb}
 use Rattle.meaning.specs.declared.Outcome.TheVariants.{Ended, Stuck, Broken}
 use Rattle.meaning.specs.Basics.{if_else}

@@ -1,5 +1,4 @@
 -- `note_alt` meets its contract.
-use native.Mathlib.Omega.{arith}
 use Rattle.run_noting.proofs.Changes.{alt-stops, alt-selects}
 use Rattle.run_noting.proofs.note_alt.Goals as goal
 

@@ -1,6 +1,6 @@
 -- `unset_blocks` meets its contract: each pass unsets the cells of one more of the blocks that are listed.
 use mathlib.Core.Path.{◌≡◌, ap, ap₂, ◌∙◌}
-use Prim.Native.Nat.{ℕ, ◌+◌}
+use Prim.Native.Nat.{ℕ, ◌+◌, ◌<◌}
 use lib.ListN.{get_or}
 use Rattle.std.proofs.Common.{arith}
 use Rattle.run_code.specs.Prepared.{place_at, first_of, size_of}
@@ -13,13 +13,15 @@ use Rattle.run_turns.proofs.unset_blocks.Goals as goal
 pub place-requires : goal.place-requires
 place-requires c =
     let (rows, p) = c.requires.table in
-    let (l, e) = c.requires.listed.block c.loop-i.i c.loop-i-test.true in
+    let here : c.loop-i.i < get_or c.args.came.now 2049 0 = omega (arith, c.loop-i-test.true) in
+    let (l, e) = c.requires.listed.block c.loop-i.i here in
     record { inside = (omega (arith, c.place-v.ensures, variable-below p _ l e), omega arith) }
 
 pub place-requires-in-loop-i : goal.place-requires-in-loop-i
 place-requires-in-loop-i c =
     let (rows, p) = c.requires.table in
-    let (l, e) = c.requires.listed.block c.loop-i.i c.loop-i-test.true in
+    let here : c.loop-i.i < get_or c.args.came.now 2049 0 = omega (arith, c.loop-i-test.true) in
+    let (l, e) = c.requires.listed.block c.loop-i.i here in
     record { inside = (omega (arith, c.place-v.ensures, variable-below p _ l e), omega arith) }
 
 -- what is prepared of the block: its first cell and how many there are
@@ -31,7 +33,8 @@ unset_range-state-requires c =
     let a : c.place.result ≡ first_of code r = c.place.ensures ∙ ap (λ (q : ℕ). place_at code q 1) v in
     let b : c.place-in-loop-i.result ≡ size_of code r = c.place-in-loop-i.ensures ∙ ap (λ (q : ℕ). place_at code q 2) v in
     let (rows, p) = c.requires.table in
-    let (l, e) = c.requires.listed.block c.loop-i.i c.loop-i-test.true in
+    let here : c.loop-i.i < get_or c.args.came.now 2049 0 = omega (arith, c.loop-i-test.true) in
+    let (l, e) = c.requires.listed.block c.loop-i.i here in
     omega (arith, block-cells p r (omega arith) e)
 
 pub loop-i-preserved : goal.loop-i-preserved
@@ -42,5 +45,6 @@ loop-i-preserved c =
     let a : c.place.result ≡ first_of code r = c.place.ensures ∙ ap (λ (q : ℕ). place_at code q 1) v in
     let b : c.place-in-loop-i.result ≡ size_of code r = c.place-in-loop-i.ensures ∙ ap (λ (q : ℕ). place_at code q 2) v in
     let l = c.loop-i in
-    λ rows p. one-more-unset rows code c.args.came.now p c.requires.listed l.i c.loop-i-test.true c.args.state (l.invariant rows p)
+    let here : c.loop-i.i < get_or c.args.came.now 2049 0 = omega (arith, c.loop-i-test.true) in
+    λ rows p. one-more-unset rows code c.args.came.now p c.requires.listed l.i here c.args.state (l.invariant rows p)
     (c.unset_range-state.ensures ∙ ap₂ (λ (i n : ℕ). with_unset i n l.state) a b)
