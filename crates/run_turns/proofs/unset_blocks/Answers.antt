@@ -1,6 +1,6 @@
 -- `unset_blocks` meets its contract: each pass unsets the cells of one more of the blocks that are listed.
 use mathlib.Core.Path.{◌≡◌, ap, ap₂, ◌∙◌}
-use Prim.Native.Nat.{ℕ, ◌+◌}
+use Prim.Native.Nat.{ℕ, ◌+◌, ◌<◌}
 use lib.ListN.{get_or}
 use Rattle.std.proofs.Common.{arith}
 use Rattle.run_code.specs.Prepared.{place_at, first_of, size_of}
