@@ -45,13 +45,7 @@ fn run_read(
 {
     match read_text::read_text(text, rows) {
         Err(refused) => Answer::Refused(refused.number, refused.place),
-        Ok(count) => call_table::run_rows(
-            &rows[..4 * count],
-            sheet,
-            choices,
-            budget,
-            lent,
-        ),
+        Ok(count) => call_table::run_rows(&rows[..4 * count], sheet, choices, budget, lent),
     }
 }
 

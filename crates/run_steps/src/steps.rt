@@ -66,7 +66,14 @@ pub fn take_steps<'a>(
     let mut notes = Notes::new();
     let mut state = fresh();
     begin(code, root, &mut kept);
-    note_all(code, &state, &outputs.counts, lines, kept.working(), &mut notes);
+    note_all(
+        code,
+        &state,
+        &outputs.counts,
+        lines,
+        kept.working(),
+        &mut notes,
+    );
     let mut n: u32 = 0;
     // kept: n is the number of steps that the run leaves (`steps`), and the one test of its end is `is_last`
     loop {
@@ -104,7 +111,14 @@ pub fn take_steps<'a>(
         if !blocks.is_empty() {
             state = unset_blocks(code, blocks, state);
         }
-        note_all(code, &state, &outputs.counts, lines, kept.working(), &mut notes);
+        note_all(
+            code,
+            &state,
+            &outputs.counts,
+            lines,
+            kept.working(),
+            &mut notes,
+        );
         n += 1;
     }
 }

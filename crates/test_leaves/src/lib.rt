@@ -10,7 +10,6 @@ mod lending; // lending.rt: what is put into lent buffers
 mod sheets; // sheets.rt: a readings sheet
 mod tables; // tables.rt: a table's bytes, and the value of an expression of its rows
 
-
 // 1 and the number at the start of `out`, if the field has the form and there is room; else 0.
 #[unsafe(no_mangle)]
 pub extern "C" fn leaf_number(field: &[u8], out: &mut [i32]) -> u32
