@@ -26,7 +26,7 @@ pub returns-in-Err-Refused : goal.returns-in-Err-Refused
 returns-in-Err-Refused c =
     let a = c.args in
     let fault = refused-read _ _ _ _ c.read_table.ensures c.in-Err-Refused.number c.in-Err-Refused.place (cc) in
-    table-done-refused a.table.now a.sheet.now a.choices.now a.budget (lists_lent a.readied.now a.taken.now) c.in-Err-Refused.number c.in-Err-Refused.place _ fault refl
+    rw (c.in-Err-Refused.number-is, c.in-Err-Refused.place-is) (table-done-refused a.table.now a.sheet.now a.choices.now a.budget (lists_lent a.readied.now a.taken.now) c.in-Err-Refused.number c.in-Err-Refused.place _ fault refl)
 
 pub returns-in-Ok : goal.returns-in-Ok
 returns-in-Ok c =

@@ -19,7 +19,7 @@ run_readings-requires c =
 pub returns-in-Err-Refused : goal.returns-in-Err-Refused
 returns-in-Err-Refused c =
     let a = c.args in
-    task-refused (task a.rows.now a.sheet.now a.choices.now a.budget) _ _ 10 c.in-Err-Refused.place (sheet-refused a.rows.now a.sheet.now a.choices.now a.budget c.requires 10 c.in-Err-Refused.place (sheet-fault a.rows.now a.sheet.now (replicate 512 (pos 0)) (replicate 512 0) c.read_sheet.result _ _ c.read_sheet.ensures c.in-Err-Refused.place (cc))) refl
+    rw c.in-Err-Refused.place-is (task-refused (task a.rows.now a.sheet.now a.choices.now a.budget) _ _ 10 c.in-Err-Refused.place (sheet-refused a.rows.now a.sheet.now a.choices.now a.budget c.requires 10 c.in-Err-Refused.place (sheet-fault a.rows.now a.sheet.now (replicate 512 (pos 0)) (replicate 512 0) c.read_sheet.result _ _ c.read_sheet.ensures c.in-Err-Refused.place (cc))) refl)
 
 pub returns-in-Ok : goal.returns-in-Ok
 returns-in-Ok c =
