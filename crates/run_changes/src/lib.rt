@@ -10,7 +10,7 @@ use run_notes::Notes;
 
 // A change of data: none; a cell gets a number with its mark; a cell gets the next reading of a channel, whose place is
 // raised; a number with its mark for a channel to the host, whose strip begins there.
-// kept: a number and its mark are no `Option`, since `Does`, `Notes` and `Outputs` hold a message so, and this only hands it on
+// kept: number and mark apart, as the arrays of `Notes` and the host's buffers hold a message (fixed memory, C's buffers); `change_in` reads it so
 #[derive(Clone, Copy)]
 pub enum Data {
     Nothing,
@@ -21,7 +21,7 @@ pub enum Data {
 
 // What a step of row `owner` does: row `at` gets state `next`, the row of the note `sender` (one more than its number, 0 is
 // none) ends, and the data changes.
-// kept: `sender` is no `Option`, since `Notes.elements` holds it so, and `states_changed` and `leave_step` read it so
+// kept: `sender` is the note that `Notes.elements` holds, 16 bits an element (fixed memory), handed on as it is
 #[derive(Drop)]
 pub struct Change {
     pub owner: usize,

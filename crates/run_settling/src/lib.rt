@@ -64,7 +64,7 @@ pub fn change_up(code: &[u16; 6150], r: usize, n: u8, kept: &mut Kept)
 }
 
 // Row `at` gets state n, the sender of a note ends, and what follows from that settles. The rows that come to work and the blocks that start by this are listed anew.
-// kept: `sender` is a note, one more than a row or 0, as a step's change hands it over (`run_changes::Change`)
+// kept: `sender` is a note, one more than a row or 0, as `run_notes::Notes` holds it in 16 bits an element (fixed memory)
 pub fn change_states(code: &[u16; 6150], at: usize, n: u8, sender: u16, kept: &mut Kept)
     requires table { (rows : List ℤ) × (Prepared rows code.now × AreProcesses rows at sender) }
     requires inside { (at < 1024) × (sender ≤ 1024) }
