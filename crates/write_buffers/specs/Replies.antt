@@ -1,5 +1,5 @@
 -- A task's answer and arrays before they are put into the lent buffers, and how they are put there.
-use Rattle.std.specs.Prelude.{Result, Ok, Err, List, ◌++◌, ◌≤◌, length, drop}
+use Rattle.std.specs.Prelude.{Bool, ◌||◌, Result, Ok, Err, List, ◌++◌, ℕ, ◌≤◌, length, drop, ltb}
 use Rattle.meaning.specs.Limits.{max_rows, max_cells, max_host_channels, max_capacity}
 use Rattle.meaning.specs.Buffers.{Buffers}
 use Rattle.meaning.specs.Answers.{Reply}
@@ -40,6 +40,10 @@ written_unless_refused (Ran o k n) a b = over a b
 -- a reply put into the lent buffers
 abbrev pub put_reply : Reply → Buffers → Reply
 put_reply r b = record { answer = r.answer; buffers = written_unless_refused r.answer r.buffers b }
+
+-- whether a lent buffer is shorter than its limit, by the lengths of cells, marks, row states, places, numbers, counts and output marks
+abbrev pub any_short : ℕ → ℕ → ℕ → ℕ → ℕ → ℕ → ℕ → Bool
+any_short a b c d e f g = ltb a max_cells || ltb b max_cells || ltb c max_rows || ltb d max_host_channels || ltb e max_capacity || ltb f max_host_channels || ltb g max_capacity
 
 -- "Each lent buffer must be as long as its limit": the same said of each
 pub record Long (b : Buffers) : Type 0 where

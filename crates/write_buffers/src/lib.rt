@@ -3,7 +3,7 @@
 
 ghost use Rattle.std.specs.Prelude.{◌≡◌};
 ghost use Rattle.meaning.specs.Buffers.{too_short};
-ghost use Rattle.write_buffers.specs.Replies.{Long, reply_in, put_reply};
+ghost use Rattle.write_buffers.specs.Replies.{any_short, Long, reply_in, put_reply};
 ghost use Rattle.write_buffers.specs.Lending.{buffers_in, SameBuffers};
 
 pub mod copying; // copying.rt: a list over the first places of a buffer
@@ -31,18 +31,41 @@ pub struct LentBuffers<'a> {
     pub output_marks: &'a mut [u8],
 }
 
+// Whether a lent buffer is shorter than its limit, by their lengths.
+pub fn too_short(
+    cells: usize,
+    marks: usize,
+    states: usize,
+    places: usize,
+    numbers: usize,
+    counts: usize,
+    output_marks: usize,
+) -> bool
+    ensures { result ≡ any_short cells marks states places numbers counts output_marks }
+{
+    cells < 256
+        || marks < 256
+        || states < 1024
+        || places < 8
+        || numbers < 1024
+        || counts < 8
+        || output_marks < 1024
+}
+
 impl LentBuffers<'_> {
     // Whether one of them is shorter than its limit.
     pub fn too_short(&self) -> bool
         ensures { result ≡ too_short (buffers_in self.now) }
     {
-        self.cells.len() < 256
-            || self.marks.len() < 256
-            || self.states.len() < 1024
-            || self.places.len() < 8
-            || self.numbers.len() < 1024
-            || self.counts.len() < 8
-            || self.output_marks.len() < 1024
+        too_short(
+            self.cells.len(),
+            self.marks.len(),
+            self.states.len(),
+            self.places.len(),
+            self.numbers.len(),
+            self.counts.len(),
+            self.output_marks.len(),
+        )
     }
 
     // The answer of a task; the arrays of a run are put into the buffers, a refusal leaves them alone.
