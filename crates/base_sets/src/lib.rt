@@ -52,8 +52,9 @@ pub fn meet<'a>(one: &'a [u64], i: usize, other: &'a [u64], j: usize) -> bool
     requires { (i + 4 ≤ length one.now) × (j + 4 ≤ length other.now) }
     ensures { result ≡ in_common one.now i other.now j }
 {
+    // `|`, and not `||`: a test of each word alone takes a pair of components a quarter longer
     share_at(one, i, other, j)
-        || share_at(one, i + 1, other, j + 1)
-        || share_at(one, i + 2, other, j + 2)
-        || share_at(one, i + 3, other, j + 3)
+        | share_at(one, i + 1, other, j + 1)
+        | share_at(one, i + 2, other, j + 2)
+        | share_at(one, i + 3, other, j + 3)
 }

@@ -18,7 +18,7 @@ fn clash<'a>(sets: &'a [u64], number: u8, p: usize, q: usize) -> bool
     let i = 16 * p;
     let j = 16 * q;
     match number {
-        7 => meet(sets, i, sets, j + 4) || meet(sets, j, sets, i + 4),
+        7 => meet(sets, i, sets, j + 4) | meet(sets, j, sets, i + 4),
         8 => meet(sets, i + 8, sets, j + 8),
         _ => meet(sets, i + 12, sets, j + 12),
     }

@@ -1,12 +1,12 @@
--- Four words compared one after another. Assumes nothing.
-use Rattle.std.proofs.Common.{rules}
-use Rattle.base_sets.specs.Sets.{in_common}
+-- Four words compared one after another; the tests are grouped to the left, those of the definition to the right. Assumes nothing.
+use mathlib.Core.Path.{◌∙◌}
+use mathlib.Core.Bool.{◌||◌}
+use Rattle.base_sets.proofs.Bools.{or_assoc}
+use Rattle.base_sets.proofs.SetLaws.{meets-four}
 use Rattle.base_sets.proofs.meet.Goals as goal
 
-pub returns-then-share_at-3 : goal.returns-then-share_at-3
-unfolding in_common
-returns-then-share_at-3 c = search rules
-
-pub returns-else-share_at-3 : goal.returns-else-share_at-3
-unfolding in_common
-returns-else-share_at-3 c = search rules
+pub returns : goal.returns
+returns c =
+    or_assoc (c.share_at.result || c.share_at-2.result) c.share_at-3.result c.share_at-4.result
+    ∙ or_assoc c.share_at.result c.share_at-2.result (c.share_at-3.result || c.share_at-4.result)
+    ∙ meets-four c.args.one.now c.args.i c.args.other.now c.args.j c.share_at.ensures c.share_at-2.ensures c.share_at-3.ensures c.share_at-4.ensures

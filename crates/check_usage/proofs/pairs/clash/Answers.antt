@@ -4,13 +4,9 @@ use borrow.Author.Tests.{ne_eqb}
 use Rattle.check_usage.specs.Search.{meet_by}
 use Rattle.check_usage.proofs.pairs.clash.Goals as goal
 
-pub returns-then-meet : goal.returns-then-meet
+pub returns-in-7 : goal.returns-in-7
 unfolding meet_by
-returns-then-meet c = rw c.in-7.is (search rules)
-
-pub returns-else-meet : goal.returns-else-meet
-unfolding meet_by
-returns-else-meet c = rw c.in-7.is (search rules)
+returns-in-7 c = rw c.in-7.is (search rules)
 
 pub returns-in-8 : goal.returns-in-8
 unfolding meet_by
