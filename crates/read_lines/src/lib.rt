@@ -1,7 +1,8 @@
 // The lines of a text, one after the other, their tokens listed.
 #![tactic(auto)]
 
-ghost use Rattle.std.specs.Prelude.{◌≡◌, true, ◌≤◌, ◌<◌, length, drop};
+ghost use Rattle.std.specs.Prelude.{◌≡◌, true, ◌&&◌, ◌≤◌, ◌<◌, length, drop};
+ghost use Rattle.grammar.specs.Tokens.{is_word_byte};
 ghost use Rattle.read_lines.specs.LineParts.{indent_of, misplaced, held_value, ended_at};
 ghost use Rattle.read_lines.specs.LineRead.{LineRead};
 
@@ -22,6 +23,13 @@ fn indent(text: &[u8], at: usize) -> usize
     (read_scan::blank_end(text, at) - at) / 2
 }
 
+// Whether two bytes are both of words or numbers.
+fn are_word_bytes(before: u8, last: u8) -> bool
+    ensures { result ≡ (is_word_byte before && is_word_byte last) }
+{
+    read_tokens::is_word_byte(before) && read_tokens::is_word_byte(last)
+}
+
 // Whether a token stands where it may not: after a space if it is the first, directly after a word or number if it is one.
 fn is_misplaced(text: &[u8], begun: bool, at: usize, from: usize, to: usize) -> bool
     requires { (begun ≡ true → 0 < at) × (from < to) × (at ≤ from) × (to ≤ length text.now) }
@@ -30,7 +38,7 @@ fn is_misplaced(text: &[u8], begun: bool, at: usize, from: usize, to: usize) -> 
     if at < from {
         return !begun;
     }
-    begun && read_tokens::is_word_byte(text[at - 1]) && read_tokens::is_word_byte(text[to - 1])
+    begun && are_word_bytes(text[at - 1], text[to - 1])
 }
 
 // The number that is listed of a token: of a name where it stands and how many bytes it has.

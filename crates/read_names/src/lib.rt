@@ -2,6 +2,7 @@
 #![tactic(auto)]
 
 ghost use Rattle.std.specs.Prelude.{◌≡◌, ◌≤◌, length, replicate};
+ghost use Rattle.meaning.specs.Lines as lines;
 ghost use Rattle.grammar.specs.TextRows.{name_row};
 ghost use Rattle.read_names.specs.Listed.{name_at, names_at};
 ghost use Rattle.read_names.specs.Keys.{key_limit, key_of, Indexed};
@@ -30,6 +31,16 @@ fn listed(text: &[u8], from: usize, size: usize) -> &[u8]
         return &text[from..];
     }
     &text[from..from + size]
+}
+
+// Whether a name is the listed one that begins at a place and has so many bytes.
+fn is_listed(text: &[u8], from: usize, size: usize, name: &[u8]) -> bool
+    ensures { result ≡ lines.same name.now (name_at text.now from size) }
+{
+    if text.len() <= from {
+        return name.len() == 0;
+    }
+    scan::same(name, listed(text, from, size))
 }
 
 // Chains the listed names by their keys, from the last to the first.
@@ -62,7 +73,7 @@ pub fn find(
     let mut at = heads[key_of(name)] as usize;
     while 0 < at {
         let row = at - 1;
-        if scan::same(name, listed(text, froms[row] as usize, sizes[row] as usize)) {
+        if is_listed(text, froms[row] as usize, sizes[row] as usize, name) {
             return row;
         }
         at = nexts[row] as usize;

@@ -59,14 +59,14 @@ bounds-sizes-row c =
 pub overflow_cast-sizes : goal.overflow_cast-sizes
 overflow_cast-sizes c = omega (arith, c.shared_slice_known-in-loop-at-2-1.given (c.loop-at.at - 1))
 
-pub returns-then-same : goal.returns-then-same
-returns-then-same c =
+pub returns-then-is_listed : goal.returns-then-is_listed
+returns-then-is_listed c =
     let a = c.args in
     let names = names_at a.text.now a.froms.now a.sizes.now in
     let n = names-counted a.text.now a.froms.now a.sizes.now c.requires.0 in
     let t : AtName names a.name.now (c.loop-at.at - 1) = finding-name names a.name.now c.loop-at.at c.loop-at.invariant.1 c.loop-at-test.true in
     let at = name-listed a.text.now a.froms.now a.sizes.now c.requires.0 (c.loop-at.at - 1) (let i = t.there in omega (arith, n, i)) in
-    let e = ap (same a.name.now) at ∙ sym (c.same.ensures ∙ ap (same a.name.now) c.listed.ensures) ∙ c.if-same.true in
+    let e = ap (same a.name.now) at ∙ sym c.is_listed.ensures ∙ c.if-is_listed.true in
     found names a.name.now (c.loop-at.at - 1) t e
 
 pub offset_bounds-nexts-row : goal.offset_bounds-nexts-row
@@ -100,7 +100,7 @@ loop-at-preserved c =
     let n = names-counted a.text.now a.froms.now a.sizes.now c.requires.0 in
     let t : AtName names a.name.now (c.loop-at.at - 1) = finding-name names a.name.now c.loop-at.at c.loop-at.invariant.1 c.loop-at-test.true in
     let at = name-listed a.text.now a.froms.now a.sizes.now c.requires.0 (c.loop-at.at - 1) (let i = t.there in omega (arith, n, i)) in
-    let e = ap (same a.name.now) at ∙ sym (c.same.ensures ∙ ap (same a.name.now) c.listed.ensures) ∙ c.if-same.false in
+    let e = ap (same a.name.now) at ∙ sym c.is_listed.ensures ∙ c.if-is_listed.false in
     (omega (arith, c.shared_slice_known-in-loop-at-3-1.given (c.loop-at.at - 1)), finding-next names a.name.now (c.loop-at.at - 1) t a.heads.now a.nexts.now c.requires.1 e)
 
 pub returns : goal.returns
