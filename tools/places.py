@@ -64,7 +64,7 @@ POINTS = {
     "5 lent parameters that travel together, three at a time": travelling(),
     "5 facts required in three functions or more": repeated_facts(),
     "6 fixed arrays": lines(r"\[(u8|u16|u32|u64|i32); [0-9]+\]"),
-    "7 closures, impl Fn, dyn": lines(r"\bFn(Once|Mut)?\(|\bdyn |\|[a-z_&, ]*\| "),
+    "7 closures, impl Fn, dyn": lines(r"\bFn(Once|Mut)?\(|\bdyn |(?<![|])\|[a-z_&, ]+\|(?![|]) "),
 }
 
 if __name__ == "__main__":
